@@ -1,1 +1,2 @@
 mod SectionLemmas
+pub mod TreeLemmas

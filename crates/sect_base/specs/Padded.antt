@@ -1,5 +1,5 @@
 -- Lists of sections in six cells, those behind the last being 0.
-use Rattle.std.specs.Prelude.{◌≡◌, ℕ, ◌-◌, ◌≤◌, List, [], ◌∷◌, ◌++◌, length, take, replicate}
+use Rattle.std.specs.Prelude.{◌≡◌, ℕ, ◌-◌, ◌≤◌, List, ◌++◌, length, take, replicate}
 use Rattle.sect_base.specs.declared.ids.SectionId.{SectionId}
 
 abbrev pub no_section : SectionId

@@ -6,15 +6,12 @@ ghost use Rattle.std.specs.Option.{SomeIff};
 use crate::ids::SectionId;
 use std::marker::Model;
 
-/// How many subparts a configuration has at most.
-pub const MOST_SECTIONS: usize = 6;
-
 /// Sections, one of each subpart of a configuration in their order: at most six. Contracts see a list.
 #[derive(Clone, Copy, PartialEq, Eq, Debug)]
 pub struct Sections {
     // Those behind the first `len` are 0.
     cells: [SectionId; 6],
-    len: usize,
+    len: u8,
 }
 
 impl Model for Sections {
@@ -50,7 +47,7 @@ impl Sections {
         ensures count { result ≡ length self.now }
         ensures few { result ≤ 6 }
     {
-        self.len
+        usize::from(self.len)
     }
 
     pub fn is_empty(&self) -> bool
@@ -63,7 +60,7 @@ impl Sections {
     pub fn as_slice(&self) -> &[SectionId]
         ensures { result.now ≡ self.now }
     {
-        &self.cells[..self.len]
+        &self.cells[..usize::from(self.len)]
     }
 
     /// Puts a section behind the others.
@@ -71,7 +68,7 @@ impl Sections {
         requires { length self.old < 6 }
         ensures { self.new ≡ self.old ++ section ∷ [] }
     {
-        self.cells[self.len] = section;
+        self.cells[self.len as usize] = section;
         self.len += 1;
     }
 
@@ -81,8 +78,9 @@ impl Sections {
         ensures { self.old ≡ self.new ++ result ∷ [] }
     {
         self.len -= 1;
-        let last = self.cells[self.len];
-        self.cells[self.len] = SectionId(0);
+        let at = usize::from(self.len);
+        let last = self.cells[at];
+        self.cells[at] = SectionId(0);
         last
     }
 
