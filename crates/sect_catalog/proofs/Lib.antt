@@ -1,0 +1,17 @@
+pub mod PlacedLemmas
+pub mod TimesLemmas
+pub mod SearchLemmas
+pub mod CountLemmas
+pub mod IndexLemmas
+pub mod RisingLemmas
+pub mod KnownLemmas
+pub mod CheckLemmas
+pub mod AppendLemmas
+pub mod Outcomes
+pub mod LookupLemmas
+pub mod LookupMore
+pub mod RemoveLemmas
+pub mod ChangeLemmas
+pub mod LimitLemmas
+pub mod WriteLemmas
+pub mod WriteMore

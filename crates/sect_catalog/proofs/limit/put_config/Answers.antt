@@ -1,0 +1,14 @@
+-- The write is the change at the position, and past the end there is none.
+use Rattle.std.proofs.Common.{ap, refl, ◌<◌, length}
+use Rattle.std.specs.List.{HoldsAt}
+use Rattle.sect_catalog.specs.Limits.{put_in_subpart, put_in_config, put_at}
+use Rattle.sect_catalog.proofs.ChangeLemmas.{changed, past}
+use Rattle.sect_catalog.proofs.limit.put_config.Goals as goal
+
+pub returns-in-Some : goal.returns-in-Some
+returns-in-Some c =
+    ap (λ gs. record c.args.row.now { configs = gs }) (changed (λ g. record g { limit = c.args.limit }) c.args.row.now.configs c.args.at.config c.in-Some.config.now _ c.in-Some.ensures.item.3.0 c.in-Some.ensures.item.1 refl)
+
+pub returns-in_default : goal.returns-in_default
+returns-in_default c =
+    ap (λ gs. record c.args.row.now { configs = gs }) (past (λ g. record g { limit = c.args.limit }) c.args.row.now.configs c.args.at.config c.get_mut.result _ c.get_mut.ensures.item.3 c.in_default.not-Some)

@@ -1,0 +1,93 @@
+// The first id of a row that is known already, or stands twice in the row.
+
+ghost use Rattle.std.specs.Prelude.{◌≡◌, find, map, flat_map};
+ghost use Rattle.std.specs.Option.{option_map};
+ghost use Rattle.sect_catalog.specs.Fault.{subpart_ids, config_ids, row_ids};
+ghost use Rattle.sect_catalog.specs.Place.{is_taken as taken_of};
+
+use crate::index;
+use crate::place::{Key, Place};
+use crate::row::{ConfigRow, CourseRow, OfferingRow, SectionRow, SubpartRow};
+use crate::times::times_in_row;
+use std::collections::BTreeMap;
+
+/// The first id of the row that is in the index, or stands twice in the row.
+pub fn known_id(index: &BTreeMap<Key, Place>, row: &OfferingRow) -> Option<u32>
+    ensures { result ≡ option_map (λ id. id.1) (find (taken_of index.now row.now) (row_ids row.now)) }
+{
+    if is_taken(index, row, (0, row.id.0)) {
+        return Some(row.id.0);
+    }
+    if let Some(id) = known_course(index, row, row.courses.as_slice()) {
+        return Some(id);
+    }
+    known_in_configs(index, row, row.configs.as_slice())
+}
+
+fn is_taken(index: &BTreeMap<Key, Place>, row: &OfferingRow, id: Key) -> bool
+    ensures { result ≡ taken_of index.now row.now id }
+{
+    index::has(index, id) || times_in_row(row, id) > 1
+}
+
+fn known_course(index: &BTreeMap<Key, Place>, row: &OfferingRow, courses: &[CourseRow]) -> Option<u32>
+    ensures { result ≡ option_map (λ id. id.1) (find (taken_of index.now row.now) (map (λ c. (1, c.id.0)) courses.now)) }
+{
+    for course in courses {
+        if is_taken(index, row, (1, course.id.0)) {
+            return Some(course.id.0);
+        }
+    }
+    None
+}
+
+fn known_in_configs(index: &BTreeMap<Key, Place>, row: &OfferingRow, configs: &[ConfigRow]) -> Option<u32>
+    ensures { result ≡ option_map (λ id. id.1) (find (taken_of index.now row.now) (flat_map config_ids configs.now)) }
+{
+    for config in configs {
+        if let Some(id) = known_in_config(index, row, config) {
+            return Some(id);
+        }
+    }
+    None
+}
+
+fn known_in_config(index: &BTreeMap<Key, Place>, row: &OfferingRow, config: &ConfigRow) -> Option<u32>
+    ensures { result ≡ option_map (λ id. id.1) (find (taken_of index.now row.now) (config_ids config.now)) }
+{
+    if is_taken(index, row, (2, config.id.0)) {
+        return Some(config.id.0);
+    }
+    known_in_subparts(index, row, config.subparts.as_slice())
+}
+
+fn known_in_subparts(index: &BTreeMap<Key, Place>, row: &OfferingRow, subparts: &[SubpartRow]) -> Option<u32>
+    ensures { result ≡ option_map (λ id. id.1) (find (taken_of index.now row.now) (flat_map subpart_ids subparts.now)) }
+{
+    for subpart in subparts {
+        if let Some(id) = known_in_subpart(index, row, subpart) {
+            return Some(id);
+        }
+    }
+    None
+}
+
+fn known_in_subpart(index: &BTreeMap<Key, Place>, row: &OfferingRow, subpart: &SubpartRow) -> Option<u32>
+    ensures { result ≡ option_map (λ id. id.1) (find (taken_of index.now row.now) (subpart_ids subpart.now)) }
+{
+    if is_taken(index, row, (3, subpart.id.0)) {
+        return Some(subpart.id.0);
+    }
+    known_section(index, row, subpart.sections.as_slice())
+}
+
+fn known_section(index: &BTreeMap<Key, Place>, row: &OfferingRow, sections: &[SectionRow]) -> Option<u32>
+    ensures { result ≡ option_map (λ id. id.1) (find (taken_of index.now row.now) (map (λ s. (4, s.id.0)) sections.now)) }
+{
+    for section in sections {
+        if is_taken(index, row, (4, section.id.0)) {
+            return Some(section.id.0);
+        }
+    }
+    None
+}

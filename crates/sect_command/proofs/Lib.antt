@@ -1,0 +1,4 @@
+pub mod NumberLaws
+pub mod OptionSteps
+pub mod Printing
+pub mod TreeLaws
