@@ -1,0 +1,21 @@
+//! Every command of the desk: its words, its loop over the input and its status.
+#![tactic(auto)]
+
+mod first;
+mod help;
+mod reader;
+mod script;
+mod status;
+mod top;
+mod words;
+mod write;
+
+pub use reader::{LineEnd, LineError, LineReader};
+pub use script::{Handler, LineFault, RunEnd, run_lines};
+pub use status::Status;
+pub use top::desk;
+pub use words::{Words, read_words};
+pub use write::write_all;
+
+#[cfg(test)]
+mod tests;
