@@ -15,3 +15,4 @@ pub mod ChangeLemmas
 pub mod LimitLemmas
 pub mod WriteLemmas
 pub mod WriteMore
+pub mod MarksLemmas

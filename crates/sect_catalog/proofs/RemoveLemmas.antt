@@ -35,11 +35,12 @@ checked-less before [] o h =
     (refl, ap (λ rows. fault_of (record { rows = rows; cancelled = [] }) o) (append-nil before) ∙ no-fault (fault_of (record { rows = before; cancelled = [] }) o) (both-left (is_none (fault_of (record { rows = before; cancelled = [] }) o)) true h))
 checked-less before (r ∷ rs) o h =
     let rest : (are_checked_after (before ++ r ∷ []) rs ≡ true) × (fault_of (record { rows = (before ++ r ∷ []) ++ rs; cancelled = [] }) o ≡ None) =
-        checked-less (before ++ r ∷ []) rs o (both-right (is_none (fault_of (record { rows = before; cancelled = [] }) r)) (are_checked_after (before ++ r ∷ []) (rs ++ o ∷ [])) h)
-    in
-    (both (is_none (fault_of (record { rows = before; cancelled = [] }) r)) (are_checked_after (before ++ r ∷ []) rs)
-    (both-left (is_none (fault_of (record { rows = before; cancelled = [] }) r)) (are_checked_after (before ++ r ∷ []) (rs ++ o ∷ [])) h) rest.0,
-    ap (λ rows. fault_of (record { rows = rows; cancelled = [] }) o) (sym (append_assoc before (r ∷ []) rs)) ∙ rest.1)
+    checked-less (before ++ r ∷ []) rs o (both-right (is_none (fault_of (record { rows = before; cancelled = [] }) r)) (are_checked_after (before ++ r ∷ []) (rs ++ o ∷ [])) h)
+    in (
+      both (is_none (fault_of (record { rows = before; cancelled = [] }) r)) (are_checked_after (before ++ r ∷ []) rs)
+          (both-left (is_none (fault_of (record { rows = before; cancelled = [] }) r)) (are_checked_after (before ++ r ∷ []) (rs ++ o ∷ [])) h) rest.0,
+      ap (λ rows. fault_of (record { rows = rows; cancelled = [] }) o) (sym (append_assoc before (r ∷ []) rs)) ∙ rest.1,
+    )
 
 -- ---- the index
 

@@ -9,7 +9,7 @@ use Rattle.sect_catalog.specs.Search.{times_in}
 pub times-append : (xs ys : List (ℕ × ℕ)) (id : ℕ × ℕ) → times_in (xs ++ ys) id ≡ min 2 (times_in xs id + times_in ys id)
 times-append xs ys id =
     let both : length (filter (same_kind id) (xs ++ ys)) ≡ length (filter (same_kind id) xs) + length (filter (same_kind id) ys) =
-        ap length (filter-append (same_kind id) xs ys) ∙ length-append (filter (same_kind id) xs) (filter (same_kind id) ys)
+    ap length (filter-append (same_kind id) xs ys) ∙ length-append (filter (same_kind id) xs) (filter (same_kind id) ys)
     in omega (arith, both)
 
 flat-suc : {X Y : Type 0} (f : X → List Y) (xs : List X) (i : ℕ) (x : X) → i < length xs → x ≡ get_or xs i x

@@ -176,8 +176,8 @@ module _ (id : SectionId) (limit : Limit) where
   row-inside : (n : ℕ) (o : OfferingRow) (at : Place) → hits key (ids_of (row_entries n o)) ≤ 1 → place_in (row_entries n o) key ≡ Some at → put_section limit at o ≡ with_limit cap limit o
   row-inside n o at h e =
       let sum : hits key (ids_of (placed (course_entry (at_row n)) 0 o.courses ++ placed (config_entries (at_row n)) 0 o.configs))
-          ≡ hits key (ids_of (placed (course_entry (at_row n)) 0 o.courses)) + hits key (ids_of (placed (config_entries (at_row n)) 0 o.configs)) =
-          entry-hits key (placed (course_entry (at_row n)) 0 o.courses) (placed (config_entries (at_row n)) 0 o.configs)
+      ≡ hits key (ids_of (placed (course_entry (at_row n)) 0 o.courses)) + hits key (ids_of (placed (config_entries (at_row n)) 0 o.configs)) =
+      entry-hits key (placed (course_entry (at_row n)) 0 o.courses) (placed (config_entries (at_row n)) 0 o.configs)
       in
       let few : hits key (ids_of (placed (config_entries (at_row n)) 0 o.configs)) ≤ 1 = omega (arith, sum, h) in
       λ i. record o {

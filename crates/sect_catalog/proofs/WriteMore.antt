@@ -75,8 +75,8 @@ module _ (id : ConfigId) (limit : Limit) where
   config-row-inside : (n : ℕ) (o : OfferingRow) (at : Place) → hits config_key (ids_of (row_entries n o)) ≤ 1 → place_in (row_entries n o) config_key ≡ Some at → put_config limit at o ≡ with_limit config_cap limit o
   config-row-inside n o at h e =
       let sum : hits config_key (ids_of (placed (course_entry (at_row n)) 0 o.courses ++ placed (config_entries (at_row n)) 0 o.configs))
-          ≡ hits config_key (ids_of (placed (course_entry (at_row n)) 0 o.courses)) + hits config_key (ids_of (placed (config_entries (at_row n)) 0 o.configs)) =
-          entry-hits config_key (placed (course_entry (at_row n)) 0 o.courses) (placed (config_entries (at_row n)) 0 o.configs)
+      ≡ hits config_key (ids_of (placed (course_entry (at_row n)) 0 o.courses)) + hits config_key (ids_of (placed (config_entries (at_row n)) 0 o.configs)) =
+      entry-hits config_key (placed (course_entry (at_row n)) 0 o.courses) (placed (config_entries (at_row n)) 0 o.configs)
       in
       let few : hits config_key (ids_of (placed (config_entries (at_row n)) 0 o.configs)) ≤ 1 = omega (arith, sum, h) in
       λ i. record o {
@@ -123,8 +123,8 @@ module _ (id : CourseId) (limit : Limit) where
   course-row-inside : (n : ℕ) (o : OfferingRow) (at : Place) → hits course_key (ids_of (row_entries n o)) ≤ 1 → place_in (row_entries n o) course_key ≡ Some at → put_course limit at o ≡ with_limit course_cap limit o
   course-row-inside n o at h e =
       let sum : hits course_key (ids_of (placed (course_entry (at_row n)) 0 o.courses ++ placed (config_entries (at_row n)) 0 o.configs))
-          ≡ hits course_key (ids_of (placed (course_entry (at_row n)) 0 o.courses)) + hits course_key (ids_of (placed (config_entries (at_row n)) 0 o.configs)) =
-          entry-hits course_key (placed (course_entry (at_row n)) 0 o.courses) (placed (config_entries (at_row n)) 0 o.configs)
+      ≡ hits course_key (ids_of (placed (course_entry (at_row n)) 0 o.courses)) + hits course_key (ids_of (placed (config_entries (at_row n)) 0 o.configs)) =
+      entry-hits course_key (placed (course_entry (at_row n)) 0 o.courses) (placed (config_entries (at_row n)) 0 o.configs)
       in
       let few : hits course_key (ids_of (placed (course_entry (at_row n)) 0 o.courses)) ≤ 1 = omega (arith, sum, h) in
       λ i. record o {

@@ -21,7 +21,7 @@ use crate::rising::{drop_courses, put_courses};
 use crate::row::{AddFault, CatalogFault, ConfigRow, CourseRow, OfferingRow, SectionRow};
 use sect_base::{Cap, ConfigId, CourseId, Limit, Memory, OfferingId, SectionId};
 use std::alloc::Global;
-use std::collections::BTreeMap;
+use std::collections::{BTreeMap, BTreeSet};
 use std::marker::Model;
 
 /// Checked rows, and the sections that are cancelled, each in the order of its coming.
@@ -29,6 +29,8 @@ use std::marker::Model;
 pub struct Catalogue {
     rows: Vec<OfferingRow>,
     cancelled: Vec<SectionId>,
+    /// The ids of the cancelled sections.
+    marks: BTreeSet<u32>,
     /// The place of each id.
     places: BTreeMap<Key, Place>,
     /// The ids of all courses, in rising order.
@@ -39,13 +41,13 @@ pub struct Catalogue {
 
 impl Model for Catalogue {
     ghost use Rattle.sect_catalog.specs.Catalogue.{Catalogue as Value_of};
-    ghost use Rattle.sect_catalog.specs.Rising.{Keeps};
+    ghost use Rattle.sect_catalog.specs.Rising.{Keeps, Marks};
 
     ghost Value = { Value_of };
 
     ghost view = { λ c. record { rows = c.rows.items; cancelled = c.cancelled.items } };
 
-    ghost invariant = { λ c. Keeps c.rows.items c.places c.courses.items c.sections };
+    ghost invariant = { λ c. Keeps c.rows.items c.places c.courses.items c.sections × Marks c.cancelled.items c.marks };
 }
 
 impl Catalogue {
@@ -56,6 +58,7 @@ impl Catalogue {
         Catalogue {
             rows: Vec::new(alloc),
             cancelled: Vec::new(alloc),
+            marks: BTreeSet::new(alloc),
             places: BTreeMap::new(alloc),
             courses: Vec::new(alloc),
             sections: 0,
@@ -105,21 +108,30 @@ impl Catalogue {
     pub fn section(&self, id: SectionId) -> Option<&SectionRow>
         ensures { option_copied result ≡ find_section self.now.rows id }
     {
-        section_at(&self.rows, index::place(&self.places, key(Kind::Section, id.0)))
+        section_at(
+            &self.rows,
+            index::place(&self.places, key(Kind::Section, id.0)),
+        )
     }
 
     /// The configuration of an id. It takes no memory.
     pub fn config(&self, id: ConfigId) -> Option<&ConfigRow>
         ensures { option_copied result ≡ find_config self.now.rows id }
     {
-        config_at(&self.rows, index::place(&self.places, key(Kind::Config, id.0)))
+        config_at(
+            &self.rows,
+            index::place(&self.places, key(Kind::Config, id.0)),
+        )
     }
 
     /// The offering of an id. It takes no memory.
     pub fn offering(&self, id: OfferingId) -> Option<&OfferingRow>
         ensures { option_copied result ≡ find_offering self.now.rows id }
     {
-        offering_at(&self.rows, index::place(&self.places, key(Kind::Offering, id.0)))
+        offering_at(
+            &self.rows,
+            index::place(&self.places, key(Kind::Offering, id.0)),
+        )
     }
 
     /// The course of an id, with the offering that has it. It takes no memory.
@@ -127,7 +139,10 @@ impl Catalogue {
         ensures course { option_map (λ found. found.1.now) result ≡ find_course self.now.rows id }
         ensures offering { option_map (λ found. found.0.now) result ≡ offering_of_course self.now.rows id }
     {
-        course_at(&self.rows, index::place(&self.places, key(Kind::Course, id.0)))
+        course_at(
+            &self.rows,
+            index::place(&self.places, key(Kind::Course, id.0)),
+        )
     }
 
     /// The ids of all courses in rising order.
@@ -141,7 +156,7 @@ impl Catalogue {
     pub fn is_cancelled(&self, id: SectionId) -> bool
         ensures { result ≡ cancelled_in self.now id }
     {
-        self.cancelled.iter().any(|section| *section == id)
+        self.marks.contains(&id.0)
     }
 
     /// Cancels a section that stands in a row and isn't cancelled. Where memory runs out, the
@@ -152,7 +167,9 @@ impl Catalogue {
         ensures ok { OnOk result (self.new ≡ record { rows = self.old.rows; cancelled = self.old.cancelled ++ id ∷ [] }) }
         ensures err { OnErr result (self.new ≡ self.old) }
     {
-        self.cancelled.push(id)?;
+        self.cancelled.reserve(1)?;
+        self.marks.insert(id.0)?;
+        self.cancelled.push_reserved(id);
         Ok(())
     }
 
@@ -161,7 +178,9 @@ impl Catalogue {
         requires { 0 < length self.old.cancelled }
         ensures { self.new ≡ record { rows = self.old.rows; cancelled = take (length self.old.cancelled - 1) self.old.cancelled } }
     {
-        self.cancelled.pop();
+        if let Some(id) = self.cancelled.pop() {
+            self.marks.remove(&id.0);
+        }
     }
 
     /// Appends the row where it passes its check. After a fault the catalogue is as before.

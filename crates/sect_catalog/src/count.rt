@@ -10,10 +10,15 @@ use crate::row::{CatalogFault, ConfigRow, OfferingRow, SubpartRow};
 /// The most courses of an offering, configurations of an offering, subparts of a
 /// configuration, sections of a subpart, meetings of a section, and sections in all.
 pub const MOST_COURSES: usize = 10;
+
 pub const MOST_CONFIGS: usize = 10;
+
 pub const MOST_SUBPARTS: usize = 6;
+
 pub const MOST_SECTIONS: usize = 200;
+
 pub const MOST_MEETINGS: usize = 8;
+
 pub const MOST_SECTIONS_IN_ALL: usize = 20_000;
 
 /// The first count of the row that is above its limit, beside so many sections of others.
@@ -125,7 +130,10 @@ fn many_meetings_in(subpart: &SubpartRow) -> Option<CatalogFault>
 fn many_in_all(configs: &[ConfigRow], others: usize) -> Option<CatalogFault>
     ensures { result ≡ too_many_of 20000 ((others + length (sections_in (flat_map (λ g. g.subparts) configs.now))) ∷ []) }
 {
-    above(MOST_SECTIONS_IN_ALL, others.saturating_add(sections(configs)))
+    above(
+        MOST_SECTIONS_IN_ALL,
+        others.saturating_add(sections(configs)),
+    )
 }
 
 /// The number of sections, and the largest number of its type where they are more.

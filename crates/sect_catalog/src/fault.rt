@@ -82,7 +82,9 @@ fn first_orphan(earlier: &[SubpartRow], subpart: &SubpartRow) -> Option<u32>
     ensures { result ≡ option_map (λ s. s.id.0) (find (parent_lacks earlier.now) subpart.now.sections) }
 {
     let sections = subpart.sections.as_slice();
-    let section = sections.iter().find(|section| lacks_parent(earlier, section))?;
+    let section = sections
+        .iter()
+        .find(|section| lacks_parent(earlier, section))?;
     Some(section.id.0)
 }
 
@@ -110,5 +112,9 @@ fn any_has(subparts: &[SubpartRow], id: SectionId) -> bool
 fn has_section(subpart: &SubpartRow, id: SectionId) -> bool
     ensures { result ≡ list_any (λ e. e.id.0 == id.0) subpart.now.sections }
 {
-    subpart.sections.as_slice().iter().any(|section| section.id == id)
+    subpart
+        .sections
+        .as_slice()
+        .iter()
+        .any(|section| section.id == id)
 }

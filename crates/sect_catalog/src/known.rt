@@ -30,7 +30,11 @@ fn is_taken(index: &BTreeMap<Key, Place>, row: &OfferingRow, id: Key) -> bool
     index::has(index, id) || times_in_row(row, id) > 1
 }
 
-fn known_course(index: &BTreeMap<Key, Place>, row: &OfferingRow, courses: &[CourseRow]) -> Option<u32>
+fn known_course(
+    index: &BTreeMap<Key, Place>,
+    row: &OfferingRow,
+    courses: &[CourseRow],
+) -> Option<u32>
     ensures { result ≡ option_map (λ id. id.1) (find (taken_of index.now row.now) (map (λ c. (1, c.id.0)) courses.now)) }
 {
     for course in courses {
@@ -41,7 +45,11 @@ fn known_course(index: &BTreeMap<Key, Place>, row: &OfferingRow, courses: &[Cour
     None
 }
 
-fn known_in_configs(index: &BTreeMap<Key, Place>, row: &OfferingRow, configs: &[ConfigRow]) -> Option<u32>
+fn known_in_configs(
+    index: &BTreeMap<Key, Place>,
+    row: &OfferingRow,
+    configs: &[ConfigRow],
+) -> Option<u32>
     ensures { result ≡ option_map (λ id. id.1) (find (taken_of index.now row.now) (flat_map config_ids configs.now)) }
 {
     for config in configs {
@@ -52,7 +60,11 @@ fn known_in_configs(index: &BTreeMap<Key, Place>, row: &OfferingRow, configs: &[
     None
 }
 
-fn known_in_config(index: &BTreeMap<Key, Place>, row: &OfferingRow, config: &ConfigRow) -> Option<u32>
+fn known_in_config(
+    index: &BTreeMap<Key, Place>,
+    row: &OfferingRow,
+    config: &ConfigRow,
+) -> Option<u32>
     ensures { result ≡ option_map (λ id. id.1) (find (taken_of index.now row.now) (config_ids config.now)) }
 {
     if is_taken(index, row, (2, config.id.0)) {
@@ -61,7 +73,11 @@ fn known_in_config(index: &BTreeMap<Key, Place>, row: &OfferingRow, config: &Con
     known_in_subparts(index, row, config.subparts.as_slice())
 }
 
-fn known_in_subparts(index: &BTreeMap<Key, Place>, row: &OfferingRow, subparts: &[SubpartRow]) -> Option<u32>
+fn known_in_subparts(
+    index: &BTreeMap<Key, Place>,
+    row: &OfferingRow,
+    subparts: &[SubpartRow],
+) -> Option<u32>
     ensures { result ≡ option_map (λ id. id.1) (find (taken_of index.now row.now) (flat_map subpart_ids subparts.now)) }
 {
     for subpart in subparts {
@@ -72,7 +88,11 @@ fn known_in_subparts(index: &BTreeMap<Key, Place>, row: &OfferingRow, subparts: 
     None
 }
 
-fn known_in_subpart(index: &BTreeMap<Key, Place>, row: &OfferingRow, subpart: &SubpartRow) -> Option<u32>
+fn known_in_subpart(
+    index: &BTreeMap<Key, Place>,
+    row: &OfferingRow,
+    subpart: &SubpartRow,
+) -> Option<u32>
     ensures { result ≡ option_map (λ id. id.1) (find (taken_of index.now row.now) (subpart_ids subpart.now)) }
 {
     if is_taken(index, row, (3, subpart.id.0)) {
@@ -81,7 +101,11 @@ fn known_in_subpart(index: &BTreeMap<Key, Place>, row: &OfferingRow, subpart: &S
     known_section(index, row, subpart.sections.as_slice())
 }
 
-fn known_section(index: &BTreeMap<Key, Place>, row: &OfferingRow, sections: &[SectionRow]) -> Option<u32>
+fn known_section(
+    index: &BTreeMap<Key, Place>,
+    row: &OfferingRow,
+    sections: &[SectionRow],
+) -> Option<u32>
     ensures { result ≡ option_map (λ id. id.1) (find (taken_of index.now row.now) (map (λ s. (4, s.id.0)) sections.now)) }
 {
     for section in sections {

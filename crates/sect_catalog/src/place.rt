@@ -56,7 +56,11 @@ pub fn note_row(entries: &mut Vec<(Key, Place)>, at: usize, row: &OfferingRow) -
     note_configs(entries, at, row.configs.as_slice())
 }
 
-fn note_courses(entries: &mut Vec<(Key, Place)>, at: Place, courses: &[CourseRow]) -> Result<(), Memory>
+fn note_courses(
+    entries: &mut Vec<(Key, Place)>,
+    at: Place,
+    courses: &[CourseRow],
+) -> Result<(), Memory>
     ensures { OnOk result (entries.new.items ≡ entries.old.items ++ placed (course_entry at) 0 courses.now) }
 {
     for (config, course) in courses.iter().enumerate() {
@@ -65,11 +69,22 @@ fn note_courses(entries: &mut Vec<(Key, Place)>, at: Place, courses: &[CourseRow
     Ok(())
 }
 
-fn note_configs(entries: &mut Vec<(Key, Place)>, at: Place, configs: &[ConfigRow]) -> Result<(), Memory>
+fn note_configs(
+    entries: &mut Vec<(Key, Place)>,
+    at: Place,
+    configs: &[ConfigRow],
+) -> Result<(), Memory>
     ensures { OnOk result (entries.new.items ≡ entries.old.items ++ placed (config_entries at) 0 configs.now) }
 {
     for (number, config) in configs.iter().enumerate() {
-        note_config(entries, Place { config: number, ..at }, config)?;
+        note_config(
+            entries,
+            Place {
+                config: number,
+                ..at
+            },
+            config,
+        )?;
     }
     Ok(())
 }
@@ -84,7 +99,11 @@ fn note_config(entries: &mut Vec<(Key, Place)>, at: Place, config: &ConfigRow) -
     Ok(())
 }
 
-fn note_subpart(entries: &mut Vec<(Key, Place)>, at: Place, subpart: &SubpartRow) -> Result<(), Memory>
+fn note_subpart(
+    entries: &mut Vec<(Key, Place)>,
+    at: Place,
+    subpart: &SubpartRow,
+) -> Result<(), Memory>
     ensures { OnOk result (entries.new.items ≡ entries.old.items ++ subpart_entries at at.subpart subpart.now) }
 {
     entries.push((key(Kind::Subpart, subpart.id.0), at))?;

@@ -4,7 +4,7 @@ ghost use Rattle.std.specs.Prelude.{IsTrue};
 ghost use Rattle.sect_model.specs.Data.{Move};
 ghost use Rattle.sect_model.specs.World.{World};
 ghost use Rattle.sect_model.specs.Premises.{WorldKeeps, MoveFits};
-ghost use Rattle.sect_model.specs.Laws.{PathsTellMoves, MovesHavePaths, CoverHasNoPath, CoverRefutes, CoverIsOne, RefutationCovers, FirstIsVisited, VisitsAreSteps, FoundIsAllowed, WalksAnswer, SearchAnswers, FullIsNotSpent, FullIsFixed, BlockedRefutes, StepRefutes, BatchRefutes, UnreservedAlone, Settles, SettledStays, SettleUnfolds, NextIsFirst, TicketsDecide, ExpiriesDecide, EmptyKeeps, ChangesKeep, AcceptedFits, SettlingKeeps, StepKeeps, HistoryKeeps, HistoryIsGood, StepSettles, IdsActOnce};
+ghost use Rattle.sect_model.specs.Laws.{PathsTellMoves, MovesHavePaths, CoverHasNoPath, CoverRefutes, CoverIsOne, RefutationCovers, FirstIsVisited, VisitsAreSteps, FoundIsAllowed, WalksAnswer, SearchAnswers, FullIsNotSpent, FullIsFixed, BlockedRefutes, StepRefutes, BatchRefutes, UnreservedAlone, Settles, SettledStays, SettleUnfolds, NextIsFirst, TicketsDecide, ExpiriesDecide, EmptyKeeps, ChangesKeep, RosterIsSmall, AcceptedFits, SettlingKeeps, StepKeeps, HistoryKeeps, HistoryIsGood, StepSettles, IdsActOnce};
 
 /// A complete path of decisions breaks no rule exactly where its choices are an allowed move.
 pub fn paths_tell_moves()
@@ -84,6 +84,11 @@ pub fn expiries_decide_without_first_days()
 pub fn changes_keep_the_world()
     ensures empty { EmptyKeeps }
     ensures changes { ChangesKeep }
+{}
+
+/// A good world has at most 1,000,000,000 enrolments: 20,000 offerings of each of 50,000 students.
+pub fn the_roster_is_small()
+    ensures { RosterIsSmall }
 {}
 
 /// A command that isn't refused fits the world.

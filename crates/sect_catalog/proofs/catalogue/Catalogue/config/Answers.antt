@@ -12,6 +12,6 @@ pub returns : goal.returns
 returns c =
     let i = c.self.inside in
     c.config_at.ensures
-    ∙ (λ j. option_and_then (config_at (c.deref.ensures.value j)) ((c.place.ensures ∙ ap (get id_cmp i.places) c.key.ensures ∙ c.self.invariant.places (2, c.args.id.0)) j))
+    ∙ (λ j. option_and_then (config_at (c.deref.ensures.value j)) ((c.place.ensures ∙ ap (get id_cmp i.places) c.key.ensures ∙ c.self.invariant.0.places (2, c.args.id.0)) j))
     ∙ config-found c.args.id.0 i.rows.items
     ∙ ap (λ now. find_config now.rows c.args.id) c.self.view_is

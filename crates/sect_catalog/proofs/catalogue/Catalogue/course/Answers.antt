@@ -22,7 +22,7 @@ returns-clause-course c =
     let i = c.self.inside in
     second c.course_at.result
     ∙ ap (option_map (λ found. found.1)) (c.course_at.ensures
-    ∙ (λ j. option_and_then (course_at (c.deref.ensures.value j)) ((c.place.ensures ∙ ap (get id_cmp i.places) c.key.ensures ∙ c.self.invariant.places (1, c.args.id.0)) j)))
+    ∙ (λ j. option_and_then (course_at (c.deref.ensures.value j)) ((c.place.ensures ∙ ap (get id_cmp i.places) c.key.ensures ∙ c.self.invariant.0.places (1, c.args.id.0)) j)))
     ∙ course-found c.args.id.0 i.rows.items
     ∙ ap (λ now. find_course now.rows c.args.id) c.self.view_is
 
@@ -31,6 +31,6 @@ returns-clause-offering c =
     let i = c.self.inside in
     first c.course_at.result
     ∙ ap (option_map (λ found. found.0)) (c.course_at.ensures
-    ∙ (λ j. option_and_then (course_at (c.deref.ensures.value j)) ((c.place.ensures ∙ ap (get id_cmp i.places) c.key.ensures ∙ c.self.invariant.places (1, c.args.id.0)) j)))
+    ∙ (λ j. option_and_then (course_at (c.deref.ensures.value j)) ((c.place.ensures ∙ ap (get id_cmp i.places) c.key.ensures ∙ c.self.invariant.0.places (1, c.args.id.0)) j)))
     ∙ course-offering-found c.args.id.0 i.rows.items
     ∙ ap (λ now. offering_of_course now.rows c.args.id) c.self.view_is

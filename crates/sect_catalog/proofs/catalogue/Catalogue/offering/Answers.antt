@@ -12,6 +12,6 @@ pub returns : goal.returns
 returns c =
     let i = c.self.inside in
     c.offering_at.ensures
-    ∙ (λ j. option_and_then (λ at. slice_get (c.deref.ensures.value j) at.row) ((c.place.ensures ∙ ap (get id_cmp i.places) c.key.ensures ∙ c.self.invariant.places (0, c.args.id.0)) j))
+    ∙ (λ j. option_and_then (λ at. slice_get (c.deref.ensures.value j) at.row) ((c.place.ensures ∙ ap (get id_cmp i.places) c.key.ensures ∙ c.self.invariant.0.places (0, c.args.id.0)) j))
     ∙ offering-found c.args.id.0 i.rows.items
     ∙ ap (λ now. find_offering now.rows c.args.id) c.self.view_is

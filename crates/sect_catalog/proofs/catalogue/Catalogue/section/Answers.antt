@@ -11,6 +11,6 @@ pub returns : goal.returns
 returns c =
     let i = c.self.inside in
     c.section_at.ensures
-    ∙ (λ j. option_and_then (section_at (c.deref.ensures.value j)) ((c.place.ensures ∙ ap (get id_cmp i.places) c.key.ensures ∙ c.self.invariant.places (4, c.args.id.0)) j))
+    ∙ (λ j. option_and_then (section_at (c.deref.ensures.value j)) ((c.place.ensures ∙ ap (get id_cmp i.places) c.key.ensures ∙ c.self.invariant.0.places (4, c.args.id.0)) j))
     ∙ section-found c.args.id.0 i.rows.items
     ∙ ap (λ now. find_section now.rows c.args.id) c.self.view_is

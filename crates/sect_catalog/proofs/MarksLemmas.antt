@@ -1,0 +1,66 @@
+-- The set of cancelled sections, as one comes and as the last one goes.
+use Rattle.std.specs.Prelude.{◌≡◌, ℕ, Bool, true, false, not, ◌==◌, ◌&&◌, ◌||◌, cond, List, [], ◌∷◌, ◌++◌, refl}
+use Rattle.std.specs.List.{list_any}
+use Rattle.std.specs.Ordering.{nat_cmp, is_eq}
+use Rattle.std.specs.BTreeSet.{BTreeSet, contains}
+use Rattle.std.proofs.Common.{sym, ◌∙◌, ap, arith, append_assoc}
+use Rattle.std.proofs.lemmas.Bool.{eqb-true}
+use Rattle.std.proofs.lemmas.Bool.Decides.{nat_tests}
+use Rattle.std.proofs.lemmas.List.{append-nil}
+use Rattle.sect_base.specs.declared.ids.SectionId.{SectionId}
+use Rattle.sect_catalog.specs.Rising.{are_apart_after, Marks}
+use Rattle.sect_catalog.proofs.AppendLemmas.{both, both-left, both-right}
+use Rattle.sect_catalog.proofs.SearchLemmas.{any-append}
+
+same_order : (a b : ℕ) → is_eq (nat_cmp a b) ≡ (a == b)
+same_order a b = grind (arith, nat_tests)
+
+not-true : (b : Bool) → not b ≡ true → b ≡ false
+not-true true h = sym h
+not-true false h = refl
+
+apart-more : (before ss : List SectionId) (id : SectionId) → are_apart_after before ss ≡ true → list_any (λ t. t.0 == id.0) (before ++ ss) ≡ false → are_apart_after before (ss ++ id ∷ []) ≡ true
+apart-more before [] id h fresh = both (not (list_any (λ t. t.0 == id.0) before)) true (ap not (ap (list_any (λ t. t.0 == id.0)) (sym (append-nil before)) ∙ fresh)) refl
+apart-more before (s ∷ ss) id h fresh =
+    both (not (list_any (λ t. t.0 == s.0) before)) (are_apart_after (before ++ s ∷ []) (ss ++ id ∷ [])) (both-left (not (list_any (λ t. t.0 == s.0) before)) (are_apart_after (before ++ s ∷ []) ss) h)
+    (apart-more (before ++ s ∷ []) ss id (both-right (not (list_any (λ t. t.0 == s.0) before)) (are_apart_after (before ++ s ∷ []) ss) h)
+    (ap (list_any (λ t. t.0 == id.0)) (append_assoc before (s ∷ []) ss) ∙ fresh))
+
+apart-less : (before ss : List SectionId) (id : SectionId) → are_apart_after before (ss ++ id ∷ []) ≡ true → (are_apart_after before ss ≡ true) × (list_any (λ t. t.0 == id.0) (before ++ ss) ≡ false)
+apart-less before [] id h = (refl, ap (list_any (λ t. t.0 == id.0)) (append-nil before) ∙ not-true (list_any (λ t. t.0 == id.0) before) (both-left (not (list_any (λ t. t.0 == id.0) before)) true h))
+apart-less before (s ∷ ss) id h =
+    let rest : (are_apart_after (before ++ s ∷ []) ss ≡ true) × (list_any (λ t. t.0 == id.0) ((before ++ s ∷ []) ++ ss) ≡ false) =
+    apart-less (before ++ s ∷ []) ss id (both-right (not (list_any (λ t. t.0 == s.0) before)) (are_apart_after (before ++ s ∷ []) (ss ++ id ∷ [])) h)
+    in (
+      both (not (list_any (λ t. t.0 == s.0) before)) (are_apart_after (before ++ s ∷ []) ss) (both-left (not (list_any (λ t. t.0 == s.0) before)) (are_apart_after (before ++ s ∷ []) (ss ++ id ∷ [])) h) rest.0,
+      ap (list_any (λ t. t.0 == id.0)) (sym (append_assoc before (s ∷ []) ss)) ∙ rest.1,
+    )
+
+pub marks-more : (ss : List SectionId) (id : SectionId) (old new : BTreeSet ℕ) → Marks ss old → list_any (λ s. s.0 == id.0) ss ≡ false
+    → ((q : ℕ) → contains nat_cmp new q ≡ cond (is_eq (nat_cmp id.0 q)) true (contains nat_cmp old q)) → Marks (ss ++ id ∷ []) new
+marks-more ss id old new k fresh after = record {
+  apart = apart-more [] ss id k.apart fresh;
+  has = λ q. after q ∙ (λ i. cond (same_order id.0 q i) true (k.has q i)) ∙ by_test (id.0 == q) (list_any (λ s. s.0 == q) ss) ∙ sym (any-append (λ s. s.0 == q) ss (id ∷ []));
+}
+  where
+    by_test : (b a : Bool) → cond b true a ≡ a || (b || false)
+    by_test true true = refl
+    by_test true false = refl
+    by_test false true = refl
+    by_test false false = refl
+
+pub marks-less : (ss : List SectionId) (id : SectionId) (old new : BTreeSet ℕ) → Marks (ss ++ id ∷ []) old
+    → ((q : ℕ) → contains nat_cmp new q ≡ cond (is_eq (nat_cmp id.0 q)) false (contains nat_cmp old q)) → Marks ss new
+marks-less ss id old new k after =
+    let apart : (are_apart_after [] ss ≡ true) × (list_any (λ t. t.0 == id.0) ss ≡ false) = apart-less [] ss id k.apart in
+    record {
+      apart = apart.0;
+      has = λ q.
+          after q ∙ (λ i. cond (same_order id.0 q i) false (k.has q i)) ∙ ap (cond (id.0 == q) false) (any-append (λ s. s.0 == q) ss (id ∷ []))
+          ∙ by_test q (id.0 == q) refl (list_any (λ s. s.0 == q) ss) refl apart.1;
+    }
+  where
+    by_test : (q : ℕ) (b : Bool) → id.0 == q ≡ b → (a : Bool) → list_any (λ s. s.0 == q) ss ≡ a → list_any (λ t. t.0 == id.0) ss ≡ false → cond b false (a || (b || false)) ≡ a
+    by_test q true e a is fresh = sym fresh ∙ ap (λ n. list_any (λ (s : SectionId). s.0 == n) ss) (eqb-true id.0 q e) ∙ is
+    by_test q false e true is fresh = refl
+    by_test q false e false is fresh = refl
