@@ -6,9 +6,8 @@ mod real;
 use real::{RealClock, RealSink, RealSource};
 use sect_app::{Status, desk};
 use sect_edge::{MemKeeper, MemLink, OpenGate};
-use std::env;
-use std::io;
 use std::process::ExitCode;
+use std::{env, io};
 
 fn main(rt: HostRuntime) -> io::Result<ExitCode> {
     let status = start(rt)?;
@@ -30,7 +29,14 @@ fn start(rt: HostRuntime) -> io::Result<Status> {
     let mut source = RealSource::new(rt.stdin());
     let mut sink = RealSink::new(rt.stdout());
     let (status, _keeper, _links) = desk(
-        &rt, &words, &mut source, &mut sink, links, keeper, clocks, &OpenGate,
+        &rt,
+        &words,
+        &mut source,
+        &mut sink,
+        links,
+        keeper,
+        clocks,
+        &OpenGate,
     );
     Ok(status)
 }

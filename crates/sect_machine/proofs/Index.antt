@@ -34,7 +34,7 @@ index_add cmp same equal old new requests key index puts q = at (cmp key q) refl
     other p differs = (
       λ h. Contains-append_left requests (id_of key ∷ []) (id_of q) ((index q).0 (sym p ∙ h)),
       λ h. ⊎_elim (λ (c : Contains requests (id_of q)). p ∙ (index q).1 c) (λ (e : id_of key ≡ id_of q). absurd (differs (same_key key q e)))
-      (Contains-push_cases requests (id_of key) (id_of q) h),
+          (Contains-push_cases requests (id_of key) (id_of q) h),
     )
 
     at : (o : Ordering) → cmp key q ≡ o → ((contains cmp new q ≡ true) ↔ Contains (requests ++ id_of key ∷ []) (id_of q))

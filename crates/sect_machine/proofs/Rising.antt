@@ -25,7 +25,7 @@ rising_push rows row rising above i j lt within =
     let len = length_push rows row in
     let ends : id_at (rows ++ row ∷ []) (length rows) ≡ row.id.0 = ap (λ (r : Row). r.id.0) (get_or-append_seam rows row [] no_row) in
     let left : (k : ℕ) → k < length rows → id_at (rows ++ row ∷ []) k ≡ id_at rows k =
-        λ k h. ap (λ (r : Row). r.id.0) (get_or-append rows (row ∷ []) no_row k h) in
+    λ k h. ap (λ (r : Row). r.id.0) (get_or-append rows (row ∷ []) no_row k h) in
     let high = above_last rows row.id above in
     grind (arith, len, ends, left i, left j, rising i j, rising i (length rows - 1), high, λ (same : j ≡ length rows). ap (id_at (rows ++ row ∷ [])) same, λ (same : i ≡ length rows - 1). ap (id_at rows) same)
 

@@ -28,11 +28,7 @@ pub fn read_label<'a>(text: &'a [u8], label: &[u8]) -> Option<&'a [u8]>
         return None;
     }
     let (front, rest) = text.split_at(label.len());
-    if front == label {
-        Some(rest)
-    } else {
-        None
-    }
+    if front == label { Some(rest) } else { None }
 }
 
 // How many digits stand in front.

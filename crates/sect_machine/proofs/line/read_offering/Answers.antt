@@ -45,13 +45,15 @@ returns-then-eq-clause-found c =
     let subpart = joined _ (codes " - subpart ") _ _ _ c.in_ok-subpart.ensures.found.0 section in
     let config = joined _ (codes " config ") _ _ _ c.in_ok-config.ensures.found.0 subpart in
     let credits = joined _ (codes " - ") _ _ _ c.in_ok-credits.ensures.found.0 config in
-    let course = joined _ (codes " course ") _ _ _ c.in_ok-course.ensures.found.0 credits in
-    (joined _ (codes "offering ") _ _ _ c.in_ok-offering.ensures.found.0 course, record {
-      offering = c.in_ok-offering.ensures.found.1;
-      course = c.in_ok-course.ensures.found.1;
-      credits = c.in_ok-credits.ensures.found.1;
-      config = c.in_ok-config.ensures.found.1;
-      subpart = c.in_ok-subpart.ensures.found.1;
-      section = c.in_ok-section.ensures.found.1;
-      limit = limit.1;
-    })
+    let course = joined _ (codes " course ") _ _ _ c.in_ok-course.ensures.found.0 credits in (
+      joined _ (codes "offering ") _ _ _ c.in_ok-offering.ensures.found.0 course,
+      record {
+        offering = c.in_ok-offering.ensures.found.1;
+        course = c.in_ok-course.ensures.found.1;
+        credits = c.in_ok-credits.ensures.found.1;
+        config = c.in_ok-config.ensures.found.1;
+        subpart = c.in_ok-subpart.ensures.found.1;
+        section = c.in_ok-section.ensures.found.1;
+        limit = limit.1;
+      },
+    )

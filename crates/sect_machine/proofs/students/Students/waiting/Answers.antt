@@ -16,7 +16,7 @@ returns-then-index-clause-none c =
     let same = rw c.deref.ensures.value at (there c.deref.result.now c.args.id c.in-Ok.at by_key) in
     let row = row_at c.self.inside.rows.items c.in-Ok.at c.index.result.now within c.index.ensures in
     rw (← c.self.view_is) (λ at here.
-        asked_once c.self.inside.rows.items c.args.id c.in-Ok.at c.self.invariant within same (sym (ap (λ (r : Row). r.asked) row) ∙ c.if-index.true) at here)
+    asked_once c.self.inside.rows.items c.args.id c.in-Ok.at c.self.invariant within same (sym (ap (λ (r : Row). r.asked) row) ∙ c.if-index.true) at here)
 
 pub returns-else-index-clause-found : goal.returns-else-index-clause-found
 returns-else-index-clause-found c =
