@@ -38,9 +38,9 @@ def definitions(path):
 
 def main():
     missing = sys.argv[1:] == ['--missing']
-    from reading_order import CHAPTERS, INTRODUCTION, SENTENCES
+    from reading_order import CHAPTERS, INSIDE, INTRODUCTION, SENTENCES
     out = [INTRODUCTION]
-    seen = set()
+    seen = set(INSIDE)
     for title, text, files in CHAPTERS:
         out.append(f'## {title}\n\n{text}\n')
         for path in files:

@@ -21,23 +21,27 @@ def model(*names):
 CHAPTERS = [
     ('Lists and counts',
      'Small words used throughout.',
-     ['sect_base/specs/Told.antt', 'sect_base/specs/Padded.antt'] + model('Order')),
+     ['sect_base/specs/Told.antt', 'sect_base/specs/Padded.antt', 'sect_people/specs/Order.antt']),
     ('Times',
      'A day is a number from 1970-01-01. A meeting is a set of weekdays, a first slot of five minutes, a number of '
      'slots and a set of weeks.',
-     ['sect_time/specs/Day.antt', 'sect_time/specs/Pattern.antt']),
+     ['sect_time/specs/' + n + '.antt' for n in ('Day', 'Pattern', 'Weeks', 'Calendar')]),
+    ('Texts of times',
+     'Each day and each meeting has one spelling.',
+     ['sect_time/specs/' + n + '.antt' for n in
+      ('Digits', 'DayText', 'WeekdayText', 'ClockText', 'WeekText', 'MeetingText')]),
     ('The catalogue',
      'An offering has courses, by which students ask for it, and configurations; a configuration has subparts; a '
      'subpart has sections. A student takes one section of each subpart of one configuration.',
-     ['sect_catalog/specs/Catalogue.antt', 'sect_catalog/specs/Fault.antt']),
+     ['sect_catalog/specs/' + n + '.antt' for n in ('Catalogue', 'Fault', 'Added', 'Limits')]),
     ('Students',
      'A student has a row (maximum of credits, groups, curricula) and ranked requests: courses with alternatives, or'
      ' free times.',
-     ['sect_people/specs/Student.antt', 'sect_people/specs/Fault.antt']),
+     ['sect_people/specs/' + n + '.antt' for n in ('Student', 'Fault', 'Changes')]),
     ('Reservations and restrictions',
      'A reservation keeps places of an offering for an audience, and may permit what is barred to others; a '
      'restriction lets an audience into what it lists alone.',
-     ['sect_reserve/specs/Audience.antt']),
+     ['sect_reserve/specs/Audience.antt', 'sect_reserve/specs/Lasting.antt']),
     ('The world',
      'All that the desk knows: the catalogue, the students, reservations, restrictions, the roster of enrolments, '
      'and the day. With the waiting list it is the state.',
@@ -71,7 +75,8 @@ CHAPTERS = [
      model('Rules')),
     ('Refutations',
      'A tree that tells of each option why it leads nowhere.',
-     ['sect_base/specs/Tree.antt', 'sect_base/specs/TreeOf.antt', 'sect_base/specs/TreeFalls.antt'] + model('Covers')),
+     ['sect_base/specs/Tree.antt', 'sect_base/specs/TreeOf.antt', 'sect_base/specs/TreeFalls.antt',
+      'sect_command/specs/TreeText.antt'] + model('Covers')),
     ('Visits',
      'What a search costs, as a number that depends on the world and the move alone.',
      model('Visits')),
@@ -111,7 +116,18 @@ CHAPTERS = [
      '`crates/sect_model/src/examples.rt` have them as contracts, which the check computes. They are written in '
      'these words.',
      model('Script')),
+    ('The first desk',
+     'What the program of today does: one offering with one section, its lines, and the loop over them.',
+     ['sect_machine/specs/Texts.antt', 'sect_machine/specs/Standing.antt', 'sect_machine/specs/Replies.antt']
+     + ['sect_app/specs/' + n + '.antt' for n in ('Lines', 'Run', 'First', 'Words', 'Help', 'Desk')]),
+    ('The outside',
+     'What a source, a sink, a keeper, a link and a clock may do, and the objects in memory.',
+     ['sect_edge/specs/' + n + '.antt' for n in ('Causes', 'Keeper', 'Link', 'Clock', 'Memory')]),
 ]
+
+# what private functions' contracts cite: a body's own words, which no public contract has
+INSIDE = ['sect_time/specs/WeekScan.antt', 'sect_catalog/specs/Place.antt', 'sect_catalog/specs/Rising.antt',
+          'sect_catalog/specs/Search.antt', 'sect_people/specs/Index.antt']
 
 BASE, CATALOG, PEOPLE = 'sect_base/specs/', 'sect_catalog/specs/', 'sect_people/specs/'
 # for definitions of the lower crates that have no sentence of their own

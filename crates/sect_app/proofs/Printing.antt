@@ -1,5 +1,5 @@
 -- A request that acted, and whose answer was not printed.
-use Rattle.std.proofs.Common.{◌≡◌, ◌⊎◌, ℕ, List, length, refl, inr, sym, subst, false}
+use Rattle.std.proofs.Common.{◌≡◌, ℕ, List, length, refl, sym, subst, false}
 use Rattle.sect_machine.specs.declared.command.Request.{Request}
 use Rattle.sect_machine.specs.declared.reply.Reply.{Reply}
 use Rattle.sect_machine.specs.Replies.{answer_line}

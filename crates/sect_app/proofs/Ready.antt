@@ -1,5 +1,5 @@
 -- The bytes of a piece that stand ready.
-use Rattle.std.proofs.Common.{◌≡◌, ℕ, suc, ◌+◌, ◌-◌, ◌<◌, ◌≤◌, List, [], ◌∷◌, ◌++◌, length, get_or, take, drop, refl, sym, ap, ◌∙◌, arith, add-one, drop-cons, length-take, length-drop, take-append-drop, subst}
+use Rattle.std.proofs.Common.{◌≡◌, ℕ, suc, ◌+◌, ◌-◌, ◌<◌, ◌≤◌, List, [], ◌∷◌, ◌++◌, length, get_or, take, drop, sym, ap, ◌∙◌, arith, add-one, drop-cons, length-take, length-drop, take-append-drop}
 use Rattle.std.specs.Prelude.{true}
 use Rattle.std.proofs.lemmas.List.{drop-take, drop-drop, length-take-le, nil_from_length}
 use Rattle.sect_app.specs.Lines.{IsOneLine}

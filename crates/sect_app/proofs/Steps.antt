@@ -1,6 +1,6 @@
 -- The steps of a run, one line each.
 use Rattle.std.proofs.Common.{◌≡◌, ◌⊎◌, ℕ, suc, ◌+◌, ◌<◌, ◌≤◌, List, [], ◌∷◌, ◌++◌, length, take, refl, sym, ap, ◌∙◌, append_assoc, append-nil, arith, inl, inr, subst}
-use Rattle.std.specs.Prelude.{map, Option, Some, None, Ok, Err, unwrap_or, IfSome, ⊤}
+use Rattle.std.specs.Prelude.{map, Option, Some, None, Ok, unwrap_or, ⊤}
 use Rattle.std.specs.List.{AllByRecursion}
 use Rattle.std.specs.Io.KnownBytes.{Consumes, Appends, IsAtEnd}
 use Rattle.std.proofs.KnownBytes.{Consumes-trans, Appends-trans, Appends-nil, Consumes-nil}
@@ -8,14 +8,13 @@ use Rattle.std.proofs.lemmas.List.{map-append, length_push}
 use Rattle.std.proofs.Math.Seq.{take-append-add, take-append_seam}
 use Rattle.std.proofs.lemmas.List.{take_all}
 use Rattle.sect_app.specs.declared.reader.LineEnd.TheVariants.{LineFeed, EndOfInput}
-use Rattle.sect_app.specs.declared.reader.LineError.TheVariants as errors
 use Rattle.sect_app.specs.declared.script.RunEnd.{RunEnd}
 use Rattle.sect_app.specs.declared.script.RunEnd.TheVariants as ends
 use Rattle.sect_app.specs.Lines.{Line, Ended, Unended, lines_of, ended_lines, bytes_of, text_of, IsOneLine}
 use Rattle.sect_app.specs.Reading.{ReadsLine, LINE_LIMIT}
-use Rattle.sect_app.specs.Run.{AnswersLine, Answers, Ahead, IsBad, NextIsBad, IsRest, Ran, MayAnswer, LINES_LIMIT}
+use Rattle.sect_app.specs.Run.{AnswersLine, Answers, Ahead, IsBad, NextIsBad, Ran, LINES_LIMIT}
 use Rattle.sect_app.specs.Progress.{spelled, Progress, GoesOn, Turns, IsUnanswered}
-use Rattle.sect_app.proofs.LinesOf.{lines_of-spelled, spelled-push, ended_lines-one, lines_of-feed, lines_of-one, last_line, FirstIsLonger, lines_of-long}
+use Rattle.sect_app.proofs.LinesOf.{lines_of-spelled, spelled-push, ended_lines-one, lines_of-feed, lines_of-one, last_line, lines_of-long}
 
 -- ---- lists
 

@@ -1,5 +1,5 @@
 -- How a desk with one section answers a line.
-use Rattle.std.specs.Prelude.{◌≡◌, ◌⊎◌, ℕ, List, [], ◌∷◌, length, Bool, true, false, ◌==◌}
+use Rattle.std.specs.Prelude.{◌≡◌, ℕ, List, [], ◌∷◌, length, Bool, true, false, ◌==◌}
 use Rattle.sect_machine.specs.declared.command.Request.{Request}
 use Rattle.sect_machine.specs.declared.reply.Reply.{Reply}
 use Rattle.sect_machine.specs.Replies.{answer_line}

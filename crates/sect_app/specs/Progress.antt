@@ -1,10 +1,10 @@
 -- How far a run has come.
-use Rattle.std.specs.Prelude.{◌≡◌, ◌≢◌, ◌⊎◌, ◌<◌, ◌≤◌, ℕ, ◌+◌, List, [], ◌∷◌, ◌++◌, map, length, take, Option, Some, None}
+use Rattle.std.specs.Prelude.{◌≡◌, ◌⊎◌, ◌<◌, ◌≤◌, ℕ, ◌+◌, List, [], ◌∷◌, ◌++◌, map, length, take, Option, Some, None}
 use Rattle.std.specs.List.{AllByRecursion}
 use Rattle.std.specs.Io.KnownBytes.{Appends, Consumes}
 use Rattle.sect_app.specs.declared.script.RunEnd.{RunEnd}
 use Rattle.sect_app.specs.declared.script.RunEnd.TheVariants as ends
-use Rattle.sect_app.specs.Lines.{Line, Ended, IsOneLine}
+use Rattle.sect_app.specs.Lines.{Ended, IsOneLine}
 use Rattle.sect_app.specs.Run.{LINES_LIMIT, MayAnswer, Answers, Ran}
 
 -- lines with their line feeds

@@ -1,8 +1,8 @@
 -- What the catalogue keeps as a row comes, and what it has again where memory ran out.
-use Rattle.std.specs.Prelude.{◌≡◌, ℕ, zero, suc, ◌+◌, ◌-◌, ◌^◌, ◌<◌, ◌≤◌, min, nat_lt, Bool, true, false, not, ◌==◌, ◌&&◌, cond, List, [], ◌∷◌, ◌++◌, length, map, flat_map, Option, Some, None, refl}
+use Rattle.std.specs.Prelude.{◌≡◌, ℕ, zero, suc, ◌+◌, ◌-◌, ◌^◌, ◌<◌, ◌≤◌, min, nat_lt, Bool, true, false, not, ◌&&◌, cond, List, [], ◌∷◌, ◌++◌, length, map, flat_map, Option, Some, None, refl}
 use Rattle.std.specs.List.{list_all}
 use Rattle.std.specs.Option.{option_or, option_map, is_none}
-use Rattle.std.specs.BTreeMap.{BTreeMap, get}
+use Rattle.std.specs.BTreeMap.{BTreeMap}
 use Rattle.std.proofs.Common.{sym, ◌∙◌, ap, arith, subst, take, append_assoc, length-append}
 use Rattle.std.proofs.lemmas.Bool.Decides.{nat_tests}
 use Rattle.std.proofs.lemmas.Grind.{flat_map-append}
@@ -19,8 +19,8 @@ use Rattle.sect_catalog.specs.declared.row.CatalogFault.TheVariants.{Known, BadP
 use Rattle.sect_catalog.specs.declared.row.CatalogFault.{CatalogFault}
 use Rattle.sect_catalog.specs.declared.place.Place.{Place}
 use Rattle.sect_catalog.specs.Catalogue.{Catalogue, sections_in, all_courses, all_configs, all_subparts, all_sections}
-use Rattle.sect_catalog.specs.Fault.{same_kind, known_id, bad_parent, above, fault_of, are_checked_after, are_checked}
-use Rattle.sect_catalog.specs.Place.{Entry, placed, section_entry, subpart_entries, config_entries, course_entry, at_row, row_entries, all_entries, place_in, id_cmp, IsIndex, Notes, KeepsFirst, first_only}
+use Rattle.sect_catalog.specs.Fault.{same_kind, known_id, bad_parent, fault_of, are_checked_after}
+use Rattle.sect_catalog.specs.Place.{Entry, placed, section_entry, subpart_entries, config_entries, course_entry, at_row, row_entries, all_entries, place_in, IsIndex, Notes, KeepsFirst, first_only}
 use Rattle.sect_catalog.specs.Search.{missing_part, count_fault, too_many_of}
 use Rattle.sect_catalog.specs.Rising.{put_all_rising, rising_courses, Keeps}
 use Rattle.sect_catalog.proofs.CheckLemmas.{map-append}

@@ -1,23 +1,17 @@
 -- The index tells which ids are known.
-use Rattle.std.specs.Prelude.{◌≡◌, ℕ, suc, Bool, ◌||◌, List, [], ◌∷◌, ◌++◌, length, map, find, flat_map, Option, Some, None, refl}
+use Rattle.std.specs.Prelude.{◌≡◌, ℕ, suc, ◌||◌, List, [], ◌∷◌, ◌++◌, map, find, flat_map, refl}
 use Rattle.std.specs.List.{list_any}
-use Rattle.std.specs.Option.{option_or, option_map, is_some}
+use Rattle.std.specs.Option.{option_map, is_some}
 use Rattle.std.specs.BTreeMap.{BTreeMap, get}
-use Rattle.std.specs.Map.{keys_of}
-use Rattle.std.proofs.Common.{sym, ◌∙◌, ap}
+use Rattle.std.proofs.Common.{◌∙◌, ap}
 use Rattle.std.proofs.lemmas.Map.Made.{is_some-lookup}
 use Rattle.sect_catalog.specs.declared.row.OfferingRow.{OfferingRow}
 use Rattle.sect_catalog.specs.declared.row.ConfigRow.{ConfigRow}
 use Rattle.sect_catalog.specs.declared.row.SubpartRow.{SubpartRow}
-use Rattle.sect_catalog.specs.declared.row.CatalogFault.{CatalogFault}
-use Rattle.sect_catalog.specs.declared.row.CatalogFault.TheVariants.{Known, BadParent}
 use Rattle.sect_catalog.specs.declared.place.Place.{Place}
-use Rattle.sect_catalog.specs.Catalogue.{Catalogue, all_sections}
-use Rattle.sect_catalog.specs.Fault.{same_kind, subpart_ids, config_ids, row_ids, stands_twice, known_id, bad_parent, fault_of}
-use Rattle.sect_catalog.specs.Place.{Entry, placed, section_entry, subpart_entries, config_entries, course_entry, at_row, row_entries, all_entries, place_in, id_cmp, IsIndex, is_taken}
-use Rattle.sect_catalog.specs.Search.{missing_part, count_fault}
-use Rattle.sect_catalog.proofs.CountLemmas.{fault-parts}
-use Rattle.sect_catalog.proofs.SearchLemmas.{none_left}
+use Rattle.sect_catalog.specs.Catalogue.{Catalogue}
+use Rattle.sect_catalog.specs.Fault.{same_kind, subpart_ids, config_ids, row_ids, stands_twice, known_id}
+use Rattle.sect_catalog.specs.Place.{Entry, placed, section_entry, subpart_entries, config_entries, course_entry, at_row, row_entries, all_entries, id_cmp, IsIndex, is_taken}
 
 pub map-append : {X Y : Type 0} (f : X → Y) (xs ys : List X) → map f (xs ++ ys) ≡ map f xs ++ map f ys
 map-append f [] ys = refl

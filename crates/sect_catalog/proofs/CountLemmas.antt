@@ -1,8 +1,8 @@
 -- The first count above a limit, part by part; and the faults in order.
-use Rattle.std.specs.Prelude.{◌≡◌, ℕ, ◌+◌, nat_lt, List, [], ◌∷◌, ◌++◌, length, map, find, flat_map, Option, Some, None, refl}
+use Rattle.std.specs.Prelude.{◌≡◌, ℕ, ◌+◌, nat_lt, List, [], ◌∷◌, ◌++◌, length, map, flat_map, Option, Some, None, refl}
 use Rattle.std.specs.Option.{option_or, option_map}
 use Rattle.std.specs.Bool.{then_some}
-use Rattle.std.proofs.Common.{sym, ◌∙◌, ap}
+use Rattle.std.proofs.Common.{◌∙◌, ap}
 use Rattle.std.proofs.lemmas.Grind.{flat_map-append}
 use Rattle.std.proofs.lemmas.List.Folds.{find-append}
 use Rattle.sect_base.specs.Told.{told}
@@ -10,7 +10,7 @@ use Rattle.sect_catalog.specs.declared.row.OfferingRow.{OfferingRow}
 use Rattle.sect_catalog.specs.declared.row.ConfigRow.{ConfigRow}
 use Rattle.sect_catalog.specs.declared.row.SubpartRow.{SubpartRow}
 use Rattle.sect_catalog.specs.declared.row.CatalogFault.{CatalogFault}
-use Rattle.sect_catalog.specs.declared.row.CatalogFault.TheVariants.{Known, NoCourse, NoConfig, NoSubpart, NoSection, BadParent, TooMany}
+use Rattle.sect_catalog.specs.declared.row.CatalogFault.TheVariants.{Known, NoCourse, NoConfig, BadParent, TooMany}
 use Rattle.sect_catalog.specs.Catalogue.{Catalogue, sections_in, all_sections}
 use Rattle.sect_catalog.specs.Fault.{known_id, is_empty, bad_parent, above, too_many, fault_of}
 use Rattle.sect_catalog.specs.Search.{too_many_of, count_fault, missing_part, bare_config, bare_subpart}

@@ -1,12 +1,12 @@
 -- What the index tells after a note, and after some rows are forgotten.
 use Rattle.std.specs.Prelude.{◌≡◌, ℕ, ◌+◌, ◌<◌, nat_lt, Bool, true, false, ◌==◌, ◌&&◌, cond, List, [], ◌∷◌, ◌++◌, length, filter, Option, Some, None, refl}
 use Rattle.std.specs.Option.{option_or, is_some}
-use Rattle.std.specs.Ordering.{nat_cmp, ordering_then, is_eq, eq_by_cmp}
+use Rattle.std.specs.Ordering.{nat_cmp, is_eq}
 use Rattle.std.specs.Cmp.{IsTotalOrder, tied_then}
-use Rattle.std.specs.BTreeMap.{BTreeMap, get, Updates, IsOrdered}
+use Rattle.std.specs.BTreeMap.{BTreeMap, get, IsOrdered}
 use Rattle.std.specs.Map.{lookup, keys_of}
-use Rattle.std.proofs.Common.{sym, ◌∙◌, ap, arith, subst, take, get_or}
-use Rattle.std.proofs.lemmas.Bool.{eqb-true, eq-eqb}
+use Rattle.std.proofs.Common.{sym, ◌∙◌, ap, arith, take, get_or}
+use Rattle.std.proofs.lemmas.Bool.{eqb-true}
 use Rattle.std.proofs.lemmas.Bool.Decides.{nat_tests}
 use Rattle.std.proofs.lemmas.Cmp.{nat_cmp_total, then_total, eq_by_cmp_equiv}
 use Rattle.std.proofs.lemmas.Map.Entries.{option_filter, lookup-filter-values}

@@ -1,8 +1,7 @@
 -- The first id that a test finds, part by part.
-use Rattle.std.specs.Prelude.{◌≡◌, ℕ, Bool, true, false, ◌||◌, cond, List, [], ◌∷◌, ◌++◌, map, find, flat_map, Option, Some, None, refl}
-use Rattle.std.specs.List.{list_any}
-use Rattle.std.specs.Option.{option_or, option_map, is_some}
-use Rattle.std.proofs.Common.{sym, ◌∙◌, ap, subst}
+use Rattle.std.specs.Prelude.{◌≡◌, ℕ, Bool, true, false, cond, List, [], ◌∷◌, ◌++◌, map, find, flat_map, Option, Some, None, refl}
+use Rattle.std.specs.Option.{option_or, option_map}
+use Rattle.std.proofs.Common.{sym, ◌∙◌, ap}
 use Rattle.std.proofs.lemmas.List.Folds.{find-append}
 use Rattle.sect_catalog.proofs.CountLemmas.{map-or}
 use Rattle.sect_catalog.proofs.SearchLemmas.{none_left}

@@ -1,8 +1,6 @@
 -- What stands at the place that the index tells is what a look-up by id finds.
-use Rattle.std.specs.Prelude.{◌≡◌, ℕ, suc, ◌+◌, Bool, true, false, ◌==◌, ◌&&◌, ◌||◌, cond, List, [], ◌∷◌, ◌++◌, length, map, find, flat_map, Option, Some, None, refl, slice_get}
-use Rattle.std.specs.List.{list_any, list_all}
-use Rattle.std.specs.Option.{option_or, option_map, option_and_then, is_some}
-use Rattle.std.specs.BTreeMap.{BTreeMap, get}
+use Rattle.std.specs.Prelude.{◌≡◌, ℕ, suc, Bool, true, false, ◌==◌, cond, List, [], ◌∷◌, ◌++◌, length, find, flat_map, Option, Some, None, refl, slice_get}
+use Rattle.std.specs.Option.{option_or, option_and_then, is_some}
 use Rattle.std.proofs.Common.{sym, ◌∙◌, ap, arith, subst, append_assoc}
 use Rattle.std.proofs.lemmas.Bool.{eqb-true, eq-eqb}
 use Rattle.std.proofs.lemmas.Bool.Decides.{nat_tests}
@@ -12,13 +10,12 @@ use Rattle.sect_catalog.specs.declared.row.OfferingRow.{OfferingRow}
 use Rattle.sect_catalog.specs.declared.row.ConfigRow.{ConfigRow}
 use Rattle.sect_catalog.specs.declared.row.SubpartRow.{SubpartRow}
 use Rattle.sect_catalog.specs.declared.row.SectionRow.{SectionRow}
-use Rattle.sect_catalog.specs.declared.row.CourseRow.{CourseRow}
 use Rattle.sect_catalog.specs.declared.place.Place.{Place}
-use Rattle.sect_catalog.specs.Catalogue.{sections_in, all_courses, all_configs, all_subparts, all_sections}
+use Rattle.sect_catalog.specs.Catalogue.{sections_in, all_configs, all_sections}
 use Rattle.sect_catalog.specs.Fault.{same_kind}
-use Rattle.sect_catalog.specs.Place.{Entry, placed, section_entry, subpart_entries, config_entries, course_entry, at_row, row_entries, all_entries, place_in, config_at, section_at}
+use Rattle.sect_catalog.specs.Place.{Entry, placed, section_entry, subpart_entries, config_entries, course_entry, at_row, row_entries, all_entries, place_in, section_at}
 use Rattle.sect_catalog.proofs.IndexLemmas.{place-append}
-use Rattle.sect_catalog.proofs.AppendLemmas.{both, both-left, both-right, all_at, all-append, all-placed, all-row}
+use Rattle.sect_catalog.proofs.AppendLemmas.{both, both-left, both-right, all_at, all-placed, all-row}
 
 pub same : (n : ℕ) → n == n ≡ true
 same n = eq-eqb n n refl

@@ -1,15 +1,14 @@
 -- Configurations, courses and offerings: what the index tells is what a look-up by id finds.
-use Rattle.std.specs.Prelude.{◌≡◌, ℕ, Bool, true, false, ◌==◌, ◌||◌, cond, List, [], ◌∷◌, ◌++◌, find, flat_map, Option, Some, None, refl, slice_get}
+use Rattle.std.specs.Prelude.{◌≡◌, ℕ, Bool, true, false, ◌==◌, ◌||◌, cond, List, [], ◌∷◌, ◌++◌, find, Option, Some, None, refl, slice_get}
 use Rattle.std.specs.List.{list_any, list_all}
 use Rattle.std.specs.Option.{option_or, option_map, option_and_then, is_some}
 use Rattle.std.proofs.Common.{sym, ◌∙◌, ap, arith}
 use Rattle.std.proofs.lemmas.Bool.Decides.{nat_tests}
 use Rattle.sect_catalog.specs.declared.row.OfferingRow.{OfferingRow}
 use Rattle.sect_catalog.specs.declared.row.ConfigRow.{ConfigRow}
-use Rattle.sect_catalog.specs.declared.row.SubpartRow.{SubpartRow}
 use Rattle.sect_catalog.specs.declared.row.CourseRow.{CourseRow}
 use Rattle.sect_catalog.specs.declared.place.Place.{Place}
-use Rattle.sect_catalog.specs.Catalogue.{all_courses, all_configs, has_course}
+use Rattle.sect_catalog.specs.Catalogue.{all_courses, all_configs}
 use Rattle.sect_catalog.specs.Place.{Entry, placed, section_entry, subpart_entries, config_entries, course_entry, at_row, row_entries, all_entries, place_in, config_at, course_at}
 use Rattle.sect_catalog.proofs.IndexLemmas.{place-append}
 use Rattle.sect_catalog.proofs.AppendLemmas.{both, all-row}

@@ -1,5 +1,5 @@
 -- What f gives of a list's elements and positions, as the list grows.
-use Rattle.std.specs.Prelude.{◌≡◌, ℕ, zero, suc, ◌+◌, ◌<◌, List, [], ◌∷◌, ◌++◌, length, refl}
+use Rattle.std.specs.Prelude.{◌≡◌, ℕ, zero, suc, ◌+◌, ◌<◌, List, [], ◌∷◌, ◌++◌, length}
 use Rattle.std.proofs.Common.{sym, ◌∙◌, ap, arith, take, get_or, append_assoc}
 use Rattle.std.proofs.lemmas.List.{append-nil}
 use Rattle.sect_catalog.specs.Place.{placed}

@@ -1,8 +1,8 @@
 -- What the catalogue keeps as the last row goes.
-use Rattle.std.specs.Prelude.{◌≡◌, ℕ, suc, ◌+◌, ◌-◌, ◌^◌, ◌≤◌, min, nat_lt, Bool, true, false, not, ◌==◌, ◌&&◌, ◌||◌, cond, List, [], ◌∷◌, ◌++◌, length, map, filter, find, flat_map, Option, Some, None, refl}
+use Rattle.std.specs.Prelude.{◌≡◌, ℕ, ◌+◌, ◌-◌, ◌^◌, ◌≤◌, min, nat_lt, Bool, true, false, not, ◌==◌, ◌&&◌, ◌||◌, cond, List, [], ◌∷◌, ◌++◌, length, map, filter, find, flat_map, Option, Some, None, refl}
 use Rattle.std.specs.List.{list_any, list_all}
 use Rattle.std.specs.Option.{option_or, option_map, is_none}
-use Rattle.std.specs.BTreeMap.{BTreeMap, get}
+use Rattle.std.specs.BTreeMap.{BTreeMap}
 use Rattle.std.proofs.Common.{sym, ◌∙◌, ap, arith, subst, append_assoc}
 use Rattle.std.proofs.lemmas.Bool.{eq-eqb}
 use Rattle.std.proofs.lemmas.Bool.Decides.{nat_tests}
@@ -17,7 +17,7 @@ use Rattle.sect_catalog.specs.Catalogue.{Catalogue, all_courses, all_sections}
 use Rattle.sect_catalog.specs.Fault.{same_kind, config_ids, row_ids, stands_twice, known_id, bad_parent, fault_of, are_checked_after, are_checked}
 use Rattle.sect_catalog.specs.Place.{row_entries, all_entries, place_in, IsIndex, KeepsFirst, first_only}
 use Rattle.sect_catalog.specs.Rising.{put_rising, put_all_rising, rising_courses, Keeps}
-use Rattle.sect_catalog.proofs.AppendLemmas.{both, both-left, both-right, all_at, all-row, all-rows, forgotten, row-parts, courses-of-more, row_sections, sections-more, counts-pass}
+use Rattle.sect_catalog.proofs.AppendLemmas.{both, both-left, both-right, all-row, all-rows, forgotten, row-parts, courses-of-more, row_sections, sections-more, counts-pass}
 use Rattle.sect_catalog.proofs.CountLemmas.{fault-parts}
 use Rattle.sect_catalog.proofs.IndexLemmas.{place-append}
 use Rattle.sect_catalog.proofs.SearchLemmas.{any-append}

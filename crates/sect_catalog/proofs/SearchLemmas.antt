@@ -1,5 +1,5 @@
 -- A search part by part: what the first parts leave.
-use Rattle.std.specs.Prelude.{◌≡◌, ℕ, suc, ◌+◌, ◌<◌, ◌==◌, not, Bool, true, false, ◌||◌, List, [], ◌∷◌, ◌++◌, length, find, flat_map, Option, Some, None, refl}
+use Rattle.std.specs.Prelude.{◌≡◌, ℕ, suc, ◌+◌, ◌<◌, ◌==◌, Bool, true, false, ◌||◌, List, [], ◌∷◌, ◌++◌, length, find, flat_map, Option, Some, None, refl}
 use Rattle.std.specs.List.{list_any}
 use Rattle.std.specs.Option.{option_or, option_map}
 use Rattle.std.proofs.Common.{sym, ◌∙◌, ap, arith, take, drop, get_or, drop-cons}

@@ -1,34 +1,27 @@
 -- A limit written at the place that the index tells is the limit of the one with that id.
-use Rattle.std.specs.Prelude.{◌≡◌, ℕ, suc, ◌+◌, ◌≤◌, nat_lt, Bool, true, false, not, ◌==◌, ◌&&◌, ◌||◌, cond, List, [], ◌∷◌, ◌++◌, length, map, filter, find, flat_map, Option, Some, None, refl}
-use Rattle.std.specs.List.{list_any, list_all}
-use Rattle.std.specs.Option.{option_or, option_map, is_none}
+use Rattle.std.specs.Prelude.{◌≡◌, ℕ, suc, ◌+◌, ◌≤◌, Bool, true, false, ◌==◌, cond, List, [], ◌∷◌, ◌++◌, length, map, filter, Option, Some, None, refl}
+use Rattle.std.specs.Option.{option_or}
 use Rattle.std.proofs.Common.{sym, ◌∙◌, ap, arith, subst, append_assoc, length-append}
 use Rattle.std.proofs.lemmas.Bool.{eqb-true}
 use Rattle.std.proofs.lemmas.Bool.Decides.{nat_tests}
-use Rattle.std.proofs.lemmas.List.{append-nil}
 use Rattle.std.proofs.lemmas.List.Elements.{filter-append}
-use Rattle.std.proofs.lemmas.Grind.{flat_map-append}
-use Rattle.sect_base.specs.declared.ids.CourseId.{CourseId}
-use Rattle.sect_base.specs.declared.ids.ConfigId.{ConfigId}
 use Rattle.sect_base.specs.declared.ids.SectionId.{SectionId}
 use Rattle.sect_base.specs.declared.limit.Cap.{Cap}
-use Rattle.sect_base.specs.declared.limit.Cap.TheVariants.{Course as cap_course, Config as cap_config, Section as cap_section}
+use Rattle.sect_base.specs.declared.limit.Cap.TheVariants.{Section as cap_section}
 use Rattle.sect_base.specs.declared.limit.Limit.{Limit}
 use Rattle.sect_catalog.specs.declared.row.OfferingRow.{OfferingRow}
-use Rattle.sect_catalog.specs.declared.row.CourseRow.{CourseRow}
 use Rattle.sect_catalog.specs.declared.row.ConfigRow.{ConfigRow}
 use Rattle.sect_catalog.specs.declared.row.SubpartRow.{SubpartRow}
 use Rattle.sect_catalog.specs.declared.row.SectionRow.{SectionRow}
 use Rattle.sect_catalog.specs.declared.place.Place.{Place}
-use Rattle.sect_catalog.specs.Fault.{same_kind, row_ids, stands_twice, known_id, fault_of, are_checked_after, are_checked}
-use Rattle.sect_catalog.specs.Limits.{with_limit, capped_course, capped_config, capped_subpart, capped_section, change_at, put_course, put_config, put_section, put_in_config, put_in_subpart, put_at, cap_key}
+use Rattle.sect_catalog.specs.Fault.{same_kind}
+use Rattle.sect_catalog.specs.Limits.{with_limit, capped_course, capped_config, capped_subpart, capped_section, change_at, put_section, put_in_config, put_in_subpart}
 use Rattle.sect_catalog.specs.Place.{Entry, placed, section_entry, subpart_entries, config_entries, course_entry, at_row, row_entries, all_entries, place_in}
-use Rattle.sect_catalog.proofs.AppendLemmas.{both, both-left, both-right, all_at, all-row}
+use Rattle.sect_catalog.proofs.AppendLemmas.{both, all_at, all-row}
 use Rattle.sect_catalog.proofs.ChangeLemmas.{change-here}
-use Rattle.sect_catalog.proofs.CheckLemmas.{map-append, ids_of, ids-all}
-use Rattle.sect_catalog.proofs.IndexLemmas.{place-append, one_id}
-use Rattle.sect_catalog.proofs.LookupLemmas.{same, place-passes, length-one, none-placed, or-none, subpart-stands, config-stands}
-use Rattle.sect_catalog.proofs.RemoveLemmas.{none-left, none-right, taken_in, none-taken}
+use Rattle.sect_catalog.proofs.CheckLemmas.{map-append, ids_of}
+use Rattle.sect_catalog.proofs.IndexLemmas.{place-append}
+use Rattle.sect_catalog.proofs.LookupLemmas.{same, place-passes, length-one, none-placed, subpart-stands, config-stands}
 
 pub swapped : (m n : ℕ) → (m == n) ≡ (n == m)
 swapped m n = grind (arith, nat_tests)

@@ -1,5 +1,5 @@
 -- The catalogue after an offering is added, and what a refusal tells.
-use Rattle.std.specs.Prelude.{List, [], ◌∷◌, ◌++◌, Option, Some, None, Result, Ok, Err}
+use Rattle.std.specs.Prelude.{[], ◌∷◌, ◌++◌, Option, Some, None, Result, Ok, Err}
 use Rattle.sect_catalog.specs.declared.row.OfferingRow.{OfferingRow}
 use Rattle.sect_catalog.specs.declared.row.CatalogFault.{CatalogFault}
 use Rattle.sect_catalog.specs.declared.row.AddFault.{AddFault}

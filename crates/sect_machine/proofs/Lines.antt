@@ -1,5 +1,5 @@
 -- What stands behind each number of a line.
-use Rattle.std.proofs.Common.{◌≡◌, ℕ, ◌<◌, ◌≤◌, ◌^◌, List, [], ◌∷◌, ◌++◌, length, refl, sym, ap, ◌∙◌, subst, arith, decimal, append_assoc}
+use Rattle.std.proofs.Common.{◌≡◌, ℕ, ◌<◌, ◌^◌, List, [], ◌∷◌, ◌++◌, length, refl, ap, ◌∙◌, arith, decimal, append_assoc}
 use Rattle.std.specs.Prelude.{codes, Option, Some}
 use Rattle.std.proofs.lemmas.Fmt.{decimal_nonempty}
 use Rattle.std.proofs.lemmas.List.Elements.{All-nil}
@@ -9,7 +9,7 @@ use Rattle.sect_base.specs.declared.limit.Caller.{Caller}
 use Rattle.sect_base.specs.declared.limit.Caller.TheVariants as callers
 use Rattle.sect_base.specs.declared.limit.Id.{Id}
 use Rattle.sect_machine.specs.declared.command.Offering.{Offering}
-use Rattle.sect_machine.specs.Texts.{IsDigit, BeginsNoNumber, IsLimitAt, IsCallerAt, IsIdAt, FitsLimit, FitsCaller, numbered, limit_text, caller_text, id_text, MOST_32}
+use Rattle.sect_machine.specs.Texts.{IsDigit, BeginsNoNumber, IsLimitAt, IsCallerAt, FitsLimit, FitsCaller, numbered, limit_text, caller_text}
 use Rattle.sect_machine.proofs.Numbers.{digits_end, All-decimal}
 
 -- a space is no digit

@@ -1,5 +1,5 @@
 -- The text of a reply.
-use Rattle.std.specs.Prelude.{◌++◌, ℕ, List, [], ◌∷◌, codes, decimal}
+use Rattle.std.specs.Prelude.{◌++◌, ℕ, List, codes, decimal}
 use Rattle.sect_machine.specs.declared.reply.Reply.{Reply}
 use Rattle.sect_machine.specs.declared.reply.Reply.TheVariants as replies
 

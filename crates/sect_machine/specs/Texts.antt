@@ -1,5 +1,5 @@
 -- The text of a request, and what stands in it.
-use Rattle.std.specs.Prelude.{◌≡◌, ◌<◌, ◌≤◌, ◌^◌, ◌++◌, ℕ, List, [], ◌∷◌, ⊤, codes, decimal}
+use Rattle.std.specs.Prelude.{◌≡◌, ◌≤◌, ◌++◌, ℕ, List, [], ◌∷◌, ⊤, codes, decimal}
 use Rattle.sect_base.specs.declared.limit.Limit.{Limit}
 use Rattle.sect_base.specs.declared.limit.Limit.TheVariants.{Unlimited, Places}
 use Rattle.sect_base.specs.declared.limit.Caller.{Caller}

@@ -21,7 +21,7 @@ use Rattle.sect_command.specs.declared.reply.Refusal.TheVariants.{NotYours, Unkn
 use Rattle.sect_command.specs.declared.reply.RowFault.TheVariants.{Offering as offering_fault, Request as request_fault, Reserve as reserve_fault}
 use Rattle.sect_model.specs.Data.{StudentId, CourseId, SectionId, ConfigId, Cap, Want, Audience, OfferingRow, Student}
 use Rattle.sect_model.specs.World.{World, State, course_ids, offering_of, reservation_of, holds}
-use Rattle.sect_model.specs.Order.{all_differ}
+use Rattle.sect_people.specs.Order.{all_differ}
 use Rattle.sect_model.specs.Counts.{count_of, counted_of, used_of}
 use Rattle.sect_model.specs.Allowed.{credits_held, reservations_of, restrictions_of}
 use Rattle.sect_model.specs.Change.{place_of}

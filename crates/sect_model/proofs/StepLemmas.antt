@@ -18,7 +18,9 @@ use Rattle.sect_model.specs.declared.pick.Outcome.TheVariants.{Found, Blocked as
 use Rattle.sect_model.specs.World.{World, State, empty_state, leave}
 use Rattle.sect_model.specs.Outcome.{outcome_of}
 use Rattle.sect_model.specs.Settle.{found_in, make_move, without}
-use Rattle.sect_model.specs.Change.{put_offering, put_student, with_row, with_asks, put_limit, with_limit, reservation_from, restriction_from, cancel, put_day}
+use Rattle.sect_people.specs.Changes.{with_row, with_asks}
+use Rattle.sect_catalog.specs.Limits.{with_limit}
+use Rattle.sect_model.specs.Change.{put_offering, put_student, put_limit, reservation_from, restriction_from, cancel, put_day}
 use Rattle.sect_model.specs.Batch.{Batched, batch_of, want_of}
 use Rattle.sect_model.specs.Refusals.{refusal_of}
 use Rattle.sect_model.specs.Premises.{want_fits}

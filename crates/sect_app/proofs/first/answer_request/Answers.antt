@@ -1,4 +1,4 @@
-use Rattle.std.proofs.Common.{◌∙◌, sym, inr, length}
+use Rattle.std.proofs.Common.{inr, length}
 use Rattle.sect_machine.specs.Replies.{answer_line}
 use Rattle.sect_app.proofs.Printing.{answers_so}
 use Rattle.sect_app.proofs.first.answer_request.Goals as goal

@@ -1,4 +1,4 @@
-use Rattle.std.proofs.Common.{◌≡◌, [], ◌++◌, refl, ◌∙◌, arith}
+use Rattle.std.proofs.Common.{◌≡◌, [], refl, ◌∙◌, arith}
 use Rattle.std.proofs.lemmas.Grind.{common_steps}
 use Rattle.std.specs.Prelude.{None, Some}
 use Rattle.sect_app.proofs.Steps.{progress_more, ran_to_end, ran_to_long, ran_to_read_fault, ran_out_of_memory, feed_goes_on, last_ends}

@@ -2,7 +2,7 @@
 use Rattle.std.proofs.Common.{◌∙◌, ap, flat_map, length, map}
 use Rattle.sect_catalog.specs.Catalogue.{sections_in}
 use Rattle.sect_catalog.specs.Search.{too_many_of}
-use Rattle.sect_catalog.proofs.CountLemmas.{counts-parts, meetings-parts}
+use Rattle.sect_catalog.proofs.CountLemmas.{meetings-parts}
 use Rattle.sect_catalog.proofs.SearchLemmas.{found_by, passed_by}
 use Rattle.sect_catalog.proofs.count.many_meetings.Goals as goal
 

@@ -1,8 +1,8 @@
 -- One part more.
-use Rattle.std.proofs.Common.{◌∙◌, ap, flat_map, length, map}
+use Rattle.std.proofs.Common.{length, map}
 use Rattle.sect_catalog.specs.Catalogue.{sections_in}
 use Rattle.sect_catalog.specs.Search.{too_many_of}
-use Rattle.sect_catalog.proofs.CountLemmas.{counts-parts, meetings-parts}
+use Rattle.sect_catalog.proofs.CountLemmas.{counts-parts}
 use Rattle.sect_catalog.proofs.SearchLemmas.{found_by, passed_by}
 use Rattle.sect_catalog.proofs.count.many_meetings_of.Goals as goal
 

@@ -1,8 +1,7 @@
 -- One part more.
 use Rattle.std.proofs.Common.{◌∙◌, ap, flat_map, length, map}
-use Rattle.sect_catalog.specs.Catalogue.{sections_in}
 use Rattle.sect_catalog.specs.Search.{too_many_of}
-use Rattle.sect_catalog.proofs.CountLemmas.{counts-parts, meetings-parts}
+use Rattle.sect_catalog.proofs.CountLemmas.{counts-parts}
 use Rattle.sect_catalog.proofs.SearchLemmas.{found_by, passed_by}
 use Rattle.sect_catalog.proofs.count.many_sections.Goals as goal
 

@@ -1,6 +1,5 @@
 -- the counts so far are within the limit
-use Rattle.std.proofs.Common.{◌≡◌, length, map, flat_map, drop}
-use Rattle.sect_catalog.specs.Catalogue.{sections_in}
+use Rattle.std.proofs.Common.{◌≡◌, length, map, drop}
 use Rattle.sect_catalog.specs.Search.{too_many_of}
 use Rattle.sect_catalog.proofs.count.many_sections_of.Given as goal
 

@@ -1,5 +1,5 @@
 -- the number of the sections so far
-use Rattle.std.proofs.Common.{◌≡◌, ◌-◌, ◌^◌, min, length, flat_map, take}
+use Rattle.std.proofs.Common.{◌≡◌, ◌-◌, ◌^◌, min, length, take}
 use Rattle.sect_catalog.specs.Catalogue.{sections_in}
 use Rattle.sect_catalog.proofs.count.sections_of.Given as goal
 

@@ -1,5 +1,5 @@
 -- One subpart more.
-use Rattle.std.proofs.Common.{◌∙◌, ap, refl, [], sym, Some}
+use Rattle.std.proofs.Common.{◌∙◌, [], sym}
 use Rattle.sect_catalog.specs.Fault.{bad_parent_after}
 use Rattle.sect_catalog.proofs.SearchLemmas.{none_left, parent_found, parent_passed}
 use Rattle.sect_catalog.proofs.fault.bad_parent_in.Goals as goal

@@ -1,7 +1,6 @@
 -- the ids so far are new
-use Rattle.std.proofs.Common.{◌≡◌, find, map, flat_map, drop}
+use Rattle.std.proofs.Common.{◌≡◌, find, map, drop}
 use Rattle.std.specs.Option.{option_map}
-use Rattle.sect_catalog.specs.Fault.{config_ids, subpart_ids}
 use Rattle.sect_catalog.specs.Place.{is_taken}
 use Rattle.sect_catalog.proofs.known.known_course.Given as goal
 

@@ -1,7 +1,5 @@
 -- The write is the change at the position, and past the end there is none.
-use Rattle.std.proofs.Common.{ap, refl, ◌<◌, length}
-use Rattle.std.specs.List.{HoldsAt}
-use Rattle.sect_catalog.specs.Limits.{put_in_subpart, put_in_config, put_at}
+use Rattle.std.proofs.Common.{ap, refl}
 use Rattle.sect_catalog.proofs.ChangeLemmas.{changed, past}
 use Rattle.sect_catalog.proofs.limit.put_course.Goals as goal
 

@@ -1,7 +1,7 @@
 -- the count of the ids so far
-use Rattle.std.proofs.Common.{◌≡◌, ◌∷◌, take}
-use Rattle.std.specs.Prelude.{map, flat_map}
-use Rattle.sect_catalog.specs.Fault.{config_ids, subpart_ids}
+use Rattle.std.proofs.Common.{◌≡◌, take}
+use Rattle.std.specs.Prelude.{flat_map}
+use Rattle.sect_catalog.specs.Fault.{config_ids}
 use Rattle.sect_catalog.specs.Search.{times_in}
 use Rattle.sect_catalog.proofs.times.times_in_configs.Given as goal
 

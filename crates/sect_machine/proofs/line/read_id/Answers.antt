@@ -1,4 +1,4 @@
-use Rattle.std.proofs.Common.{◌≡◌, ◌++◌, refl}
+use Rattle.std.proofs.Common.{◌++◌}
 use Rattle.std.specs.Prelude.{codes}
 use Rattle.sect_machine.proofs.Lines.{space, caller_at, behind_caller, same_id}
 use Rattle.sect_machine.proofs.line.read_id.Goals as goal

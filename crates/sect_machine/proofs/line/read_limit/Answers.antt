@@ -1,4 +1,3 @@
-use Rattle.std.proofs.Common.{◌≡◌}
 use Rattle.sect_machine.proofs.Lines.{unlimited_alone}
 use Rattle.sect_machine.proofs.line.read_limit.Goals as goal
 

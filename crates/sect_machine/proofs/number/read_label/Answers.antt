@@ -1,4 +1,4 @@
-use Rattle.std.proofs.Common.{◌≡◌, ◌∙◌, ap, take, length}
+use Rattle.std.proofs.Common.{◌∙◌, ap, take, length}
 use Rattle.std.proofs.Math.Seq.{take-append_seam}
 use Rattle.std.specs.Cmp.Lexicographic.{other_text}
 use Rattle.sect_machine.proofs.number.read_label.Goals as goal

@@ -1,4 +1,4 @@
-use Rattle.std.proofs.Common.{◌≡◌, ◌∙◌, sym, ap, decimal}
+use Rattle.std.proofs.Common.{◌≡◌, ◌∙◌, ap, decimal}
 use Rattle.std.specs.Cmp.Lexicographic.{other_text}
 use Rattle.sect_machine.proofs.Numbers.{IsUtf8-decimal, parsed}
 use Rattle.sect_machine.proofs.number.read_number.Goals as goal

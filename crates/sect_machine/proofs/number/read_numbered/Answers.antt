@@ -1,4 +1,4 @@
-use Rattle.std.proofs.Common.{◌≡◌, ◌<◌, ◌^◌, ◌∙◌, ◌++◌, sym, ap, decimal, arith, drop, length-drop}
+use Rattle.std.proofs.Common.{◌<◌, ◌^◌, ◌∙◌, ◌++◌, decimal, arith, drop, length-drop}
 use Rattle.std.proofs.lemmas.List.{take_all}
 use Rattle.sect_machine.proofs.Numbers.{number_split}
 use Rattle.sect_machine.proofs.number.read_numbered.Goals as goal

@@ -1,5 +1,3 @@
-use Rattle.std.proofs.Common.{rules, arith}
-use Rattle.std.proofs.lemmas.Grind.{common_steps}
 use Rattle.sect_app.proofs.Ready.{moves_before}
 use Rattle.sect_app.proofs.reader.LineReader.move_line.Goals as goal
 

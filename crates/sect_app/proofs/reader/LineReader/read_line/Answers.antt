@@ -1,7 +1,5 @@
-use Rattle.std.proofs.Common.{rules, arith, ◌≡◌, ◌≤◌, length, sym, ap, subst, rules}
-use Rattle.std.proofs.lemmas.Grind.{common_steps}
+use Rattle.std.proofs.Common.{arith}
 use Rattle.std.proofs.lemmas.Result.{err_from_is_err_and}
-use Rattle.sect_app.specs.Reading.{LINE_LIMIT}
 use Rattle.sect_app.proofs.Gathered.{gathered_feed, gathered_all, gathered_more, reads_feed, reads_too_long, reads_failed}
 use Rattle.sect_app.proofs.reader.LineReader.read_line.Goals as goal
 

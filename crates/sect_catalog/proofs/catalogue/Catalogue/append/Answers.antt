@@ -1,7 +1,7 @@
 -- The row stands behind the others, or all is as before.
 use Rattle.std.proofs.Common.{◌≡◌, ◌∙◌, ℕ, ◌+◌, ◌++◌, ◌∷◌, [], ◌^◌, ◌-◌, ◌<◌, arith, min, ap, sym, subst, None, take, map}
 use Rattle.sect_catalog.specs.Fault.{fault_of}
-use Rattle.sect_catalog.specs.Place.{row_entries, Notes}
+use Rattle.sect_catalog.specs.Place.{Notes}
 use Rattle.sect_catalog.specs.Rising.{Keeps, put_all_rising}
 use Rattle.sect_catalog.proofs.AppendLemmas.{row_sections, taken_back, appended, sum_fits}
 use Rattle.sect_catalog.proofs.Outcomes.{on_ok, on_err}

@@ -1,7 +1,6 @@
 -- What the index tells is what the look-up finds.
 use Rattle.std.proofs.Common.{◌∙◌, ap}
 use Rattle.std.specs.Option.{option_and_then}
-use Rattle.std.specs.List.{slice_get}
 use Rattle.std.specs.BTreeMap.{get}
 use Rattle.sect_catalog.specs.Catalogue.{find_config}
 use Rattle.sect_catalog.specs.Place.{id_cmp, config_at}

@@ -4,7 +4,7 @@ use Rattle.std.specs.Option.{option_and_then}
 use Rattle.std.specs.List.{slice_get}
 use Rattle.std.specs.BTreeMap.{get}
 use Rattle.sect_catalog.specs.Catalogue.{find_offering}
-use Rattle.sect_catalog.specs.Place.{id_cmp, config_at}
+use Rattle.sect_catalog.specs.Place.{id_cmp}
 use Rattle.sect_catalog.proofs.LookupMore.{offering-found}
 use Rattle.sect_catalog.proofs.catalogue.Catalogue.offering.Goals as goal
 

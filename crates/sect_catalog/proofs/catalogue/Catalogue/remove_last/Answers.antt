@@ -1,5 +1,5 @@
 -- What is kept of the other rows.
-use Rattle.std.proofs.Common.{◌≡◌, ◌∙◌, ◌++◌, ◌∷◌, [], ◌^◌, ◌-◌, min, ap, sym, subst, filter}
+use Rattle.std.proofs.Common.{◌∙◌, ◌^◌, ◌-◌, min, ap, sym, subst, filter}
 use Rattle.sect_catalog.specs.Rising.{Keeps}
 use Rattle.sect_catalog.proofs.AppendLemmas.{row_sections}
 use Rattle.sect_catalog.proofs.RemoveLemmas.{isnt_of, removed}

@@ -1,4 +1,4 @@
-use Rattle.std.proofs.Common.{rules, ◌≡◌, ◌∙◌, sym, ap}
+use Rattle.std.proofs.Common.{rules, ◌∙◌, sym, ap}
 use Rattle.std.proofs.lemmas.List.Sorted.{answers_always}
 use Rattle.sect_machine.proofs.Rising.{not_there, there, row_at, asked_once, waits}
 use Rattle.sect_machine.specs.declared.students.Row.{Row}
