@@ -1,0 +1,11 @@
+mod Front
+mod Images
+mod Writes
+mod Keeps
+mod Done
+mod Gates
+mod Found
+mod Opened
+mod Runs
+mod Replays
+mod Picks

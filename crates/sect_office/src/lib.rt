@@ -1,0 +1,10 @@
+// A desk that threads ask in turn, in one history.
+#![tactic(auto)]
+
+mod office;
+#[cfg(test)]
+mod tests;
+mod work;
+
+pub use office::{Office, OfficeOf};
+pub use work::{Work, run_all};

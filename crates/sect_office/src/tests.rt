@@ -1,0 +1,200 @@
+// Threads that share one tally's desk.
+ghost use Rattle.std.specs.Prelude.{◌≡◌, ◌<◌, ◌≤◌, length, vec_len, IfOk};
+ghost use mathlib.Core.List.{IsPrefix};
+ghost use Rattle.sect_turn.specs.Passes.{front, own_calls, share, opening, IsIdle, IsPassOf};
+
+use crate::office::Office;
+use crate::work::{Work, run_all};
+use sect_base::{Caller, Chronicle, Id};
+use sect_edge::{Gate, Keeper, MemKeeper, OpenGate};
+use sect_once::{Answer, Desk, Object, Tally};
+use sect_time::Day;
+use sect_turn::Pass;
+use std::alloc::{AllocError, Global};
+use std::sync::Wait;
+use std::sync::atomic::{AtomicU64, Ordering};
+use std::test::Fail;
+use std::thread;
+use std::thread::Threads;
+
+// The first day.
+fn first_day() -> Day {
+    match Day::new(0) {
+        Some(day) => day,
+        None => unreachable!(),
+    }
+}
+
+// A caller that asks the numbers from 0 as commands of 1, each when the gate lets it.
+#[derive(Drop)]
+struct Teller<'a, G> {
+    alloc: Global,
+    gate: &'a G,
+    caller: u32,
+    count: u64,
+}
+
+impl<'a, O: Object<Command = u8>, K: Keeper, G: Gate> Work<Desk<O, K>> for Teller<'a, G> {
+    type Given = Vec<u32>;
+
+    ghost did = { λ w before after calls places. length calls ≤ w.count };
+
+    fn run<R: Wait>(self, rt: &R, office: &Office<O, K>, pass: &mut Pass<Desk<O, K>>) -> Vec<u32> {
+        let mut places = Vec::new(self.alloc);
+        for number in 0..self.count {
+            if places.reserve(1).is_err() {
+                break;
+            }
+            self.gate.pass(rt, self.caller, number);
+            let id = Id {
+                caller: Caller::Registrar(self.caller),
+                number,
+            };
+            if let Answer::Done { place, .. } = office.ask(rt, pass, id, first_day(), 1) {
+                places.push_reserved(place);
+            }
+        }
+        places
+    }
+}
+
+// As many tellers at one gate.
+fn tellers<'a, G>(
+    alloc: Global,
+    gate: &'a G,
+    callers: u32,
+    count: u64,
+) -> Result<Vec<Teller<'a, G>>, AllocError>
+    ensures { IfOk result (λ works. vec_len works ≤ callers) }
+{
+    let mut works = Vec::new(alloc);
+    for caller in 0..callers {
+        works.push(Teller {
+            alloc,
+            gate,
+            caller,
+            count,
+        })?;
+    }
+    Ok(works)
+}
+
+// Runs as many tellers at an office, and then once more, and gives the places of both times and the desk.
+fn run_twice<G: Gate + Sync, R: Threads + Wait + Sync>(
+    rt: &R,
+    alloc: Global,
+    gate: &G,
+    callers: u32,
+    count: u64,
+) -> Result<(Vec<Vec<u32>>, Vec<Vec<u32>>, Desk<Tally, MemKeeper>), AllocError>
+    requires { callers ≤ 64 }
+{
+    let keeper = MemKeeper::new(Vec::new(alloc), Vec::new(alloc));
+    let Ok(desk) = Desk::<Tally, MemKeeper>::open(alloc, keeper) else {
+        return Err(AllocError);
+    };
+    let Ok((office, pass)) = Office::open(alloc, desk) else {
+        return Err(AllocError);
+    };
+    let works = tellers(alloc, gate, callers, count)?;
+    let again = tellers(alloc, gate, callers, count)?;
+    let (pass, first) = run_all(rt, alloc, &office, pass, works);
+    let (pass, second) = run_all(rt, alloc, &office, pass, again);
+    match (first, second, office.close(pass)) {
+        (Ok(first), Ok(second), Ok(desk)) => Ok((first, second, desk)),
+        _ => Err(AllocError),
+    }
+}
+
+// Whether the places are the numbers below the total, each once.
+fn are_each_once(alloc: Global, places: &[Vec<u32>], total: usize) -> Result<bool, AllocError> {
+    let mut seen = vec![in alloc; 0u8; total]?;
+    let mut count = 0usize;
+    for each in places {
+        for place in each.as_slice() {
+            match seen.get_mut(*place as usize) {
+                Some(times) => {
+                    if *times != 0 {
+                        return Ok(false);
+                    }
+                    *times = 1;
+                    count = count.wrapping_add(1);
+                }
+                None => return Ok(false),
+            }
+        }
+    }
+    Ok(count == total)
+}
+
+#[test]
+fn two_threads_share_one_history(rt: HostRuntime) -> Result<(), Fail> {
+    let alloc = rt.alloc();
+    let (first, second, desk) = run_twice(&rt, alloc, &OpenGate, 2, 100)?;
+    assert!(rt; are_each_once(alloc, &first, 200)?);
+    assert!(rt; first == second);
+    assert_eq!(rt; desk.len(), 200);
+    if desk.acted() < 200 {
+        panic!(rt; "two hundred acted")
+    }
+    assert_eq!(rt; desk.entry(199).reply, 200);
+    Ok(())
+}
+
+#[test]
+fn many_threads_share_one_history(rt: HostRuntime) -> Result<(), Fail> {
+    let alloc = rt.alloc();
+    let (first, second, desk) = run_twice(&rt, alloc, &OpenGate, 64, 10)?;
+    assert!(rt; are_each_once(alloc, &first, 640)?);
+    assert!(rt; first == second);
+    assert_eq!(rt; desk.len(), 640);
+    Ok(())
+}
+
+// Holds worker 0 at its first step until worker 1 came to its second, and the other way round.
+#[derive(Drop)]
+struct Meeting {
+    first: AtomicU64,
+    second: AtomicU64,
+    late: AtomicU64,
+}
+
+impl Meeting {
+    fn hold(&self, other: &AtomicU64, until: u64) {
+        for _ in 0..1_000_000u64 {
+            if other.load(Ordering::SeqCst) >= until {
+                return;
+            }
+            thread::yield_now();
+        }
+        self.late.fetch_add(1, Ordering::SeqCst);
+    }
+}
+
+impl Gate for Meeting {
+    fn pass<R: Wait>(&self, _rt: &R, worker: u32, step: u64) {
+        let (own, other) = if worker == 0 {
+            (&self.first, &self.second)
+        } else {
+            (&self.second, &self.first)
+        };
+        own.store(step.saturating_add(1), Ordering::SeqCst);
+        if step == 0 {
+            let until = if worker == 0 { 2 } else { 1 };
+            self.hold(other, until);
+        }
+    }
+}
+
+#[test]
+fn two_workers_run_at_once(rt: HostRuntime) -> Result<(), Fail> {
+    let gate = Meeting {
+        first: AtomicU64::new(0),
+        second: AtomicU64::new(0),
+        late: AtomicU64::new(0),
+    };
+    let (first, _, _) = run_twice(&rt, rt.alloc(), &gate, 2, 100)?;
+    assert!(rt; are_each_once(rt.alloc(), &first, 200)?);
+    assert_eq!(rt; gate.late.load(Ordering::SeqCst), 0);
+    Ok(())
+}

@@ -1,0 +1,104 @@
+-- Logs, their histories, and what makes one legal.
+use Rattle.std.specs.Prelude.{◌≡◌, ◌⊎◌, ℕ, ◌+◌, ◌^◌, ◌≤◌, List, [], ◌∷◌, ◌++◌, ⊤, length, sum_by, slice_get, Option, Some, None}
+use Rattle.std.specs.List.{AllZip}
+use Rattle.std.specs.declared.cmp.Ordering.{Ordering}
+use Rattle.std.specs.BTreeMap.{BTreeMap, get}
+use Rattle.sect_base.specs.declared.limit.Id.{Id}
+use Rattle.sect_base.specs.declared.limit.Caller.{Caller}
+use Rattle.sect_once.specs.declared.entry.Entry.{Entry}
+use Rattle.sect_once.specs.declared.entry.Note.{Note}
+use Rattle.sect_once.specs.declared.entry.Note.TheVariants.{Acted, Faulted}
+use Rattle.sect_once.specs.declared.entry.Mark.{Mark}
+use Rattle.sect_once.specs.declared.entry.Mark.TheVariants.{Acts, Faults}
+
+module _ {C R : Type 0} where
+  -- the requests that acted, in their order
+  abbrev pub history : List (Note C R) → List (Entry C R)
+  history [] = []
+  history (Acted e ∷ notes) = e ∷ history notes
+  history (Faulted id ∷ notes) = history notes
+
+  -- how many requests were faulted
+  abbrev pub faulted : List (Note C R) → ℕ
+  faulted [] = 0
+  faulted (Acted e ∷ notes) = faulted notes
+  faulted (Faulted id ∷ notes) = 1 + faulted notes
+
+  -- the log: each mark that acts takes the next entry
+  abbrev pub log_of : List Mark → List (Entry C R) → List (Note C R)
+  log_of [] es = []
+  log_of (Acts ∷ ms) [] = []
+  log_of (Acts ∷ ms) (e ∷ es) = Acted e ∷ log_of ms es
+  log_of (Faults id ∷ ms) es = Faulted id ∷ log_of ms es
+
+  -- no entry has the id
+  abbrev pub IsNew : Id → List (Entry C R) → Type 0
+  IsNew id es = (place : ℕ) (e : Entry C R) → slice_get es place ≡ Some e → e.id ≡ id → ⊥
+
+  -- no id stands in two entries
+  abbrev pub ActsOnce : List (Entry C R) → Type 0
+  ActsOnce es = (p q : ℕ) (e f : Entry C R) → slice_get es p ≡ Some e → slice_get es q ≡ Some f → e.id ≡ f.id → p ≡ q
+
+  -- the map has each entry's place at its id, and nothing else
+  pub record IsIndex (cmp : Id → Id → Ordering) (places : BTreeMap Id ℕ) (es : List (Entry C R)) : Type 0 where
+    pub found : (id : Id) (place : ℕ) → get cmp places id ≡ Some place → (e : Entry C R) × (slice_get es place ≡ Some e) × (e.id ≡ id)
+    pub all : (place : ℕ) (e : Entry C R) → slice_get es place ≡ Some e → get cmp places e.id ≡ Some place
+
+  -- the log in which these entries acted and nothing was faulted
+  abbrev pub acted_log : List (Entry C R) → List (Note C R)
+  acted_log [] = []
+  acted_log (e ∷ es) = Acted e ∷ acted_log es
+
+module _ {C R : Type 0} (is_row : Entry C R → List ℕ → Type 0) where
+  -- the rows of the entries have so many bytes in all
+  pub record HaveBytes (es : List (Entry C R)) (n : ℕ) : Type 0 where
+    pub rows : List (List ℕ)
+    pub are_rows : AllZip is_row es rows
+    pub sum : n ≡ sum_by length rows
+
+  -- the rows of the entries have 2^28 bytes or more
+  pub record AreHeavy (es : List (Entry C R)) : Type 0 where
+    pub size : ℕ
+    pub bytes : HaveBytes es size
+    pub heavy : 2 ^ 28 ≤ size
+
+  -- a log is full by its notes, or by the bytes of its rows
+  abbrev pub IsFull : List (Note C R) → Type 0
+  IsFull log = (2 ^ 20 ≤ length log) ⊎ AreHeavy (history log)
+
+  -- each note was added to a log that wasn't full
+  abbrev pub NeverFull : List (Note C R) → Type 0
+  NeverFull log = (before : List (Note C R)) (note : Note C R) (after : List (Note C R)) → log ≡ before ++ note ∷ after → IsFull before → ⊥
+
+  -- the rows, where they are told, are those of the entries
+  abbrev pub TellsRows : Option (List (List ℕ)) → List (Entry C R) → Type 0
+  TellsRows None es = ⊤
+  TellsRows (Some rows) es = AllZip is_row es rows
+
+-- how many marks act
+abbrev pub acting : List Mark → ℕ
+acting [] = 0
+acting (Acts ∷ ms) = 1 + acting ms
+acting (Faults id ∷ ms) = acting ms
+
+-- how many marks are of faults
+abbrev pub faulting : List Mark → ℕ
+faulting [] = 0
+faulting (Acts ∷ ms) = faulting ms
+faulting (Faults id ∷ ms) = 1 + faulting ms
+
+module _ {S C R : Type 0} (stepped : S → ℕ → Caller → C → S × R) where
+  -- the state after the entries
+  abbrev pub state_after : S → List (Entry C R) → S
+  state_after s [] = s
+  state_after s (e ∷ es) = state_after (stepped s e.day e.id.caller e.command).0 es
+
+  -- each reply is the object's at its place
+  abbrev pub IsReplay : S → List (Entry C R) → Type 0
+  IsReplay s [] = Unit {0}
+  IsReplay s (e ∷ es) = ((stepped s e.day e.id.caller e.command).1 ≡ e.reply) × IsReplay (stepped s e.day e.id.caller e.command).0 es
+
+  -- each reply is the replay's at its place, and no id stands in two entries
+  pub record IsLegal (start : S) (log : List (Note C R)) : Type 0 where
+    pub replies : IsReplay start (history log)
+    pub once : ActsOnce (history log)

@@ -1,0 +1,6 @@
+pub mod Desks
+pub mod Faults
+pub mod History
+pub mod Opening
+pub mod Tallies
+pub mod TallyLaws

@@ -1,0 +1,148 @@
+// How a request acts: it steps, copies its reply, prints its row and appends it.
+ghost use Rattle.std.specs.Prelude.{◌≡◌, ℕ, ◌+◌, ◌<◌, ◌≤◌, ◌^◌, ◌++◌, [], ◌∷◌, List, cond, length, Some, None, IfOk, OnOk, OnErr, IfErr};
+ghost use Rattle.std.specs.BTreeMap.{get, is_at};
+ghost use Rattle.sect_base.specs.declared.limit.Id.{Id};
+ghost use Rattle.sect_edge.specs.declared.edge.KeepFault.{KeepFault};
+ghost use Rattle.sect_edge.specs.Causes.{HasCauseFor};
+ghost use Rattle.sect_edge.specs.Keeper.{AddsRow, KeepsRows};
+ghost use Rattle.sect_once.specs.declared.entry.Entry.{Entry};
+ghost use Rattle.sect_once.specs.Desks.{Adds};
+ghost use Rattle.sect_once.specs.History.{AreHeavy, IsNew};
+
+use crate::entry::Entry;
+use crate::object::Object;
+use crate::past::Past;
+use sect_base::{Id, Memory};
+use sect_edge::{KeepFault, Keeper};
+use sect_time::Day;
+use std::alloc::Global;
+use std::collections::BTreeMap;
+
+// A step that was taken: its entry, a copy of the reply, the entry's row, and how to undo it.
+pub(crate) struct Stepped<C, R, U> {
+    pub(crate) entry: Entry<C, R>,
+    pub(crate) reply: R,
+    pub(crate) row: Vec<u8>,
+    pub(crate) undo: U,
+}
+
+// A copy of the entry's reply, and its row.
+fn written<O: Object>(
+    alloc: Global,
+    entry: &Entry<O::Command, O::Reply>,
+) -> Result<(O::Reply, Vec<u8>), Memory>
+    requires { (s : O) × ((O.stepped s entry.now.day entry.now.id.caller entry.now.command).1 ≡ entry.now.reply) }
+    ensures { IfOk result (λ r. (r.0 ≡ entry.now.reply) × O.is_row entry.now r.1.items) }
+{
+    let reply = O::copy_reply(alloc, &entry.reply)?;
+    let mut row = Vec::new(alloc);
+    O::print_entry(entry, &mut row)?;
+    Ok((reply, row))
+}
+
+// Steps the object, and prints what is to be kept of it.
+fn step<O: Object>(
+    alloc: Global,
+    object: &mut O,
+    id: Id,
+    day: Day,
+    command: O::Command,
+) -> Result<Stepped<O::Command, O::Reply, O::Undo>, Memory>
+    ensures state { IfOk result (λ s. object.new ≡ (O.stepped object.old day id.caller command).0) }
+    ensures entry { IfOk result (λ s. s.entry ≡ record { id = id; day = day; command = command; reply = s.reply }) }
+    ensures reply { IfOk result (λ s. s.reply ≡ (O.stepped object.old day id.caller command).1) }
+    ensures row { IfOk result (λ s. O.is_row s.entry s.row.items) }
+    ensures undo { IfOk result (λ s. O.restores s.undo object.new object.old) }
+    ensures err { OnErr result (object.new ≡ object.old) }
+{
+    let (reply, undo) = object.step(day, id.caller, &command)?;
+    let entry = Entry {
+        id,
+        day,
+        command,
+        reply,
+    };
+    match written::<O>(alloc, &entry) {
+        Ok((reply, row)) => Ok(Stepped {
+            entry,
+            reply,
+            row,
+            undo,
+        }),
+        Err(memory) => {
+            object.undo(undo);
+            Err(memory)
+        }
+    }
+}
+
+// Appends the row, and gives the id its place.
+fn keep<K: Keeper>(
+    places: &mut BTreeMap<Id, u32>,
+    keeper: &mut K,
+    id: Id,
+    place: u32,
+    row: &[u8],
+) -> Result<(), KeepFault>
+    requires { get ⟦<Id as Ord>⟧.cmp places.old id ≡ None }
+    ensures places { OnOk result ((q : Id) → get ⟦<Id as Ord>⟧.cmp places.new q ≡ cond (is_at (⟦<Id as Ord>⟧.cmp id) q) (Some place) (get ⟦<Id as Ord>⟧.cmp places.old q)) }
+    ensures places_stay { OnErr result ((q : Id) → get ⟦<Id as Ord>⟧.cmp places.new q ≡ get ⟦<Id as Ord>⟧.cmp places.old q) }
+    ensures rows { OnOk result (AddsRow (K.rows keeper.old) (K.rows keeper.new) row.now) }
+    ensures rows_stay { OnErr result (KeepsRows (K.rows keeper.old) (K.rows keeper.new)) }
+    ensures cause { HasCauseFor KeepFault.Failed (K.faults keeper.old) (K.faults keeper.new) result }
+{
+    if places.insert(id, place).is_err() {
+        return Err(KeepFault::Memory);
+    }
+    match keeper.append(row) {
+        Ok(()) => Ok(()),
+        Err(fault) => {
+            places.remove(&id);
+            Err(fault)
+        }
+    }
+}
+
+impl<O: Object> Past<O> {
+    /// A new request acts, and its row is appended. On a fault the past and the keeper's rows are as before.
+    pub(crate) fn act<K: Keeper>(
+        &mut self,
+        alloc: Global,
+        keeper: &mut K,
+        id: Id,
+        day: Day,
+        command: O::Command,
+    ) -> Result<O::Reply, KeepFault>
+        requires new { IsNew id self.old.entries }
+        requires notes { length self.old.entries < 2 ^ 20 }
+        requires bytes { AreHeavy O.is_row self.old.entries → ⊥ }
+        ensures ok { IfOk result (λ reply. Adds O.stepped O.is_row (record { id = id; day = day; command = command; reply = reply }) self.old self.new (K.rows keeper.old) (K.rows keeper.new)) }
+        ensures same { OnErr result (self.new ≡ self.old) }
+        ensures rows { OnErr result (KeepsRows (K.rows keeper.old) (K.rows keeper.new)) }
+        ensures cause { HasCauseFor KeepFault.Failed (K.faults keeper.old) (K.faults keeper.new) result }
+    {
+        self.entries.reserve(1)?;
+        let Ok(stepped) = step(alloc, &mut self.object, id, day, command) else {
+            return Err(KeepFault::Memory);
+        };
+        let Stepped {
+            entry,
+            reply,
+            row,
+            undo,
+        } = stepped;
+        let place = self.entries.len() as u32;
+        let kept = keep(&mut self.places, keeper, id, place, row.as_slice());
+        match kept {
+            Ok(()) => {
+                self.row_bytes += row.len() as u64;
+                self.entries.push_reserved(entry);
+                Ok(reply)
+            }
+            Err(fault) => {
+                self.object.undo(undo);
+                Err(fault)
+            }
+        }
+    }
+}

@@ -1,0 +1,93 @@
+// What a desk needs of its object.
+ghost use Rattle.std.specs.Prelude.{◌≡◌, ◌++◌, ℕ, List, Option, ◌↔◌, IsTrue, IfOk, OnOk, OnErr, IfSome, IfNone};
+ghost use Rattle.sect_base.specs.declared.limit.Caller.{Caller};
+ghost use Rattle.sect_once.specs.declared.entry.Entry.{Entry};
+
+use crate::entry::Entry;
+use sect_base::{Caller, Memory};
+use sect_time::Day;
+use std::alloc::Global;
+
+/// An object whose commands act one at a time, and whose entries have rows as texts.
+pub trait Object: Sized {
+    type Command: Drop;
+
+    type Reply: Drop;
+
+    type Undo: Drop;
+
+    type Query;
+
+    type View;
+
+    /// The state at the start.
+    ghost start: { Self };
+
+    /// The state and the reply after a command of a caller on a day.
+    ghost stepped: { Self → ℕ → Caller → Self.Command → Self × Self.Reply };
+
+    /// What a step left brings the second state, which that step gave, back to the first, from which it came.
+    ghost restores: { Self.Undo → Self → Self → Type 0 };
+
+    /// What a query is answered in a state.
+    ghost looked: { Self → Self.Query → Self.View };
+
+    /// The row is the text of the entry.
+    ghost is_row: { Entry Self.Command Self.Reply → List ℕ → Type 0 };
+
+    /// The object at the start.
+    fn empty(alloc: Global) -> Self
+        ensures { result ≡ start };
+
+    /// Acts a command. After want of memory the object is as before.
+    fn step(
+        &mut self,
+        day: Day,
+        caller: Caller,
+        command: &Self::Command,
+    ) -> Result<(Self::Reply, Self::Undo), Memory>
+        ensures state { IfOk result (λ r. self.new ≡ (stepped self.old day caller command.now).0) }
+        ensures reply { IfOk result (λ r. r.0 ≡ (stepped self.old day caller command.now).1) }
+        ensures undo { IfOk result (λ r. restores r.1 self.new self.old) }
+        ensures err { OnErr result (self.new ≡ self.old) };
+
+    /// Takes back the last step. It takes no memory.
+    fn undo(&mut self, undo: Self::Undo)
+        requires { (before : Self) × restores undo self.old before }
+        ensures { (before : Self) → restores undo self.old before → self.new ≡ before };
+
+    /// Answers a query.
+    fn look(&self, query: &Self::Query) -> Result<Self::View, Memory>
+        ensures { IfOk result (λ v. v ≡ looked self.now query.now) };
+
+    fn same_command(a: &Self::Command, b: &Self::Command) -> bool
+        ensures { IsTrue result ↔ (a.now ≡ b.now) };
+
+    fn same_reply(a: &Self::Reply, b: &Self::Reply) -> bool
+        ensures { IsTrue result ↔ (a.now ≡ b.now) };
+
+    fn copy_reply(alloc: Global, reply: &Self::Reply) -> Result<Self::Reply, Memory>
+        ensures { IfOk result (λ r. r ≡ reply.now) };
+
+    /// Writes the entry's row behind what is there. Its reply is one that a step gives for its command.
+    fn print_entry(
+        entry: &Entry<Self::Command, Self::Reply>,
+        into: &mut Vec<u8>,
+    ) -> Result<(), Memory>
+        requires { (s : Self) × ((stepped s entry.now.day entry.now.id.caller entry.now.command).1 ≡ entry.now.reply) }
+        ensures { OnOk result ((row : List ℕ) × is_row entry.now row × (into.new.items ≡ into.old.items ++ row)) };
+
+    /// The entry of which this is the row, where there is one.
+    fn read_entry(
+        alloc: Global,
+        row: &[u8],
+    ) -> Result<Option<Entry<Self::Command, Self::Reply>>, Memory>
+        ensures found { IfOk result (λ found. IfSome found (λ entry. is_row entry row.now)) }
+        ensures none { IfOk result (λ found. IfNone found ((entry : Entry Self.Command Self.Reply) → is_row entry row.now → ⊥)) };
+
+    /// An entry has at most one row.
+    ghost one_row: { (entry : Entry Self.Command Self.Reply) (a b : List ℕ) → is_row entry a → is_row entry b → a ≡ b };
+
+    /// A row is of at most one entry.
+    ghost one_entry: { (a b : Entry Self.Command Self.Reply) (row : List ℕ) → is_row a row → is_row b row → a ≡ b };
+}

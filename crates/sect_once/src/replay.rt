@@ -1,0 +1,171 @@
+// How a desk is opened: the keeper's rows are replayed, one after another.
+ghost use Rattle.std.specs.Prelude.{◌≡◌, ◌↔◌, ◌<◌, ◌≤◌, List, [], length, replicate, true, false, IfErr, IfOk, IsTrue, OnErr, OnOk};
+ghost use Rattle.sect_edge.specs.Keeper.{KeepsRows};
+ghost use Rattle.sect_once.specs.declared.entry.Mark.TheVariants.{Acts};
+ghost use Rattle.sect_once.specs.History.{acted_log, IsFull, IsNew, NeverFull, TellsRows};
+ghost use Rattle.sect_once.specs.Opening.{HasActed, IsCause, IsRowCause, Opens, Reopens, Resumes, Takes, TakesNext};
+
+use crate::answer::OpenFault;
+use crate::desk::Desk;
+use crate::entry::{Entry, Mark};
+use crate::object::Object;
+use crate::past::{MOST_NOTES, Past, place_in};
+use sect_base::{Id, Memory};
+use sect_edge::Keeper;
+use std::alloc::{AllocError, Global};
+use std::snapshot::Snapshot;
+
+// As many marks of requests that acted.
+fn acts(alloc: Global, count: usize) -> Result<Vec<Mark>, AllocError>
+    ensures { IfOk result (λ marks. marks.items ≡ replicate count Acts) }
+{
+    Ok(vec![in alloc; Mark::Acts; count]?)
+}
+
+impl<O: Object> Past<O> {
+    // Whether the log of these entries alone is full.
+    fn is_full(&self) -> bool
+        ensures { IsTrue result ↔ IsFull O.is_row (acted_log self.now.entries) }
+    {
+        self.entries.len() >= MOST_NOTES || self.is_heavy()
+    }
+
+    // Whether an entry has the id.
+    fn has(&self, id: &Id) -> bool
+        ensures acted { result ≡ true → HasActed O.start O.stepped O.is_row id.now self.now.entries }
+        ensures new { result ≡ false → IsNew id.now self.now.entries }
+    {
+        self.places.contains_key(id)
+    }
+
+    // Takes the entry where its reply is the object's. Else, and after want of memory, all is as before.
+    fn resume(&mut self, entry: Entry<O::Command, O::Reply>, row: &[u8]) -> Result<bool, Memory>
+        requires room { IsFull O.is_row (acted_log self.old.entries) → ⊥ }
+        requires written { O.is_row entry row.now }
+        requires new { IsNew entry.id self.old.entries }
+        ensures resumed { IfOk result (Resumes O.start O.stepped O.is_row self.old self.new entry) }
+        ensures err { OnErr result (self.new ≡ self.old) }
+    {
+        self.entries.reserve(1)?;
+        let place = self.entries.len() as u32;
+        let (reply, undo) = self
+            .object
+            .step(entry.day, entry.id.caller, &entry.command)?;
+        if !O::same_reply(&reply, &entry.reply) {
+            self.object.undo(undo);
+            return Ok(false);
+        }
+        match place_in(&mut self.places, entry.id, place) {
+            Ok(()) => {
+                self.row_bytes += row.len() as u64;
+                self.entries.push_reserved(entry);
+                Ok(true)
+            }
+            Err(memory) => {
+                self.object.undo(undo);
+                Err(memory)
+            }
+        }
+    }
+
+    // Takes a row behind the entries. Where it's bad, and after want of memory, all is as before.
+    fn take(&mut self, alloc: Global, row: &[u8]) -> Result<bool, Memory>
+        ensures taken { IfOk result (Takes O.start O.stepped O.is_row self.old self.new row.now) }
+        ensures err { OnErr result (self.new ≡ self.old) }
+    {
+        if self.is_full() {
+            return Ok(false);
+        }
+        let Some(entry) = O::read_entry(alloc, row)? else {
+            return Ok(false);
+        };
+        if self.has(&entry.id) {
+            return Ok(false);
+        }
+        self.resume(entry, row)
+    }
+
+    // Takes the keeper's row with the number of the entries.
+    fn take_next<K: Keeper>(
+        &mut self,
+        alloc: Global,
+        keeper: &mut K,
+        at: u64,
+        row: &mut Vec<u8>,
+    ) -> Result<(), OpenFault>
+        requires { at ≡ length self.old.entries }
+        ensures rows { KeepsRows (K.rows keeper.old) (K.rows keeper.new) }
+        ensures later { K.faults keeper.old ≤ K.faults keeper.new }
+        ensures ok { OnOk result (TakesNext O.start O.stepped O.is_row (K.rows keeper.old) self.old self.new at) }
+        ensures err { IfErr result (IsRowCause O.start O.stepped O.is_row K.rows K.faults keeper.old keeper.new self.old.entries at) }
+    {
+        let number = self.acted();
+        if !keeper.row(at, row)? {
+            return Err(OpenFault::BadEntry(number));
+        }
+        if self.take(alloc, row.as_slice())? {
+            Ok(())
+        } else {
+            Err(OpenFault::BadEntry(number))
+        }
+    }
+
+    // Replays the keeper's rows.
+    fn replay<K: Keeper>(alloc: Global, keeper: &mut K) -> Result<Past<O>, OpenFault>
+    where
+        O: Drop,
+        ensures rows { KeepsRows (K.rows keeper.old) (K.rows keeper.new) }
+        ensures later { K.faults keeper.old ≤ K.faults keeper.new }
+        ensures tells { IfOk result (λ past. TellsRows O.is_row (K.rows keeper.old) past.entries) }
+        ensures roomy { IfOk result (λ past. NeverFull O.is_row (acted_log past.entries)) }
+        ensures err { IfErr result (IsCause O.start O.stepped O.is_row K.rows K.faults keeper.old keeper.new) }
+    {
+        let count = keeper.len()?;
+        let mut past = Past::new(alloc);
+        let mut row = Vec::new(alloc);
+        for at in 0..count {
+            past.take_next(alloc, keeper, at, &mut row)?;
+        }
+        Ok(past)
+    }
+}
+
+impl<O: Object, K: Keeper> Desk<O, K> {
+    // The desk of a keeper's rows.
+    fn replayed(alloc: Global, keeper: K) -> Result<Desk<O, K>, (OpenFault, K)>
+    where
+        O: Drop,
+        ensures { Opens O.start O.stepped O.is_row K.rows K.faults keeper result }
+    {
+        let mut keeper = keeper;
+        let opened = Snapshot::of(&keeper);
+        let past = match Past::replay(alloc, &mut keeper) {
+            Ok(past) => past,
+            Err(fault) => return Err((fault, keeper)),
+        };
+        match acts(alloc, past.acted() as usize) {
+            Ok(marks) => {
+                let desk = Desk {
+                    alloc,
+                    past,
+                    marks,
+                    keeper,
+                    opened,
+                };
+                desk.is_sound();
+                Ok(desk)
+            }
+            Err(_) => Err((OpenFault::Memory, keeper)),
+        }
+    }
+    /// Opens a keeper: the object acts the entries of its rows again, one after another. Where it doesn't open, the
+    /// keeper comes back with the rows that it had.
+    pub fn open(alloc: Global, keeper: K) -> Result<Desk<O, K>, (OpenFault, K)>
+    where
+        O: Drop,
+        ensures opens { Opens O.start O.stepped O.is_row K.rows K.faults keeper result }
+        ensures reopens { Reopens O.start O.stepped O.is_row K.rows K.faults keeper result }
+    {
+        Desk::replayed(alloc, keeper)
+    }
+}

@@ -1,0 +1,202 @@
+// A small object: the sum of its commands.
+ghost use Rattle.std.specs.Prelude.{◌≡◌, ℕ, ◌<◌, ◌≤◌, ◌+◌, ◌-◌, ◌^◌, ◌++◌, [], ◌∷◌, min, drop, length, take, IfNone, IfSome};
+ghost use Rattle.std.specs.Int.{from_be_bytes, to_be_bytes, w32, w64};
+ghost use Rattle.sect_base.specs.declared.limit.Caller.{Caller};
+ghost use Rattle.sect_once.specs.declared.entry.Entry.{Entry};
+ghost use Rattle.sect_once.specs.Tallies.{IsTallyRow, caller_number, caller_tag};
+
+use crate::entry::Entry;
+use crate::object::Object;
+use sect_base::{Caller, Id, Memory, StudentId};
+use sect_time::Day;
+use std::alloc::Global;
+
+/// A sum, which stays at the greatest number where it would pass it. A command adds its number.
+#[derive(Drop)]
+pub struct Tally {
+    sum: u64,
+}
+
+impl Object for Tally {
+    type Command = u8;
+
+    type Reply = u64;
+
+    type Undo = u64;
+
+    type Query = ();
+
+    type View = u64;
+
+    ghost start = { record { sum = 0 } };
+
+    ghost stepped = { λ s day caller n. (record { sum = min (s.sum + n) (2 ^ 64 - 1) }, min (s.sum + n) (2 ^ 64 - 1)) };
+
+    ghost restores = { λ u after before. before.sum ≡ u };
+
+    ghost looked = { λ s q. s.sum };
+
+    ghost is_row = { IsTallyRow };
+
+    fn empty(_alloc: Global) -> Self {
+        Tally { sum: 0 }
+    }
+
+    fn step(&mut self, _day: Day, _caller: Caller, command: &u8) -> Result<(u64, u64), Memory> {
+        let before = self.sum;
+        self.sum = before.saturating_add(u64::from(*command));
+        Ok((self.sum, before))
+    }
+
+    fn undo(&mut self, undo: u64) {
+        self.sum = undo;
+    }
+
+    fn look(&self, _query: &()) -> Result<u64, Memory> {
+        Ok(self.sum)
+    }
+
+    fn same_command(a: &u8, b: &u8) -> bool {
+        a == b
+    }
+
+    fn same_reply(a: &u64, b: &u64) -> bool {
+        a == b
+    }
+
+    fn copy_reply(_alloc: Global, reply: &u64) -> Result<u64, Memory> {
+        Ok(*reply)
+    }
+
+    fn print_entry(entry: &Entry<u8, u64>, into: &mut Vec<u8>) -> Result<(), Memory> {
+        let Entry {
+            id,
+            day,
+            command,
+            reply,
+        } = entry;
+        into.extend_from_slice(&row_of(*day, id.caller, id.number, *command, *reply))?;
+        Ok(())
+    }
+
+    fn read_entry(_alloc: Global, row: &[u8]) -> Result<Option<Entry<u8, u64>>, Memory> {
+        if row.len() == 26 {
+            Ok(entry_of(row))
+        } else {
+            Ok(None)
+        }
+    }
+
+    ghost use Rattle.sect_once.specs.TallyLaws.{tally_one_entry, tally_one_row};
+
+    ghost one_row = { tally_one_row };
+
+    ghost one_entry = { tally_one_entry };
+}
+
+// The letter of a caller.
+fn tag_of(caller: Caller) -> u8
+    ensures { result ≡ caller_tag caller }
+{
+    match caller {
+        Caller::Registrar(_) => b'r',
+        Caller::Student(_) => b's',
+    }
+}
+
+// The number of a caller.
+fn number_of(caller: Caller) -> u32
+    ensures { result ≡ caller_number caller }
+{
+    match caller {
+        Caller::Registrar(number) => number,
+        Caller::Student(student) => student.0,
+    }
+}
+
+// The number of a day.
+fn day_number(day: Day) -> u32
+    ensures same { result ≡ day }
+    ensures range { result ≤ 84005 }
+{
+    day.get() as u32
+}
+
+// The row of an entry with these parts.
+fn row_of(day: Day, caller: Caller, number: u64, command: u8, sum: u64) -> [u8; 26]
+    ensures { IsTallyRow (record { id = record { caller = caller; number = number }; day = day; command = command; reply = sum }) result }
+{
+    let [a, b, c, d] = day_number(day).to_be_bytes();
+    let tag = tag_of(caller);
+    let [e, f, g, h] = number_of(caller).to_be_bytes();
+    let [i, j, k, l, m, n, o, p] = number.to_be_bytes();
+    let [q, r, s, t, u, v, w, x] = sum.to_be_bytes();
+    [
+        a, b, c, d, tag, e, f, g, h, i, j, k, l, m, n, o, p, command, q, r, s, t, u, v, w, x,
+    ]
+}
+
+fn u32_at(row: &[u8], at: usize) -> u32
+    requires { at + 4 ≤ length row.now }
+    ensures { to_be_bytes w32 result ≡ take 4 (drop at row.now) }
+{
+    u32::from_be_bytes([row[at], row[at + 1], row[at + 2], row[at + 3]])
+}
+
+fn u64_at(row: &[u8], at: usize) -> u64
+    requires { at + 8 ≤ length row.now }
+    ensures { to_be_bytes w64 result ≡ take 8 (drop at row.now) }
+{
+    u64::from_be_bytes([
+        row[at],
+        row[at + 1],
+        row[at + 2],
+        row[at + 3],
+        row[at + 4],
+        row[at + 5],
+        row[at + 6],
+        row[at + 7],
+    ])
+}
+
+// The day with this number, where there is one.
+fn day_of(number: u32) -> Option<Day>
+    ensures found { IfSome result (λ day. (day ≡ number) × (day ≤ 84005)) }
+    ensures none { IfNone result (84005 < number) }
+{
+    if number <= 84_005 {
+        Day::new(number as i32)
+    } else {
+        None
+    }
+}
+
+// The caller with this letter and number, where there is one.
+fn caller_of(tag: u8, number: u32) -> Option<Caller>
+    ensures found { IfSome result (λ caller. (caller_tag caller ≡ tag) × (caller_number caller ≡ number)) }
+    ensures none { IfNone result ((caller : Caller) → caller_tag caller ≡ tag → ⊥) }
+{
+    match tag {
+        b'r' => Some(Caller::Registrar(number)),
+        b's' => Some(Caller::Student(StudentId(number))),
+        _ => None,
+    }
+}
+
+// The entry of a row of the right length.
+fn entry_of(row: &[u8]) -> Option<Entry<u8, u64>>
+    requires { length row.now ≡ 26 }
+    ensures found { IfSome result (λ entry. IsTallyRow entry row.now) }
+    ensures none { IfNone result ((entry : Entry ℕ ℕ) → IsTallyRow entry row.now → ⊥) }
+{
+    let day = day_of(u32_at(row, 0))?;
+    let caller = caller_of(row[4], u32_at(row, 5))?;
+    let number = u64_at(row, 9);
+    let reply = u64_at(row, 18);
+    Some(Entry {
+        id: Id { caller, number },
+        day,
+        command: row[17],
+        reply,
+    })
+}
