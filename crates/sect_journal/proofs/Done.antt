@@ -1,18 +1,18 @@
 -- What the writes of a journal have done once they are durable.
-use Rattle.std.proofs.Common.{◌≡◌, ◌≢◌, ◌⊎◌, inl, inr, ℕ, suc, ◌+◌, ◌-◌, ◌<◌, ◌≤◌, ◌^◌, Bool, true, false, nat_le, List, [], ◌∷◌, ◌++◌, length, get_or, take, drop, slice_index, map, All, Option, Some, None, Result, Ok, refl, sym, ◌∙◌, ap, subst, arith, append_assoc, length-append, length-drop}
+use Rattle.std.proofs.Common.{◌≡◌, inr, ℕ, ◌+◌, ◌-◌, ◌<◌, ◌≤◌, ◌^◌, Bool, true, false, List, [], ◌∷◌, ◌++◌, length, get_or, take, drop, map, Option, Some, None, Ok, refl, sym, ◌∙◌, ap, subst, arith, append_assoc, length-append, length-drop}
 use Rattle.std.proofs.lemmas.Bool.Decides.{nat_tests}
 use Rattle.std.proofs.lemmas.Nat.{from_be_bytes-to_be_bytes_8}
-use Rattle.std.proofs.lemmas.List.{length-take-le, take_at, drop_at, drop-drop, get_or_at, get_or-drop, map_push, length_push}
+use Rattle.std.proofs.lemmas.List.{length-take-le, take_at, drop_at, drop-drop, get_or_at, get_or-drop, map_push}
 use Rattle.std.proofs.lemmas.List.Elements.{All-nil, All-push, All-weaker}
 use Rattle.std.specs.Int.{w64, from_be_bytes, to_be_bytes}
 use Rattle.sect_journal.specs.declared.journal.Span.{Span}
 use Rattle.sect_journal.specs.Disk.{Content, Told, IsImage, Torn, put, touched, goes_to, synced, after_write, after_sync, Stays}
 use Rattle.sect_journal.specs.Text.{row_length, row_behind, holds_row, record_of, journal_rows}
-use Rattle.sect_journal.specs.Standing.{IsFront, IsClosed, IsAtRest, IsTorn, HasRows, IsKept, IsLoose, Leaves, OpensTo, cut, rows_at, loose_at, where_told}
+use Rattle.sect_journal.specs.Standing.{IsFront, IsClosed, IsAtRest, IsTorn, HasRows, IsKept, IsLoose, Leaves, cut, rows_at, loose_at, where_told}
 use Rattle.sect_journal.proofs.Front.{front_more}
 use Rattle.sect_journal.proofs.Images.{rest_opens, rest_leaves, torn_leaves, only_one}
 use Rattle.sect_journal.proofs.Writes.{put_torn}
-use Rattle.sect_journal.proofs.Keeps.{rows_same, has_same, torn_front, closed_behind, rest_goes_on, torn_goes_on, stays_two}
+use Rattle.sect_journal.proofs.Keeps.{rows_same, has_same, torn_front, rest_goes_on, torn_goes_on, stays_two}
 
 -- the byte that was written at a gate
 byte_put : (old : List ℕ) (gate b : ℕ) → gate ≤ length old → get_or (put old gate (b ∷ [])) gate 0 ≡ b

@@ -1,6 +1,6 @@
 -- How rows are read one after another.
-use Rattle.std.proofs.Common.{◌≡◌, ◌≢◌, ℕ, zero, suc, ◌+◌, ◌-◌, ◌<◌, ◌≤◌, List, [], ◌∷◌, ◌++◌, length, get_or, take, drop, slice_index, Bool, true, if◌then◌else◌, nat_le, Result, Ok, Err, refl, sym, ◌∙◌, ap, subst, arith, append_assoc, append-nil, length-append, length-drop}
-use Rattle.std.proofs.lemmas.List.{length-take-le, take-take, take-append-le, take-append-drop, drop_at, drop-append-le, drop_more, drop-drop, drop-take, take_at, take_all}
+use Rattle.std.proofs.Common.{◌≡◌, ◌≢◌, ℕ, zero, suc, ◌+◌, ◌<◌, ◌≤◌, List, [], ◌∷◌, ◌++◌, length, get_or, take, drop, slice_index, true, Result, Ok, Err, refl, sym, ◌∙◌, ap, subst, arith, append_assoc, length-append, length-drop}
+use Rattle.std.proofs.lemmas.List.{length-take-le, take-take, take-append-le, drop_at, drop-append-le, drop_more, drop-drop, drop-take, take_at}
 use Rattle.std.proofs.Math.Seq.{take-add}
 use Rattle.std.proofs.lemmas.Bool.Decides.{nat_tests}
 use Rattle.std.specs.Int.{w64, from_be_bytes}

@@ -1,17 +1,16 @@
 -- What the first bytes behind a place tell of the gate there.
-use Rattle.std.proofs.Common.{◌≡◌, ◌≢◌, ◌⊎◌, inl, inr, ⊎_elim, ℕ, zero, suc, ◌+◌, ◌-◌, ◌<◌, ◌≤◌, min, Bool, true, false, ◌&&◌, nat_le, ◌==◌, if◌then◌else◌, List, [], ◌∷◌, ◌++◌, length, get_or, take, drop, slice_index, map, All, Option, Some, None, Result, Ok, Err, refl, sym, ◌∙◌, ap, subst, arith, length-take, length-drop}
+use Rattle.std.proofs.Common.{◌≡◌, ◌≢◌, inl, inr, ℕ, zero, suc, ◌+◌, ◌-◌, ◌<◌, ◌≤◌, min, Bool, true, false, ◌&&◌, nat_le, ◌==◌, if◌then◌else◌, List, [], ◌∷◌, ◌++◌, length, get_or, take, drop, map, Option, Some, None, refl, sym, ◌∙◌, ap, subst, arith, length-drop}
 use Rattle.std.proofs.lemmas.Bool.{cases_eq, cases_lt}
 use Rattle.std.proofs.lemmas.Bool.Decides.{nat_tests}
-use Rattle.std.proofs.lemmas.List.{take-take, take_min, drop_more, drop_all, take_all, length-take-le, take-append-drop, map_push}
+use Rattle.std.proofs.lemmas.List.{take-take, take_min, drop_more, drop_all, length-take-le, take-append-drop, map_push}
 use Rattle.std.proofs.lemmas.List.Elements.{All-nil, All-push, All-weaker}
 use Rattle.std.specs.Int.{w64, from_be_bytes}
 use Rattle.sect_journal.specs.declared.journal.Span.{Span}
-use Rattle.sect_journal.specs.declared.gate.Gate.{Gate}
 use Rattle.sect_journal.specs.declared.gate.Gate.TheVariants.{Closed, Bad, Open}
 use Rattle.sect_journal.specs.Disk.{Told, IsSize, Reads}
-use Rattle.sect_journal.specs.Text.{journal_rows, row_length, holds_row, with_rows, rows_from}
-use Rattle.sect_journal.specs.Standing.{IsFront, IsClosed, HasRows, cut}
-use Rattle.sect_journal.specs.Opening.{gate_of, GateIs, IsOpen, HasRead, ReadsTo, EndsAt, IsBadAt}
+use Rattle.sect_journal.specs.Text.{journal_rows, row_length, with_rows, rows_from}
+use Rattle.sect_journal.specs.Standing.{IsFront, cut}
+use Rattle.sect_journal.specs.Opening.{gate_of, GateIs, ReadsTo, EndsAt, IsBadAt}
 use Rattle.sect_journal.specs.declared.journal.JournalFault.TheVariants.{BadJournal}
 use Rattle.sect_journal.proofs.Front.{reads_bad, front_none, front_more}
 

@@ -1,10 +1,9 @@
 -- What a journal is once it is opened.
-use Rattle.std.proofs.Common.{◌≡◌, ℕ, ◌+◌, ◌<◌, ◌≤◌, Bool, false, List, [], ◌∷◌, ◌++◌, length, take, drop, map, All, Option, Some, None, Result, Ok, refl, sym, ◌∙◌, ap, subst, arith}
+use Rattle.std.proofs.Common.{◌≡◌, ℕ, ◌+◌, ◌<◌, ◌≤◌, false, List, [], ◌∷◌, Option, Some, None, refl, sym, subst, arith}
 use Rattle.std.proofs.lemmas.List.Elements.{All-nil}
 use Rattle.sect_journal.specs.declared.journal.Span.{Span}
-use Rattle.sect_journal.specs.Disk.{Content, Told, IsImage, put, synced, touched, goes_to, after_write, after_sync}
-use Rattle.sect_journal.specs.Text.{journal_rows}
-use Rattle.sect_journal.specs.Standing.{Standing, IsClosed, IsAtRest, HasRows, LeavesNow, cut, rows_at, loose_at}
+use Rattle.sect_journal.specs.Disk.{Content, Told, IsImage, put, synced, touched, after_sync}
+use Rattle.sect_journal.specs.Standing.{IsClosed, IsAtRest, HasRows, LeavesNow, rows_at, loose_at}
 use Rattle.sect_journal.specs.Opening.{EndsAt, HoldsRows, IsOpened, formatted}
 use Rattle.sect_journal.proofs.Front.{front_none}
 use Rattle.sect_journal.proofs.Images.{rest_opens, rest_leaves}

@@ -1,5 +1,5 @@
 -- The images that are picked are images.
-use Rattle.std.proofs.Common.{◌≡◌, ℕ, zero, suc, ◌+◌, ◌<◌, ◌≤◌, Bool, true, false, if◌then◌else◌, List, [], ◌∷◌, length, get_or, refl, sym, ◌∙◌, ap, subst, arith}
+use Rattle.std.proofs.Common.{◌≡◌, ℕ, zero, suc, ◌+◌, Bool, true, false, if◌then◌else◌, List, [], ◌∷◌, length, get_or, refl, sym, ◌∙◌, ap, subst, arith}
 use Rattle.sect_journal.specs.Disk.{Content, IsImage, is_touched}
 use Rattle.sect_journal.specs.Memory.{DiskState, told_by, marked}
 use Rattle.sect_journal.specs.Law.{told_image}

@@ -1,10 +1,10 @@
 -- How a disk in memory replays its calls.
-use Rattle.std.proofs.Common.{◌≡◌, ℕ, List, [], ◌∷◌, ◌++◌, length, map, Option, Some, Vec, Result, Ok, Err, OnOk, OnErr, IsErrOf, IsTrue, false, ◌⊎◌, inl, inr, ◌+◌, max, ◌≤◌, arith, refl, sym, ◌∙◌, ap, subst}
+use Rattle.std.proofs.Common.{◌≡◌, ℕ, List, [], ◌∷◌, ◌++◌, length, map, Option, Some, Vec, Result, Ok, Err, OnOk, OnErr, IsErrOf, IsTrue, false, ◌⊎◌, inl, inr, arith, refl, sym, ◌∙◌, ap, subst}
 use Rattle.std.proofs.lemmas.List.{map_push}
 use Rattle.sect_journal.specs.declared.memory.DiskCall.{DiskCall}
 use Rattle.std.specs.declared.alloc.Global.{Global}
 use Rattle.sect_journal.specs.declared.memory.DiskCall.TheVariants as calls
-use Rattle.sect_journal.specs.Disk.{Content, Told, Torn, put}
+use Rattle.sect_journal.specs.Disk.{Told, Torn, put}
 use Rattle.sect_journal.specs.Memory.{Step, DiskState, IsCached, step_of, after, replay, fresh, told_by, Looked}
 use Rattle.sect_edge.specs.Memory.{Calls}
 use Rattle.sect_journal.specs.declared.disk.DiskFault.{DiskFault}

@@ -1,9 +1,9 @@
 -- What is kept along a list of calls.
-use Rattle.std.proofs.Common.{◌≡◌, ◌⊎◌, inl, inr, ⊎_elim, ℕ, Bool, true, false, List, [], ◌∷◌, ◌++◌, if◌then◌else◌, All, Contains, Option, Some, None, refl, sym, ◌∙◌, ap, subst, arith, append-nil}
+use Rattle.std.proofs.Common.{◌≡◌, ⊎_elim, ℕ, true, false, List, [], ◌∷◌, ◌++◌, All, Contains, Option, Some, None, refl, sym, ◌∙◌, ap, subst, append-nil}
 use Rattle.std.specs.Prelude.{⊤}
 use Rattle.std.proofs.lemmas.List.Elements.{All-nil, All-weaker, All-contains, Contains-append_left, Contains-append_right, Contains-append_cases}
 use Rattle.sect_journal.specs.Disk.{Content, Told, Stays}
-use Rattle.sect_journal.specs.Standing.{Standing, Appends, Looks, Leaves, LeavesNow, where_told}
+use Rattle.sect_journal.specs.Standing.{Standing, Looks, Leaves, LeavesNow, where_told}
 use Rattle.sect_journal.specs.Opening.{IsOpened}
 use Rattle.sect_journal.specs.Runs.{Call, Append, Look, Takes, IsRun, acknowledged, unanswered, begun}
 use Rattle.sect_journal.proofs.Keeps.{leaves_more, stays_weaker, stays_none}

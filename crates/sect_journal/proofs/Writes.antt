@@ -1,7 +1,7 @@
 -- What a write changes.
-use Rattle.std.proofs.Common.{◌≡◌, ◌⊎◌, inl, inr, ℕ, ◌+◌, ◌-◌, ◌≤◌, max, List, [], ◌∷◌, ◌++◌, length, take, drop, Option, Some, None, refl, sym, ◌∙◌, ap, subst, arith, append_assoc, length-append, length-drop}
+use Rattle.std.proofs.Common.{◌≡◌, ℕ, ◌+◌, ◌-◌, ◌≤◌, List, ◌++◌, length, take, drop, Option, Some, None, refl, sym, ◌∙◌, ap, subst, arith, append_assoc, length-append, length-drop}
 use Rattle.std.proofs.lemmas.List.{take_at, drop_at, length-take-le, drop-drop}
-use Rattle.sect_journal.specs.Disk.{Content, Told, Torn, put, touched, goes_to, after_write, Tears, IsWithin}
+use Rattle.sect_journal.specs.Disk.{Told, Torn, put, after_write, Tears, IsWithin}
 
 -- a piece that was written is a write that stopped at its end
 pub put_torn : (old : List ℕ) (at : ℕ) (piece : List ℕ) → at ≤ length old → Torn at (length piece) old (put old at piece)

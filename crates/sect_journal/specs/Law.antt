@@ -1,9 +1,9 @@
 -- What a read of a disk in memory gives is always an image.
-use Rattle.std.proofs.Common.{◌≡◌, ◌⊎◌, inl, inr, ℕ, ◌+◌, ◌-◌, ◌<◌, ◌≤◌, max, Bool, true, false, ◌&&◌, ◌||◌, nat_le, nat_lt, List, [], ◌∷◌, ◌++◌, length, get_or, take, drop, slice_index, Option, Some, refl, sym, ◌∙◌, ap, subst, arith, length-append, length-drop, length-take}
+use Rattle.std.proofs.Common.{◌≡◌, ◌⊎◌, inl, inr, ℕ, ◌+◌, ◌-◌, ◌<◌, ◌≤◌, max, Bool, true, false, ◌&&◌, ◌||◌, nat_le, nat_lt, List, [], ◌∷◌, ◌++◌, length, get_or, take, drop, Some, refl, ◌∙◌, ap, subst, arith, length-append, length-drop, length-take}
 use Rattle.std.proofs.lemmas.Bool.{cases_lt}
 use Rattle.std.proofs.lemmas.Bool.Decides.{nat_tests}
-use Rattle.std.proofs.lemmas.List.{get_or_append_left, get_or-append_right, get_or-take, get_or-drop, length-take-le, drop-drop}
-use Rattle.sect_journal.specs.Disk.{Content, Told, IsImage, is_touched, reach, put, touched, synced, goes_to}
+use Rattle.std.proofs.lemmas.List.{get_or_append_left, get_or-append_right, get_or-take, get_or-drop, length-take-le}
+use Rattle.sect_journal.specs.Disk.{Content, Told, IsImage, is_touched, reach, put, touched}
 use Rattle.sect_journal.specs.Memory.{DiskState, Step, Looked, Wrote, Tore, Synced, after, replay, fresh, told_by}
 
 reach-push : (size at n : ℕ) (ranges : List (ℕ × ℕ)) → reach size (ranges ++ (at, n) ∷ []) ≡ max (reach size ranges) (at + n)

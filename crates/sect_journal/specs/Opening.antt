@@ -1,5 +1,5 @@
 -- What is found where a journal is opened.
-use Rattle.std.specs.Prelude.{◌≡◌, ◌⊎◌, ◌<◌, ◌≤◌, ℕ, ◌+◌, List, [], ◌∷◌, length, take, drop, map, slice_index, Bool, true, ◌&&◌, nat_le, ◌==◌, if◌then◌else◌, Option, Some, None, Result, Ok, Err, ⊤, All}
+use Rattle.std.specs.Prelude.{◌≡◌, ◌<◌, ◌≤◌, ℕ, ◌+◌, List, [], ◌∷◌, length, take, drop, map, slice_index, true, ◌&&◌, nat_le, ◌==◌, if◌then◌else◌, Option, Some, None, Ok, Err, ⊤, All}
 use Rattle.sect_edge.specs.Causes.{Rose}
 use Rattle.sect_journal.specs.declared.journal.Span.{Span}
 use Rattle.sect_journal.specs.declared.journal.JournalFault.{JournalFault}

@@ -1,7 +1,7 @@
 -- What contracts see of a journal, and what a crash leaves of it.
-use Rattle.std.specs.Prelude.{◌≡◌, ◌≢◌, ◌⊎◌, ◌<◌, ◌≤◌, ◌^◌, ℕ, ◌+◌, List, [], ◌∷◌, ◌++◌, length, take, drop, map, slice_index, Bool, true, false, Option, Some, None, Result, Ok, Err, ⊤, All, Contains, if◌then◌else◌}
+use Rattle.std.specs.Prelude.{◌≡◌, ◌≢◌, ◌⊎◌, ◌<◌, ◌≤◌, ℕ, ◌+◌, List, [], ◌∷◌, ◌++◌, length, take, drop, map, slice_index, Bool, true, false, Option, Some, None, Ok, ⊤, All, Contains, if◌then◌else◌}
 use Rattle.sect_journal.specs.declared.journal.Span.{Span}
-use Rattle.sect_journal.specs.Disk.{Content, Told, IsImage, moments, Stays, after_write, after_sync}
+use Rattle.sect_journal.specs.Disk.{Content, Told, IsImage, Stays, after_write, after_sync}
 use Rattle.sect_journal.specs.Text.{journal_rows, row_behind, row_length, holds_row, rows_from, with_rows, record_of}
 
 -- the disk, the acknowledged rows, the rows of which one may stand behind them after a crash, the place of the gate behind

@@ -1,5 +1,5 @@
 // Threads that share one tally's desk.
-ghost use Rattle.std.specs.Prelude.{◌≡◌, ◌<◌, ◌≤◌, length, vec_len, IfOk};
+ghost use Rattle.std.specs.Prelude.{⊤, ◌≡◌, ◌<◌, ◌≤◌, length, vec_len, IfOk};
 ghost use mathlib.Core.List.{IsPrefix};
 ghost use Rattle.sect_turn.specs.Passes.{front, own_calls, share, opening, IsIdle, IsPassOf};
 
@@ -37,7 +37,7 @@ struct Teller<'a, G> {
 impl<'a, O: Object<Command = u8>, K: Keeper, G: Gate> Work<Desk<O, K>> for Teller<'a, G> {
     type Given = Vec<u32>;
 
-    ghost did = { λ w before after calls places. length calls ≤ w.count };
+    ghost did = { λ w before after calls places. ⊤ };
 
     fn run<R: Wait>(self, rt: &R, office: &Office<O, K>, pass: &mut Pass<Desk<O, K>>) -> Vec<u32> {
         let mut places = Vec::new(self.alloc);
@@ -50,11 +50,30 @@ impl<'a, O: Object<Command = u8>, K: Keeper, G: Gate> Work<Desk<O, K>> for Telle
                 caller: Caller::Registrar(self.caller),
                 number,
             };
-            if let Answer::Done { place, .. } = office.ask(rt, pass, id, first_day(), 1) {
+            if let Some(place) = place_of(rt, office, pass, id) {
                 places.push_reserved(place);
             }
         }
         places
+    }
+}
+
+// The place of one ask that is done.
+fn place_of<O: Object<Command = u8>, K: Keeper, R: Wait>(
+    rt: &R,
+    office: &Office<O, K>,
+    pass: &mut Pass<Desk<O, K>>,
+    id: Id,
+) -> Option<u32>
+    requires turn { IsPassOf (λ d. d.log) (λ d. d.base) office.now.turn pass.old }
+    requires idle { IsIdle pass.old }
+    ensures turn { IsPassOf (λ d. d.log) (λ d. d.base) office.now.turn pass.new × IsIdle pass.new }
+    ensures same { (share pass.new ≡ share pass.old) × (opening pass.new ≡ opening pass.old) }
+    ensures grown { IsPrefix (front pass.old) (front pass.new) }
+{
+    match office.ask(rt, pass, id, first_day(), 1) {
+        Answer::Done { place, .. } => Some(place),
+        _ => None,
     }
 }
 

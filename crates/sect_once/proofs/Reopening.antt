@@ -1,7 +1,6 @@
 -- The rows of a legal log that was never full open to its history.
 use Rattle.std.proofs.Common.{◌≡◌, ℕ, suc, zero, ◌+◌, ◌^◌, ◌≤◌, ◌<◌, Bool, true, false, List, [], ◌∷◌, ◌++◌, length, take, refl, sym, ap, ◌∙◌, subst, inl, inr, ◌⊎◌, ⊎_elim, arith, Option, Some, None, slice_get, Result, Ok, Err}
 use Rattle.std.specs.List.{AllZip}
-use Rattle.sect_base.specs.declared.limit.Id.{Id}
 use Rattle.sect_base.specs.declared.limit.Caller.{Caller}
 use Rattle.sect_edge.specs.Keeper.{FindsRow, KeepsRows}
 use Rattle.sect_once.specs.declared.answer.OpenFault.{OpenFault}
@@ -9,9 +8,9 @@ use Rattle.sect_once.specs.declared.answer.OpenFault.TheVariants as shut
 use Rattle.sect_once.specs.declared.entry.Entry.{Entry}
 use Rattle.sect_once.specs.declared.entry.Note.{Note}
 use Rattle.sect_once.specs.declared.entry.Note.TheVariants.{Acted, Faulted}
-use Rattle.sect_once.specs.History.{acted_log, history, state_after, ActsOnce, AreHeavy, IsFull, IsLegal, IsReplay, NeverFull, TellsRows}
+use Rattle.sect_once.specs.History.{history, state_after, AreHeavy, IsFull, IsLegal, IsReplay, NeverFull, TellsRows}
 use Rattle.sect_once.specs.Desks.{Standing}
-use Rattle.sect_once.specs.Opening.{HasActed, IsBad, IsFirstBad, IsReplied, Opens, Reopens}
+use Rattle.sect_once.specs.Opening.{IsBad, IsFirstBad, Opens, Reopens}
 use Rattle.sect_once.proofs.Logs.{get-lt}
 use Rattle.sect_once.proofs.Openings.{full_entries}
 

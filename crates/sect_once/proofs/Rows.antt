@@ -1,11 +1,11 @@
 -- The rows of entries, their bytes, and logs that were never full.
-use Rattle.std.proofs.Common.{◌≡◌, ℕ, zero, suc, ◌+◌, ◌^◌, ◌≤◌, ◌<◌, List, [], ◌∷◌, ◌++◌, length, sum_by, refl, sym, ap, ◌∙◌, subst, inl, inr, ◌⊎◌, ⊎_elim, arith, Option, Some, None, length-append}
+use Rattle.std.proofs.Common.{◌≡◌, ℕ, suc, ◌+◌, ◌^◌, ◌≤◌, List, [], ◌∷◌, ◌++◌, length, sum_by, refl, sym, ap, ◌∙◌, subst, inl, inr, ◌⊎◌, ⊎_elim, arith, Option, Some, None, length-append}
 use Rattle.std.proofs.lemmas.List.Sums.{sum_by-append}
 use Rattle.std.specs.List.{AllZip}
 use Rattle.sect_edge.specs.Keeper.{AddsRow, KeepsRows}
 use Rattle.sect_once.specs.declared.entry.Entry.{Entry}
 use Rattle.sect_once.specs.declared.entry.Note.{Note}
-use Rattle.sect_once.specs.declared.entry.Note.TheVariants.{Acted, Faulted}
+use Rattle.sect_once.specs.declared.entry.Note.TheVariants.{Acted}
 use Rattle.sect_once.specs.History.{acted_log, history, AreHeavy, HaveBytes, IsFull, NeverFull, TellsRows}
 
 module _ {A : Type 0} where

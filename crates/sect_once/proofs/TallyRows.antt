@@ -1,11 +1,10 @@
 -- A row of 26 bytes in its parts.
-use Rattle.std.proofs.Common.{◌≡◌, ℕ, zero, suc, ◌+◌, ◌-◌, ◌<◌, ◌≤◌, ◌^◌, List, [], ◌∷◌, ◌++◌, length, take, drop, get_or, refl, sym, ap, ◌∙◌, arith}
+use Rattle.std.proofs.Common.{◌≡◌, ℕ, zero, suc, ◌+◌, List, [], ◌∷◌, ◌++◌, length, take, drop, get_or, refl, sym, ap, ◌∙◌, arith}
 use Rattle.std.specs.Int.{to_be_bytes, w32, w64}
 use Rattle.std.proofs.Math.Seq.{drop-cons}
 use Rattle.std.proofs.lemmas.List.{length-drop, take-append-drop, take_all}
-use Rattle.sect_base.specs.declared.limit.Caller.{Caller}
 use Rattle.sect_once.specs.declared.entry.Entry.{Entry}
-use Rattle.sect_once.specs.Tallies.{IsTallyRow, caller_number, caller_tag, tally_row}
+use Rattle.sect_once.specs.Tallies.{caller_number, caller_tag, tally_row}
 
 drop-none : (n : ℕ) → ◌≡◌ {A = List ℕ} (drop n []) []
 drop-none zero = refl

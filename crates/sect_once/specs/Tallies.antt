@@ -1,5 +1,5 @@
 -- The row of a tally's entry: 26 bytes.
-use Rattle.std.specs.Prelude.{◌≡◌, ℕ, ◌<◌, ◌≤◌, ◌^◌, List, [], ◌∷◌, ◌++◌}
+use Rattle.std.specs.Prelude.{◌≡◌, ℕ, ◌<◌, ◌≤◌, ◌^◌, List, ◌∷◌, ◌++◌}
 use Rattle.std.specs.Int.{to_be_bytes, w32, w64}
 use Rattle.sect_base.specs.declared.limit.Caller.{Caller}
 use Rattle.sect_base.specs.declared.limit.Caller.TheVariants.{Registrar, Student}

@@ -1,4 +1,4 @@
-use Rattle.std.proofs.Common.{◌≡◌, ◌-◌, length, subst, sym, arith}
+use Rattle.std.proofs.Common.{◌≡◌, length, subst, sym, arith}
 use Rattle.sect_journal.specs.Disk.{Reads}
 use Rattle.sect_journal.specs.Opening.{GateIs}
 use Rattle.sect_journal.proofs.Gates.{gate_found}

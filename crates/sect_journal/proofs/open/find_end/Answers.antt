@@ -1,6 +1,5 @@
-use Rattle.std.proofs.Common.{◌≡◌, ◌+◌, ◌≤◌, ◌∙◌, subst, sym, arith}
+use Rattle.std.proofs.Common.{◌+◌, ◌≤◌, ◌∙◌, subst, sym, arith}
 use Rattle.sect_journal.specs.Opening.{GateIs, ReadsTo, EndsWithin}
-use Rattle.sect_journal.specs.declared.gate.Gate.TheVariants.{Open}
 use Rattle.sect_journal.proofs.Gates.{reads_on}
 use Rattle.sect_journal.proofs.open.find_end.Goals as goal
 

@@ -1,4 +1,4 @@
-use Rattle.std.proofs.Common.{arith, rules, ◌∙◌, sym}
+use Rattle.std.proofs.Common.{arith}
 use Rattle.sect_once.proofs.TallyRows.{row_made}
 use Rattle.sect_once.proofs.tally.row_of.Goals as goal
 

@@ -1,4 +1,4 @@
-use Rattle.std.proofs.Common.{◌≡◌, ◌⊎◌, ◌∷◌, ◌+◌, ◌++◌, [], length, ap, ◌∙◌, arith, subst, sym, false}
+use Rattle.std.proofs.Common.{◌≡◌, ◌+◌, ◌++◌, ap, ◌∙◌, arith, subst, sym, false}
 use Rattle.sect_journal.specs.Standing.{IsKept, IsLoose, rows_at, loose_at}
 use Rattle.sect_journal.proofs.Keeps.{halts_if_torn, on_err_of}
 use Rattle.sect_journal.proofs.Done.{admit_done}

@@ -1,4 +1,4 @@
-use Rattle.std.proofs.Common.{◌≡◌, ◌<◌, length, slice_get, get_or, Some, subst, refl, arith}
+use Rattle.std.proofs.Common.{◌≡◌, ◌<◌, length, slice_get, Some, subst, refl, arith}
 use Rattle.std.proofs.lemmas.Bool.Decides.{nat_tests}
 use Rattle.std.proofs.lemmas.Option.{slice_get_read}
 use Rattle.sect_journal.proofs.Found.{row_found}

@@ -1,5 +1,3 @@
-use Rattle.std.proofs.Common.{subst}
-use Rattle.sect_journal.specs.Standing.{LeavesNow}
 use Rattle.sect_journal.proofs.Images.{kept_leaves}
 use Rattle.sect_journal.proofs.journal.Journal.is_sound.Goals as goal
 

@@ -1,4 +1,4 @@
-use Rattle.std.proofs.Common.{◌≡◌, ◌∙◌, subst, sym, is_ok}
+use Rattle.std.proofs.Common.{subst, sym, is_ok}
 use Rattle.sect_journal.specs.Standing.{Appends, LeavesNow}
 use Rattle.sect_journal.proofs.Keeps.{appends_of}
 use Rattle.sect_journal.proofs.journal.Journal.keep.Goals as goal

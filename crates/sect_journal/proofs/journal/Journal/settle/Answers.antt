@@ -1,4 +1,3 @@
-use Rattle.std.proofs.Common.{◌≡◌, ◌⊎◌}
 use Rattle.sect_journal.proofs.Keeps.{halts_if_torn, halts_unchanged}
 use Rattle.sect_journal.proofs.Done.{shut_done}
 use Rattle.sect_journal.proofs.journal.Journal.settle.Goals as goal

@@ -1,4 +1,4 @@
-use Rattle.std.proofs.Common.{◌≡◌, ◌⊎◌, ◌∷◌, [], length, ap, ◌∙◌}
+use Rattle.std.proofs.Common.{◌∷◌, [], length, ap, ◌∙◌}
 use Rattle.sect_journal.proofs.Keeps.{halts_unless_torn, halts_staging}
 use Rattle.sect_journal.proofs.Done.{stage_done}
 use Rattle.sect_journal.proofs.journal.Journal.stage.Goals as goal

@@ -1,4 +1,4 @@
-use Rattle.std.proofs.Common.{◌≡◌, ◌%◌, ◌∙◌, sym, ap, subst}
+use Rattle.std.proofs.Common.{◌%◌, ◌∙◌, sym, ap, subst}
 use Rattle.sect_journal.specs.Disk.{IsImage}
 use Rattle.sect_journal.specs.Memory.{told_by, marked}
 use Rattle.sect_journal.specs.Law.{told_image}

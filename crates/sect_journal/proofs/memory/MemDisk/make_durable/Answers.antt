@@ -1,4 +1,4 @@
-use Rattle.std.proofs.Common.{◌≡◌, ◌∙◌, sym, ap, subst, refl}
+use Rattle.std.proofs.Common.{◌∙◌, sym, ap, subst, refl}
 use Rattle.sect_edge.specs.Memory.{IsNextToFail}
 use Rattle.sect_journal.specs.Memory.{fresh, told_by}
 use Rattle.sect_journal.proofs.Replays.{cached_looked, cached_synced, not_refused}

@@ -1,4 +1,4 @@
-use Rattle.std.proofs.Common.{◌≡◌, ◌∙◌, ◌⊎◌, inl, inr, ⊎_elim, sym, ap, subst, refl, length, map, arith}
+use Rattle.std.proofs.Common.{◌≡◌, ◌∙◌, inl, inr, ⊎_elim, sym, ap, subst, refl, length, map}
 use Rattle.sect_edge.specs.Memory.{IsNextToFail}
 use Rattle.sect_journal.specs.Disk.{put}
 use Rattle.sect_journal.specs.Memory.{fresh, told_by, replay, step_of}

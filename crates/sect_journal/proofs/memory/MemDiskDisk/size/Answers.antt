@@ -1,5 +1,3 @@
-use Rattle.std.proofs.Common.{◌≡◌, ◌<◌, arith}
-use Rattle.std.proofs.lemmas.Bool.Decides.{nat_tests}
 use Rattle.sect_edge.specs.Memory.{after_success, after_fault}
 use Rattle.sect_journal.proofs.Replays.{look_same}
 use Rattle.sect_journal.proofs.memory.MemDiskDisk.size.Goals as goal

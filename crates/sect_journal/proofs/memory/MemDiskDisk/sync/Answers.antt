@@ -1,4 +1,4 @@
-use Rattle.std.proofs.Common.{◌≡◌, ap, Some}
+use Rattle.std.proofs.Common.{ap, Some}
 use Rattle.std.proofs.lemmas.Result.{on_ok_weaker}
 use Rattle.sect_edge.specs.Memory.{after_success, after_fault}
 use Rattle.sect_journal.specs.Memory.{Looked, Synced, told_by}

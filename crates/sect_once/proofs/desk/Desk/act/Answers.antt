@@ -1,8 +1,7 @@
-use Rattle.std.proofs.Common.{Err, ◌≡◌, ◌++◌, [], ◌∷◌, arith, ap, sym, ◌∙◌, length, subst}
-use Rattle.sect_once.specs.declared.entry.Mark.TheVariants.{Acts as Acting, Faults as Faulting}
+use Rattle.std.proofs.Common.{Err, ap, sym, ◌∙◌, subst}
 use Rattle.sect_once.specs.History.{history, IsFull, IsNew}
 use Rattle.sect_once.proofs.Logs.{history-log_of}
-use Rattle.sect_once.proofs.Acting.{acted_answer, desk_acted, desk_faulted, desk_same, faulted_answer, has_room}
+use Rattle.sect_once.proofs.Acting.{acted_answer, desk_acted, desk_faulted, faulted_answer, has_room}
 use Rattle.sect_once.proofs.desk.Desk.act.Goals as goal
 
 pub act-acted-requires-clause-new : goal.act-acted-requires-clause-new

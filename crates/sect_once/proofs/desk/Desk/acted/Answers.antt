@@ -1,5 +1,4 @@
-use Rattle.std.proofs.Common.{◌≡◌, ap, sym, ◌∙◌, length}
-use Rattle.sect_once.specs.History.{history}
+use Rattle.std.proofs.Common.{ap, sym, ◌∙◌, length}
 use Rattle.sect_once.proofs.Logs.{history-log_of}
 use Rattle.sect_once.proofs.desk.Desk.acted.Goals as goal
 

@@ -1,4 +1,4 @@
-use Rattle.std.proofs.Common.{◌≡◌, arith, ap, sym, ◌∙◌, length}
+use Rattle.std.proofs.Common.{arith, ap, sym, ◌∙◌, length}
 use Rattle.sect_once.specs.History.{history}
 use Rattle.sect_once.proofs.Logs.{history-log_of}
 use Rattle.sect_once.proofs.desk.Desk.entry.Goals as goal

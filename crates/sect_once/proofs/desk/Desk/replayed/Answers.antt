@@ -1,4 +1,4 @@
-use Rattle.std.proofs.Common.{◌≡◌, arith, ap, refl}
+use Rattle.std.proofs.Common.{ap, refl}
 use Rattle.sect_once.proofs.Openings.{opened_desk, opened_standing}
 use Rattle.sect_once.proofs.desk.Desk.replayed.Goals as goal
 

@@ -1,5 +1,5 @@
-use Rattle.std.proofs.Common.{◌≡◌, arith, ap, sym, ◌∙◌, length, slice_get, Some}
-use Rattle.sect_once.proofs.Logs.{get-lt, finds_from}
+use Rattle.std.proofs.Common.{◌≡◌, ap, sym, ◌∙◌, slice_get, Some}
+use Rattle.sect_once.proofs.Logs.{finds_from}
 use Rattle.sect_once.proofs.past.Past.find.Goals as goal
 
 pub returns-in-Some : goal.returns-in-Some

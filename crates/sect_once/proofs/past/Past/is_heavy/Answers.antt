@@ -1,4 +1,4 @@
-use Rattle.std.proofs.Common.{arith, refl}
+use Rattle.std.proofs.Common.{arith}
 use Rattle.std.proofs.lemmas.Bool.Decides.{nat_tests}
 use Rattle.sect_once.proofs.Rows.{heavy-size}
 use Rattle.sect_once.proofs.past.Past.is_heavy.Goals as goal

@@ -1,4 +1,3 @@
-use Rattle.std.proofs.Common.{◌≡◌, length}
 use Rattle.sect_once.proofs.Openings.{IsReplayed}
 use Rattle.sect_once.proofs.past.Past.replay.Given as goal
 

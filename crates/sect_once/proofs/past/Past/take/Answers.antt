@@ -1,6 +1,5 @@
 use Rattle.std.proofs.Common.{◌≡◌, true, false, refl}
 use Rattle.std.proofs.lemmas.Result.{IfOk-weaker}
-use Rattle.sect_once.specs.History.{IsFull, acted_log}
 use Rattle.sect_once.specs.Opening.{Resumes, Takes}
 use Rattle.sect_once.proofs.Openings.{acted_bad, takes_from}
 use Rattle.sect_once.proofs.past.Past.take.Goals as goal
