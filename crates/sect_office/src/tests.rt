@@ -6,7 +6,7 @@ ghost use Rattle.sect_turn.specs.Passes.{front, own_calls, share, opening, IsIdl
 use crate::office::Office;
 use crate::work::{Work, run_all};
 use sect_base::{Caller, Chronicle, Id};
-use sect_edge::{Gate, Keeper, MemKeeper, OpenGate};
+use sect_edge::{Gate, Keeper, Link, MemKeeper, MemLink, MemSink, MemSource, OpenGate};
 use sect_once::{Answer, Desk, Object, Tally};
 use sect_time::Day;
 use sect_turn::Pass;
@@ -25,11 +25,12 @@ fn first_day() -> Day {
     }
 }
 
-// A caller that asks the numbers from 0 as commands of 1, each when the gate lets it.
+// A worker with a link: at its connection it asks the numbers from 0 as commands of 1, each when the gate lets it.
 #[derive(Drop)]
 struct Teller<'a, G> {
     alloc: Global,
     gate: &'a G,
+    link: MemLink,
     caller: u32,
     count: u64,
 }
@@ -40,22 +41,55 @@ impl<'a, O: Object<Command = u8>, K: Keeper, G: Gate> Work<Desk<O, K>> for Telle
     ghost did = { λ w before after calls places. ⊤ };
 
     fn run<R: Wait>(self, rt: &R, office: &Office<O, K>, pass: &mut Pass<Desk<O, K>>) -> Vec<u32> {
-        let mut places = Vec::new(self.alloc);
-        for number in 0..self.count {
-            if places.reserve(1).is_err() {
-                break;
+        let Teller {
+            alloc,
+            gate,
+            mut link,
+            caller,
+            count,
+        } = self;
+        match link.accept() {
+            Ok(Some((source, sink))) => {
+                let places = tell(alloc, gate, rt, office, pass, caller, count);
+                link.finish(source, sink);
+                places
             }
-            self.gate.pass(rt, self.caller, number);
-            let id = Id {
-                caller: Caller::Registrar(self.caller),
-                number,
-            };
-            if let Some(place) = place_of(rt, office, pass, id) {
-                places.push_reserved(place);
-            }
+            _ => Vec::new(alloc),
         }
-        places
     }
+}
+
+// The places of so many asks of a caller.
+fn tell<O: Object<Command = u8>, K: Keeper, G: Gate, R: Wait>(
+    alloc: Global,
+    gate: &G,
+    rt: &R,
+    office: &Office<O, K>,
+    pass: &mut Pass<Desk<O, K>>,
+    caller: u32,
+    count: u64,
+) -> Vec<u32>
+    requires turn { IsPassOf (λ d. d.log) (λ d. d.base) office.now.turn pass.old }
+    requires idle { IsIdle pass.old }
+    ensures turn { IsPassOf (λ d. d.log) (λ d. d.base) office.now.turn pass.new × IsIdle pass.new }
+    ensures same { (share pass.new ≡ share pass.old) × (opening pass.new ≡ opening pass.old) }
+    ensures grown { IsPrefix (front pass.old) (front pass.new) }
+{
+    let mut places = Vec::new(alloc);
+    for number in 0..count {
+        if places.reserve(1).is_err() {
+            break;
+        }
+        gate.pass(rt, caller, number);
+        let id = Id {
+            caller: Caller::Registrar(caller),
+            number,
+        };
+        if let Some(place) = place_of(rt, office, pass, id) {
+            places.push_reserved(place);
+        }
+    }
+    places
 }
 
 // The place of one ask that is done.
@@ -77,6 +111,15 @@ fn place_of<O: Object<Command = u8>, K: Keeper, R: Wait>(
     }
 }
 
+// A link with one connection to come.
+fn a_link(alloc: Global) -> Result<MemLink, AllocError> {
+    let source = MemSource::new(Vec::new(alloc), 1, Vec::new(alloc));
+    let Ok(sink) = MemSink::new(alloc, 1, 1, Vec::new(alloc)) else {
+        return Err(AllocError);
+    };
+    Ok(MemLink::new(vec![in alloc; (source, sink)]?, Vec::new(alloc)))
+}
+
 // As many tellers at one gate.
 fn tellers<'a, G>(
     alloc: Global,
@@ -91,6 +134,7 @@ fn tellers<'a, G>(
         works.push(Teller {
             alloc,
             gate,
+            link: a_link(alloc)?,
             caller,
             count,
         })?;
