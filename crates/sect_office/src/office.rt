@@ -1,5 +1,5 @@
 // An office: a desk, or another value, that the bearers of passes use in turn.
-ghost use Rattle.std.specs.Prelude.{◌≡◌, ◌+◌, ◌-◌, ◌<◌, ◌++◌, ◌⊎◌, [], length, IfOk, IfErr};
+ghost use Rattle.std.specs.Prelude.{◌≡◌, ◌+◌, ◌-◌, ◌<◌, ◌++◌, ◌⊎◌, [], length, IfOk, IfErr, OnOk, OnErr};
 ghost use mathlib.Core.List.{IsPrefix};
 ghost use Rattle.sect_turn.specs.Passes.{front, own_calls, share, opening, IsIdle, IsPassOf, HasEachOnce};
 ghost use Rattle.sect_turn.specs.Rule.{whole_share};
@@ -47,13 +47,15 @@ impl<V: Chronicle> OfficeOf<V> {
         self.turn.another(pass)
     }
 
-    /// A pass that has seen the same, for another thread.
+    /// A pass that has seen the same, for another thread. Where memory runs out, the pass is as before.
     pub fn split(&self, pass: &mut Pass<V>) -> Result<Pass<V>, Memory>
         requires turn { IsPassOf V.notes V.base self.now.turn pass.old }
         requires idle { IsIdle pass.old }
         requires share { 1 < share pass.old }
         ensures turn { IsPassOf V.notes V.base self.now.turn pass.new × IsIdle pass.new }
-        ensures old { (front pass.new ≡ front pass.old) × (own_calls pass.new ≡ own_calls pass.old) × (share pass.new ≡ share pass.old - 1) × (opening pass.new ≡ opening pass.old) }
+        ensures old { (front pass.new ≡ front pass.old) × (own_calls pass.new ≡ own_calls pass.old) × (opening pass.new ≡ opening pass.old) }
+        ensures share_given { OnOk result (share pass.new ≡ share pass.old - 1) }
+        ensures as_before { OnErr result (pass.new ≡ pass.old) }
         ensures new_turn { IfOk result (λ p. IsPassOf V.notes V.base self.now.turn p × IsIdle p) }
         ensures new { IfOk result (λ p. (front p ≡ front pass.old) × (own_calls p ≡ []) × (share p ≡ 1) × (opening p ≡ opening pass.old)) }
     {

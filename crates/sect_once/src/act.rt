@@ -31,7 +31,7 @@ fn written<O: Object>(
     alloc: Global,
     entry: &Entry<O::Command, O::Reply>,
 ) -> Result<(O::Reply, Vec<u8>), Memory>
-    requires { (s : O) × ((O.stepped s entry.now.day entry.now.id.caller entry.now.command).1 ≡ entry.now.reply) }
+    requires { (s : O.State) × ((O.stepped s entry.now.day entry.now.id.caller entry.now.command).1 ≡ entry.now.reply) }
     ensures { IfOk result (λ r. (r.0 ≡ entry.now.reply) × O.is_row entry.now r.1.items) }
 {
     let reply = O::copy_reply(alloc, &entry.reply)?;
@@ -48,12 +48,12 @@ fn step<O: Object>(
     day: Day,
     command: O::Command,
 ) -> Result<Stepped<O::Command, O::Reply, O::Undo>, Memory>
-    ensures state { IfOk result (λ s. object.new ≡ (O.stepped object.old day id.caller command).0) }
+    ensures state { IfOk result (λ s. O.state object.new ≡ (O.stepped (O.state object.old) day id.caller command).0) }
     ensures entry { IfOk result (λ s. s.entry ≡ record { id = id; day = day; command = command; reply = s.reply }) }
-    ensures reply { IfOk result (λ s. s.reply ≡ (O.stepped object.old day id.caller command).1) }
+    ensures reply { IfOk result (λ s. s.reply ≡ (O.stepped (O.state object.old) day id.caller command).1) }
     ensures row { IfOk result (λ s. O.is_row s.entry s.row.items) }
-    ensures undo { IfOk result (λ s. O.restores s.undo object.new object.old) }
-    ensures err { OnErr result (object.new ≡ object.old) }
+    ensures undo { IfOk result (λ s. O.restores s.undo object.new (O.state object.old)) }
+    ensures err { OnErr result (O.state object.new ≡ O.state object.old) }
 {
     let (reply, undo) = object.step(day, id.caller, &command)?;
     let entry = Entry {

@@ -27,7 +27,7 @@ impl<O: Object, K: Keeper> Model for Desk<O, K> {
     ghost use Rattle.sect_once.specs.History.{log_of};
     ghost use Rattle.sect_once.specs.Desks.{Standing, IsDesk};
 
-    ghost Value = { Standing O O.Command O.Reply K };
+    ghost Value = { Standing O.State O.Command O.Reply K };
 
     ghost view = { λ d. record { object = d.past.object; log = log_of d.marks.items d.past.entries; keeper = d.keeper; base = K.faults d.opened.value } };
 

@@ -10,6 +10,9 @@ use std::alloc::Global;
 
 /// An object whose commands act one at a time, and whose entries have rows as texts.
 pub trait Object: Sized {
+    /// What commands and queries see of the object: all but the room that it has for more. Contracts alone speak of it.
+    type State;
+
     type Command: Drop;
 
     type Reply: Drop;
@@ -20,45 +23,48 @@ pub trait Object: Sized {
 
     type View;
 
+    /// The object's state.
+    ghost state: { Self → Self.State };
+
     /// The state at the start.
-    ghost start: { Self };
+    ghost start: { Self.State };
 
     /// The state and the reply after a command of a caller on a day.
-    ghost stepped: { Self → ℕ → Caller → Self.Command → Self × Self.Reply };
+    ghost stepped: { Self.State → ℕ → Caller → Self.Command → Self.State × Self.Reply };
 
-    /// What a step left brings the second state, which that step gave, back to the first, from which it came.
-    ghost restores: { Self.Undo → Self → Self → Type 0 };
+    /// What a step left brings the object that it gave back to the state from which it came.
+    ghost restores: { Self.Undo → Self → Self.State → Type 0 };
 
     /// What a query is answered in a state.
-    ghost looked: { Self → Self.Query → Self.View };
+    ghost looked: { Self.State → Self.Query → Self.View };
 
     /// The row is the text of the entry.
     ghost is_row: { Entry Self.Command Self.Reply → List ℕ → Type 0 };
 
     /// The object at the start.
     fn empty(alloc: Global) -> Self
-        ensures { result ≡ start };
+        ensures { state result ≡ start };
 
-    /// Acts a command. After want of memory the object is as before.
+    /// Acts a command. After want of memory the state is as before.
     fn step(
         &mut self,
         day: Day,
         caller: Caller,
         command: &Self::Command,
     ) -> Result<(Self::Reply, Self::Undo), Memory>
-        ensures state { IfOk result (λ r. self.new ≡ (stepped self.old day caller command.now).0) }
-        ensures reply { IfOk result (λ r. r.0 ≡ (stepped self.old day caller command.now).1) }
-        ensures undo { IfOk result (λ r. restores r.1 self.new self.old) }
-        ensures err { OnErr result (self.new ≡ self.old) };
+        ensures state { IfOk result (λ r. state self.new ≡ (stepped (state self.old) day caller command.now).0) }
+        ensures reply { IfOk result (λ r. r.0 ≡ (stepped (state self.old) day caller command.now).1) }
+        ensures undo { IfOk result (λ r. restores r.1 self.new (state self.old)) }
+        ensures err { OnErr result (state self.new ≡ state self.old) };
 
     /// Takes back the last step. It takes no memory.
     fn undo(&mut self, undo: Self::Undo)
-        requires { (before : Self) × restores undo self.old before }
-        ensures { (before : Self) → restores undo self.old before → self.new ≡ before };
+        requires { (before : Self.State) × restores undo self.old before }
+        ensures { (before : Self.State) → restores undo self.old before → state self.new ≡ before };
 
     /// Answers a query.
     fn look(&self, query: &Self::Query) -> Result<Self::View, Memory>
-        ensures { IfOk result (λ v. v ≡ looked self.now query.now) };
+        ensures { IfOk result (λ v. v ≡ looked (state self.now) query.now) };
 
     fn same_command(a: &Self::Command, b: &Self::Command) -> bool
         ensures { IsTrue result ↔ (a.now ≡ b.now) };
@@ -74,7 +80,7 @@ pub trait Object: Sized {
         entry: &Entry<Self::Command, Self::Reply>,
         into: &mut Vec<u8>,
     ) -> Result<(), Memory>
-        requires { (s : Self) × ((stepped s entry.now.day entry.now.id.caller entry.now.command).1 ≡ entry.now.reply) }
+        requires { (s : Self.State) × ((stepped s entry.now.day entry.now.id.caller entry.now.command).1 ≡ entry.now.reply) }
         ensures { OnOk result ((row : List ℕ) × is_row entry.now row × (into.new.items ≡ into.old.items ++ row)) };
 
     /// The entry of which this is the row, where there is one.

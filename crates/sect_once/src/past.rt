@@ -25,11 +25,11 @@ pub(crate) struct Past<O: Object> {
 impl<O: Object> Model for Past<O> {
     ghost use Rattle.sect_once.specs.Desks.{IsPast, Trail};
 
-    ghost Value = { Trail O O.Command O.Reply };
+    ghost Value = { Trail O.State O.Command O.Reply };
 
-    ghost view = { λ p. record { object = p.object; entries = p.entries.items } };
+    ghost view = { λ p. record { object = O.state p.object; entries = p.entries.items } };
 
-    ghost invariant = { λ p. IsPast O.start O.stepped O.is_row ⟦<Id as Ord>⟧.cmp p.object p.entries.items p.places p.row_bytes };
+    ghost invariant = { λ p. IsPast O.start O.stepped O.is_row ⟦<Id as Ord>⟧.cmp (O.state p.object) p.entries.items p.places p.row_bytes };
 }
 
 /// The notes with which a log is full.

@@ -18,6 +18,8 @@ pub struct Tally {
 }
 
 impl Object for Tally {
+    type State = u64;
+
     type Command = u8;
 
     type Reply = u64;
@@ -28,13 +30,15 @@ impl Object for Tally {
 
     type View = u64;
 
-    ghost start = { record { sum = 0 } };
+    ghost state = { λ t. t.sum };
 
-    ghost stepped = { λ s day caller n. (record { sum = min (s.sum + n) (2 ^ 64 - 1) }, min (s.sum + n) (2 ^ 64 - 1)) };
+    ghost start = { 0 };
 
-    ghost restores = { λ u after before. before.sum ≡ u };
+    ghost stepped = { λ sum day caller n. (min (sum + n) (2 ^ 64 - 1), min (sum + n) (2 ^ 64 - 1)) };
 
-    ghost looked = { λ s q. s.sum };
+    ghost restores = { λ u after before. before ≡ u };
+
+    ghost looked = { λ sum q. sum };
 
     ghost is_row = { IsTallyRow };
 

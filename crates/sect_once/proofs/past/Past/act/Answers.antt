@@ -13,7 +13,7 @@ invariant_of-self-in-Ok-kept g c =
     let none = new-index _ c.self.inside.places c.self.inside.entries.items c.args.id c.self.invariant.index (subst (IsNew c.args.id) (ap (λ p. p.entries) (sym c.self.view_is)) c.requires.new) in
     let place : c.len-place.result ≡ length c.self.inside.entries.items = (let e = ap length c.reserve.ensures.items in omega arith) in
     past_added g.O.Object.start g.O.Object.stepped g.O.Object.is_row _ (λ a b h. search rules) (λ a. search rules)
-    c.self.inside.object c.step.new.object c.self.inside.entries.items c.push_reserved.new.self.items c.self.inside.places c.keep-kept.new.places c.self.inside.row_bytes _
+    (g.O.Object.state c.self.inside.object) (g.O.Object.state c.step.new.object) c.self.inside.entries.items c.push_reserved.new.self.items c.self.inside.places c.keep-kept.new.places c.self.inside.row_bytes _
     c.args.id c.args.day c.args.command c.in-Ok.stepped.reply c.in-Ok.stepped.entry c.in-Ok.stepped.row.items c.len-place.result
     c.self.invariant c.in-Ok.ensures.entry (c.push_reserved.ensures.items ∙ ap (λ es. es ++ c.in-Ok.stepped.entry ∷ []) c.reserve.ensures.items)
     c.in-Ok.ensures.state c.in-Ok.ensures.reply (omega (arith, long, c.requires.notes)) none place c.in-Ok-kept.ensures.places c.in-Ok.ensures.row (omega arith)
@@ -22,5 +22,5 @@ pub invariant_of-self-in-Err-kept : goal.invariant_of-self-in-Err-kept
 invariant_of-self-in-Err-kept g c =
     rw c.reserve.ensures.items
     (past_same g.O.Object.start g.O.Object.stepped g.O.Object.is_row _ (λ a b h. search rules) (λ a. search rules)
-    c.self.inside.object c.undo.new.self c.self.inside.entries.items c.self.inside.places c.keep-kept.new.places c.self.inside.row_bytes
-    c.self.invariant (c.undo.ensures c.self.inside.object c.in-Ok.ensures.undo) c.in-Err.ensures.places_stay)
+    (g.O.Object.state c.self.inside.object) (g.O.Object.state c.undo.new.self) c.self.inside.entries.items c.self.inside.places c.keep-kept.new.places c.self.inside.row_bytes
+    c.self.invariant (c.undo.ensures (g.O.Object.state c.self.inside.object) c.in-Ok.ensures.undo) c.in-Err.ensures.places_stay)

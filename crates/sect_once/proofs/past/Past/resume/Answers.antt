@@ -15,8 +15,8 @@ overflow_add-self g c = let room = subst (λ p. IsFull g.O.Object.is_row (acted_
 pub invariant_of-self-in-Err-1 : goal.invariant_of-self-in-Err-1
 invariant_of-self-in-Err-1 g c = rw c.reserve.ensures.items
     (past_same g.O.Object.start g.O.Object.stepped g.O.Object.is_row _ (λ a b h. search rules) (λ a. search rules)
-    c.self.inside.object c.undo-in-Err.new.self c.self.inside.entries.items c.self.inside.places c.place_in.new.places c.self.inside.row_bytes
-    c.self.invariant (c.undo-in-Err.ensures c.self.inside.object c.in_ok-reply.ensures.undo) c.in-Err.ensures.stay)
+    (g.O.Object.state c.self.inside.object) (g.O.Object.state c.undo-in-Err.new.self) c.self.inside.entries.items c.self.inside.places c.place_in.new.places c.self.inside.row_bytes
+    c.self.invariant (c.undo-in-Err.ensures (g.O.Object.state c.self.inside.object) c.in_ok-reply.ensures.undo) c.in-Err.ensures.stay)
 
 pub invariant_of-self-in-Ok-1 : goal.invariant_of-self-in-Ok-1
 invariant_of-self-in-Ok-1 g c =
@@ -24,7 +24,7 @@ invariant_of-self-in-Ok-1 g c =
     let none = new-index _ c.self.inside.places c.self.inside.entries.items c.args.entry.id c.self.invariant.index (subst (IsNew c.args.entry.id) (ap (λ p. p.entries) (sym c.self.view_is)) c.requires.new) in
     let place : c.len-place.result ≡ length c.self.inside.entries.items = (let e = ap length c.reserve.ensures.items in omega arith) in
     past_added g.O.Object.start g.O.Object.stepped g.O.Object.is_row _ (λ a b h. search rules) (λ a. search rules)
-    c.self.inside.object c.step.new.self c.self.inside.entries.items c.push_reserved.new.self.items c.self.inside.places c.place_in.new.places c.self.inside.row_bytes _
+    (g.O.Object.state c.self.inside.object) (g.O.Object.state c.step.new.self) c.self.inside.entries.items c.push_reserved.new.self.items c.self.inside.places c.place_in.new.places c.self.inside.row_bytes _
     c.args.entry.id c.args.entry.day c.args.entry.command c.args.entry.reply c.args.entry c.args.row.now c.len-place.result
     c.self.invariant refl (c.push_reserved.ensures.items ∙ ap (λ es. es ++ c.args.entry ∷ []) c.reserve.ensures.items)
     c.in_ok-reply.ensures.state (sym (c.same_reply.ensures.0 c.if-not-same_reply.false) ∙ c.in_ok-reply.ensures.reply) (few g.O.Object.is_row c.self.inside.entries.items room) none place c.in-Ok.ensures.places c.requires.written refl
