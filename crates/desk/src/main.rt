@@ -1,11 +1,9 @@
 //! The program: it makes the real objects, calls the desk, prints the status and ends with its number.
 #![tactic(auto)]
 
-mod real;
-
-use real::{RealClock, RealSink, RealSource};
 use sect_app::{Status, desk};
 use sect_edge::{MemKeeper, MemLink, OpenGate};
+use sect_real::{RealClock, StdSink, StdSource};
 use std::process::ExitCode;
 use std::{env, io};
 
@@ -26,8 +24,8 @@ fn start(rt: HostRuntime) -> io::Result<Status> {
     clocks.push(RealClock::new(rt))?;
     let keeper = MemKeeper::new(Vec::new(alloc), Vec::new(alloc));
     let links: Vec<MemLink> = Vec::new(alloc);
-    let mut source = RealSource::new(rt.stdin());
-    let mut sink = RealSink::new(rt.stdout());
+    let mut source = StdSource::new(rt.stdin());
+    let mut sink = StdSink::new(rt.stdout());
     let (status, _keeper, _links) = desk(
         &rt,
         &words,
