@@ -1,10 +1,10 @@
 // How many are enrolled at a level, and by a reservation.
 
-ghost use Rattle.std.specs.Prelude.{◌≡◌, ◌==◌, ◌≤◌};
-ghost use Rattle.std.specs.Option.{option_map_or};
+ghost use Rattle.std.specs.Prelude.{◌≡◌, ◌≤◌, length, filter};
 ghost use Rattle.sect_model.specs.World.{is_of as course_is_of, used_by, reservation_of};
 ghost use Rattle.sect_model.specs.Counts.{is_at as counts_at, count_of, counted_of, used_of, permits_over};
 ghost use Rattle.sect_model.specs.Choice.{lists_section};
+ghost use Rattle.sect_space.specs.Counting.{is_counted, is_made_by};
 
 use crate::world::World;
 use sect_base::{Choice, CourseId, Level, OfferingId, ReservationId, SectionId};
@@ -16,12 +16,7 @@ impl World {
         ensures { result ≡ count_of self.now.world level }
     {
         self.is_kept();
-        let count = self
-            .roster()
-            .iter()
-            .filter(|enrolment| self.is_at(level, enrolment))
-            .count();
-        small(count)
+        small(self.count_in(level, self.roster()))
     }
 
     /// The number of enrolments at the level but for those by a reservation that permits over limit. It takes no memory.
@@ -29,14 +24,7 @@ impl World {
         ensures { result ≡ counted_of self.now.world level }
     {
         self.is_kept();
-        let count = self
-            .roster()
-            .iter()
-            .filter(|enrolment| {
-                self.is_at(level, enrolment) && !self.is_over_limit(&enrolment.choice)
-            })
-            .count();
-        small(count)
+        small(self.counted_in(level, self.roster()))
     }
 
     /// The number of enrolments by the reservation. It takes no memory.
@@ -44,12 +32,38 @@ impl World {
         ensures { result ≡ used_of self.now.world id }
     {
         self.is_kept();
-        let count = self
-            .roster()
-            .iter()
-            .filter(|enrolment| is_by(enrolment, id))
-            .count();
-        small(count)
+        small(count_by(id, self.roster()))
+    }
+
+    fn count_in(&self, level: Level, roster: &[Enrolment]) -> usize
+        ensures { result ≡ length (filter (counts_at self.now.world level) roster.now) }
+    {
+        let mut count = 0;
+        for enrolment in roster {
+            if self.is_at(level, enrolment) {
+                count += 1;
+            }
+        }
+        count
+    }
+
+    fn counted_in(&self, level: Level, roster: &[Enrolment]) -> usize
+        ensures { result ≡ length (filter (is_counted self.now.world level) roster.now) }
+    {
+        let mut count = 0;
+        for enrolment in roster {
+            if self.is_counted(level, enrolment) {
+                count += 1;
+            }
+        }
+        count
+    }
+
+    /// Whether the enrolment counts at the level, by no reservation or one that doesn't permit over limit.
+    fn is_counted(&self, level: Level, enrolment: &Enrolment) -> bool
+        ensures { result ≡ is_counted self.now.world level enrolment.now }
+    {
+        self.is_at(level, enrolment) && !self.is_over_limit(&enrolment.choice)
     }
 
     /// Whether the enrolment counts at the level. It takes no memory.
@@ -94,9 +108,21 @@ impl World {
     }
 }
 
+fn count_by(id: ReservationId, roster: &[Enrolment]) -> usize
+    ensures { result ≡ length (filter (is_made_by id) roster.now) }
+{
+    let mut count = 0;
+    for enrolment in roster {
+        if is_by(enrolment, id) {
+            count += 1;
+        }
+    }
+    count
+}
+
 /// Whether the enrolment is by the reservation.
 fn is_by(enrolment: &Enrolment, id: ReservationId) -> bool
-    ensures { result ≡ option_map_or (λ r. r.0 == id.0) enrolment.now.choice.reservation false }
+    ensures { result ≡ is_made_by id enrolment.now }
 {
     match enrolment.choice.reservation {
         Some(used) => used == id,

@@ -1,10 +1,11 @@
 // Limits, reserved and unreserved space.
 
-ghost use Rattle.std.specs.Prelude.{◌≡◌, ℕ, ℤ, pos, ◌-ℤ◌, ◌&&◌, ◌-◌, ◌*◌, ◌<◌, ◌≤◌, ◌==◌, nat_lt, cond, length, filter, sum_by, IfSome};
+ghost use Rattle.std.specs.Prelude.{◌≡◌, ℕ, ℤ, pos, ◌-ℤ◌, ◌&&◌, ◌+◌, ◌*◌, ◌≤◌, ◌==◌, cond, length, sum_by, IfSome};
 ghost use Rattle.std.specs.List.{list_any};
 ghost use Rattle.std.specs.Option.{is_none};
 ghost use Rattle.sect_catalog.specs.Catalogue.{places as places_in, places_of_all};
 ghost use Rattle.sect_reserve.specs.Audience.{active as is_active};
+ghost use Rattle.sect_model.specs.Counts.{count_of};
 ghost use Rattle.sect_model.specs.Space.{places_at, names as is_named, active_at, remaining as remaining_of, has_unlimited as are_unlimited, space_of, unreserved_of};
 
 use crate::world::World;
@@ -44,8 +45,10 @@ impl World {
         ensures few { IfSome result (λ n. n ≤ 42949672950) }
     {
         self.is_kept();
-        let row = self.catalogue().offering(id)?;
-        total(row.configs.as_slice())
+        match self.catalogue().offering(id) {
+            Some(row) => total(row.configs.as_slice()),
+            None => None,
+        }
     }
 
     /// The unreserved space of a level with so many places.
@@ -53,27 +56,39 @@ impl World {
         requires { places ≤ 42949672950 }
         ensures { result ≡ space_of self.now.world level places }
     {
-        self.is_kept();
-        let rows = self.all_reservations();
-        if self.is_unlimited(level, rows) {
-            return 0;
+        if self.has_unlimited(level) {
+            0
+        } else {
+            difference(places, self.taken(level))
         }
-        let taken = u64::from(self.count(level)) + self.held_back(level, rows);
-        difference(places, taken)
     }
 
-    /// Whether one of the rows that are active and name the level has no limit.
-    fn is_unlimited(&self, level: Level, rows: &[Reservation]) -> bool
-        ensures { result ≡ are_unlimited (filter (λ r. is_active r self.now.world.day && is_named r level) rows.now) }
+    /// Whether an active reservation that names the level has no limit.
+    fn has_unlimited(&self, level: Level) -> bool
+        ensures { result ≡ are_unlimited (active_at self.now.world level) }
     {
-        rows.iter()
-            .any(|row| self.is_active_at(level, row) && is_boundless(row.limit))
+        self.any_unlimited(level, self.all_reservations())
+    }
+
+    fn any_unlimited(&self, level: Level, rows: &[Reservation]) -> bool
+        ensures { result ≡ list_any (λ r. (is_active r self.now.world.day && is_named r level) && is_none (places_in r.limit)) rows.now }
+    {
+        rows.iter().any(|row| self.is_active_at(level, row) && is_boundless(row.limit))
+    }
+
+    /// The enrolments at the level, and what the active reservations that name it still hold back.
+    fn taken(&self, level: Level) -> u64
+        ensures value { result ≡ count_of self.now.world level + sum_by (remaining_of self.now.world) (active_at self.now.world level) }
+        ensures few { result ≤ 4300000000000000 }
+    {
+        self.is_kept();
+        u64::from(self.count(level)) + self.held_back(level, self.all_reservations())
     }
 
     /// What those of the rows that are active and name the level still hold back.
     fn held_back(&self, level: Level, rows: &[Reservation]) -> u64
         requires { length rows.now ≤ 1000000 }
-        ensures value { result ≡ sum_by (remaining_of self.now.world) (filter (λ r. is_active r self.now.world.day && is_named r level) rows.now) }
+        ensures value { result ≡ sum_by (λ r. cond (is_active r self.now.world.day && is_named r level) (remaining_of self.now.world r) 0) rows.now }
         ensures few { result ≤ 1000000 * 4294967295 }
     {
         let mut sum = 0u64;
@@ -170,7 +185,7 @@ fn total(configs: &[ConfigRow]) -> Option<u64>
 
 fn difference(places: u64, taken: u64) -> i64
     requires places { places ≤ 42949672950 }
-    requires taken { taken ≤ 4294968295000000 }
+    requires taken { taken ≤ 4300000000000000 }
     ensures { result ≡ pos places -ℤ pos taken }
 {
     places as i64 - taken as i64
