@@ -1,6 +1,7 @@
 -- How many enrolments, configurations of a row and reservations there can be.
-use Rattle.std.specs.Prelude.{◌≡◌, ℕ, ◌*◌, ◌≤◌, Bool, true, false, nat_lt, nat_le, List, [], ◌∷◌, length, filter, map, flat_map, cond, Option, Some, None, ◌==◌, ◌+◌, refl}
-use Rattle.std.specs.Option.{is_none, option_or}
+use Rattle.std.specs.Prelude.{◌≡◌, ℕ, ◌*◌, ◌≤◌, Bool, true, false, nat_lt, nat_le, List, [], ◌∷◌, length, filter, map, flat_map, cond, Option, Some, None, ◌==◌, ◌+◌, ◌||◌, refl}
+use Rattle.std.specs.List.{list_any}
+use Rattle.std.specs.Option.{is_none, option_or, option_map_or}
 use Rattle.std.proofs.Common.{sym, ◌∙◌, ap, subst, arith, inl}
 use Rattle.std.proofs.lemmas.Bool.{eq-eqb, eqb-true}
 use Rattle.std.proofs.lemmas.Bool.Decides.{nat_tests}
@@ -10,15 +11,19 @@ use Rattle.sect_catalog.specs.Fault.{above}
 use Rattle.sect_catalog.specs.declared.row.OfferingRow.{OfferingRow}
 use Rattle.sect_catalog.specs.declared.row.SubpartRow.{SubpartRow}
 use Rattle.sect_base.specs.declared.ids.OfferingId.{OfferingId}
+use Rattle.sect_base.specs.declared.ids.CourseId.{CourseId}
+use Rattle.sect_base.specs.declared.ids.StudentId.{StudentId}
 use Rattle.sect_model.specs.declared.held.Enrolment.{Enrolment}
 use Rattle.sect_reserve.specs.declared.row.Reservation.{Reservation}
-use Rattle.sect_model.specs.World.{World}
+use Rattle.sect_model.specs.World.{World, offering_of, is_of, is_in, holds}
 use Rattle.sect_model.specs.Allowed.{reservations_of}
 use Rattle.sect_model.specs.Kept.{KeptWorld, includes_fit, lists_own}
-use Rattle.sect_model.proofs.Members.{Member, all-at, find-member, known-test, member-filter, not_both}
+use Rattle.sect_model.proofs.Members.{Member, all-at, find-member, known-test, member-filter, not_both, any-at, both, both-left, both-right, count-le}
 use Rattle.sect_model.proofs.CheckedLemmas.{checked-each, passed, faultless}
 use Rattle.sect_model.proofs.RowLemmas.{rows-few}
-use Rattle.sect_model.proofs.SizeLemmas.{roster-is-small, at-most-classes, sum-bound}
+use Rattle.sect_model.proofs.SizeLemmas.{roster-is-small, at-most-classes, sum-bound, enrolled_in, at-most-one}
+use Rattle.sect_model.proofs.Standing.{standing}
+use Rattle.sect_model.proofs.Easy.{sound}
 
 trans : {a b c : ℕ} → a ≤ b → b ≤ c → a ≤ c
 trans h i = omega (arith, h, i)
@@ -105,3 +110,31 @@ reservations-few w k =
   where
     joined : (n o : ℕ) → n ≤ o * 50 → o ≤ 20000 → n ≤ 1000000
     joined n o h i = omega (arith, h, i)
+
+-- ---- a student's enrolment in a course
+
+some-kept : {X : Type 0} (p : X → Bool) (xs : List X) → list_any p xs ≡ true → 1 ≤ length (filter p xs)
+some-kept p [] h = absurd (not_both false h refl)
+some-kept p (x ∷ xs) h = by_test (p x) h (some-kept p xs)
+  where
+    by_test : (b : Bool) → b || list_any p xs ≡ true → (list_any p xs ≡ true → 1 ≤ length (filter p xs)) → 1 ≤ length (cond b (x ∷ filter p xs) (filter p xs))
+    by_test true h ih = omega arith
+    by_test false h ih = ih h
+
+-- a student who holds a course is enrolled in it once
+pub held-once : (w : World) → KeptWorld w → (student : StudentId) (course : CourseId) → holds w student course ≡ true → length (filter (is_in student course) w.roster) ≡ 1
+held-once w k student course h =
+    let e = any-at (is_in student course) w.roster h in
+    let f = standing w e.0.choice (sound w k.good e.0 e.1).well in
+    let its : offering_of w course ≡ Some f.offering = ap (λ n. offering_of w (record { 0 = n })) (sym (eqb-true e.0.choice.course.0 course.0 (both-right (e.0.student.0 == student.0) _ e.2))) ∙ f.is_its in
+    one (length (filter (is_in student course) w.roster)) (some-kept (is_in student course) w.roster h)
+    (trans (count-le (is_in student course) (enrolled_in w student f.offering.id) w.roster (in_it f.offering its)) (at-most-one w student f.offering.id w.roster k.good.together))
+  where
+    one : (n : ℕ) → 1 ≤ n → n ≤ 1 → n ≡ 1
+    one n h i = omega (arith, h, i)
+
+    in_it : (o : OfferingRow) → offering_of w course ≡ Some o → (x : Enrolment) → is_in student course x ≡ true → enrolled_in w student o.id x ≡ true
+    in_it o e x t =
+        both (x.student.0 == student.0) (is_of w o.id x.choice.course) (both-left (x.student.0 == student.0) _ t)
+        (ap (λ n. is_of w o.id (record { 0 = n })) (eqb-true x.choice.course.0 course.0 (both-right (x.student.0 == student.0) _ t))
+        ∙ ap (λ r. option_map_or (λ y. y.id.0 == o.id.0) r false) e ∙ eq-eqb o.id.0 o.id.0 refl)
