@@ -1,0 +1,7 @@
+pub mod Bounds
+pub mod LimitBack
+pub mod Lists
+pub mod Steps
+pub mod StudentBack
+pub mod Sums
+pub mod TakenBack

@@ -1,0 +1,5 @@
+pub mod Back
+pub mod Counting
+pub mod Room
+pub mod Roomed
+pub mod Undo

@@ -1,0 +1,36 @@
+-- The world with the room of its lists.
+use Rattle.std.specs.Prelude.{ℕ, List}
+use Rattle.sect_model.specs.World.{World}
+use Rattle.sect_model.specs.declared.held.Enrolment.{Enrolment}
+use Rattle.sect_catalog.specs.Catalogue.{Catalogue}
+use Rattle.sect_people.specs.Student.{Student}
+use Rattle.sect_reserve.specs.declared.row.Reservation.{Reservation}
+use Rattle.sect_reserve.specs.declared.row.Restriction.{Restriction}
+use Rattle.sect_roster.specs.Listed.{Listed}
+
+-- a world, and how many enrolments, reservations and restrictions more fit without asking for memory
+pub record Roomed : Type 0 where
+  pub world : World
+  pub spare : ℕ
+  pub reservation_spare : ℕ
+  pub restriction_spare : ℕ
+
+-- the world of these parts
+abbrev pub world_of : Catalogue → List Student → Listed Reservation → Listed Restriction → Listed Enrolment → ℕ → World
+world_of catalogue students reservations restrictions roster day = record {
+  catalogue = catalogue;
+  students = students;
+  reservations = reservations.items;
+  restrictions = restrictions.items;
+  roster = roster.items;
+  day = day;
+}
+
+-- the world of these parts, with the room of its lists
+abbrev pub roomed : Catalogue → List Student → Listed Reservation → Listed Restriction → Listed Enrolment → ℕ → Roomed
+roomed catalogue students reservations restrictions roster day = record {
+  world = world_of catalogue students reservations restrictions roster day;
+  spare = roster.spare;
+  reservation_spare = reservations.spare;
+  restriction_spare = restrictions.spare;
+}
