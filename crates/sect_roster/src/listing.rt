@@ -126,8 +126,10 @@ impl<R: Filed> Listing<R> {
     pub fn remove(&mut self, id: u32) -> (usize, R)
         requires { IsSome (find (λ r. R.id_of r == id) self.old.items) }
         ensures row { Some result.1 ≡ find (λ r. R.id_of r == id) self.old.items }
+        ensures id { R.id_of result.1 ≡ id }
         ensures place { Some result.0 ≡ position (λ r. R.id_of r == id) self.old.items }
         ensures rest { self.new.items ≡ filter (λ r. not (R.id_of r == id)) self.old.items }
+        ensures gone { IsNone (find (λ r. R.id_of r == id) self.new.items) }
         ensures back { self.old.items ≡ insert self.new.items result.0 result.1 }
         ensures within { result.0 ≤ length self.new.items }
         ensures spare { self.new.spare ≡ self.old.spare + 1 }
