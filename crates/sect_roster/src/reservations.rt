@@ -55,7 +55,7 @@ impl Model for Reservations {
 impl Reservations {
     /// No reservations. It takes no memory.
     pub fn empty(alloc: Global) -> Reservations
-        ensures { result.items ≡ [] }
+        ensures { result ≡ record { items = []; spare = 0 } }
     {
         Reservations {
             listing: Listing::empty(alloc),

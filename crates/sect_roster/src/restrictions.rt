@@ -52,7 +52,7 @@ impl Model for Restrictions {
 impl Restrictions {
     /// No restrictions. It takes no memory.
     pub fn empty(alloc: Global) -> Restrictions
-        ensures { result.items ≡ [] }
+        ensures { result ≡ record { items = []; spare = 0 } }
     {
         Restrictions {
             listing: Listing::empty(alloc),
