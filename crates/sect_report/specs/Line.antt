@@ -3,7 +3,7 @@ use Rattle.std.specs.Prelude.{ℕ, ℤ, List, [], ◌∷◌, ◌++◌, Option, N
 use Rattle.std.specs.Fmt.{signed_decimal}
 use Rattle.sect_report.specs.declared.line.Word.{Word}
 use Rattle.sect_report.specs.declared.line.Word.TheVariants.{Name, Number, Optional, Space, Places, Courses, Sections}
-use Rattle.sect_words.specs.Words.{ids_text, limit_text, optional_text}
+use Rattle.sect_words.specs.Words.{limit_text, optional_text, plus_text}
 
 -- each word behind a space, which is 32, and the line feed
 abbrev pub more_words_text : List (List ℕ) → List ℕ
@@ -27,5 +27,5 @@ word_text (Number n) = decimal n
 word_text (Optional n) = optional_text n
 word_text (Space n) = space_text n
 word_text (Places limit) = limit_text limit
-word_text (Courses ids) = ids_text (map (λ id. id.0) ids.now)
-word_text (Sections ids) = ids_text (map (λ id. id.0) ids.now)
+word_text (Courses ids) = plus_text (map (λ id. decimal id.0) ids.now)
+word_text (Sections ids) = plus_text (map (λ id. decimal id.0) ids.now)

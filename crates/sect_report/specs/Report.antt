@@ -12,7 +12,7 @@ use Rattle.sect_command.specs.declared.view.ScheduleView.{ScheduleView}
 use Rattle.sect_command.specs.declared.view.WaitView.{WaitView}
 use Rattle.sect_command.specs.declared.view.UnmetView.{UnmetView}
 use Rattle.sect_report.specs.Line.{line_text, space_text}
-use Rattle.sect_words.specs.Words.{ids_text, limit_text, optional_text}
+use Rattle.sect_words.specs.Words.{limit_text, optional_text, plus_text}
 
 -- an enrolment in a section
 abbrev pub held_text : HeldView → List ℕ
@@ -75,7 +75,7 @@ choice_text c = line_text (
     codes "course" ∷ decimal c.course.0
     ∷ codes "reservation" ∷ optional_text (option_map (λ id. id.0) c.reservation)
     ∷ codes "config" ∷ decimal c.config.0
-    ∷ codes "sections" ∷ ids_text (map (λ id. id.0) c.sections)
+    ∷ codes "sections" ∷ plus_text (map (λ id. decimal id.0) c.sections)
     ∷ [])
 
 -- a student with the enrolments
@@ -91,7 +91,7 @@ abbrev pub wait_text : WaitView → List ℕ
 wait_text w = line_text (
     codes "ticket" ∷ decimal w.ticket
     ∷ codes "student" ∷ decimal w.student.0
-    ∷ codes "courses" ∷ ids_text (map (λ id. id.0) w.courses)
+    ∷ codes "courses" ∷ plus_text (map (λ id. decimal id.0) w.courses)
     ∷ codes "give" ∷ optional_text (option_map (λ id. id.0) w.give)
     ∷ [])
 
@@ -100,7 +100,7 @@ abbrev pub unmet_text : UnmetView → List ℕ
 unmet_text u = line_text (
     codes "student" ∷ decimal u.student.0
     ∷ codes "rank" ∷ decimal u.rank
-    ∷ codes "courses" ∷ ids_text (map (λ id. id.0) u.courses)
+    ∷ codes "courses" ∷ plus_text (map (λ id. decimal id.0) u.courses)
     ∷ [])
 
 -- the lines of a list, or one that says that there are none

@@ -1,13 +1,11 @@
 // The lines of reports.
 
 ghost use Rattle.std.specs.Prelude.{◌≡◌, ◌++◌, ◌∷◌, [], OnOk, OnErr, length, map, take};
-ghost use Rattle.std.specs.Fmt.{signed_decimal};
 ghost use Rattle.sect_report.specs.Line.{line_text, more_words_text, space_text, word_text};
-ghost use Rattle.sect_words.specs.Words.{optional_text};
 
 use itoa::Buffer;
 use sect_base::{CourseId, Limit, Memory, SectionId};
-use sect_words::{print_ids, print_limit, print_number};
+use sect_words::{print_limit, print_list, print_number, print_optional, print_text};
 
 /// A word of a line.
 #[derive(Clone, Copy)]
@@ -67,31 +65,13 @@ fn print_word(word: &Word, into: &mut Vec<u8>) -> Result<(), Memory>
     ensures memory { OnErr result (into.new.items ≡ into.old.items) }
 {
     match word {
-        Word::Name(name) => print_name(name, into),
+        Word::Name(name) => print_text(name, into),
         Word::Number(number) => print_number(*number, into),
         Word::Optional(number) => print_optional(*number, into),
         Word::Space(space) => print_space(*space, into),
         Word::Places(limit) => print_limit(*limit, into),
-        Word::Courses(courses) => print_ids(courses, into),
-        Word::Sections(sections) => print_ids(sections, into),
-    }
-}
-
-fn print_name(name: &str, into: &mut Vec<u8>) -> Result<(), Memory>
-    ensures text { OnOk result (into.new.items ≡ into.old.items ++ name.now) }
-    ensures memory { OnErr result (into.new.items ≡ into.old.items) }
-{
-    into.extend_from_slice(name.as_bytes())?;
-    Ok(())
-}
-
-fn print_optional(number: Option<u64>, into: &mut Vec<u8>) -> Result<(), Memory>
-    ensures text { OnOk result (into.new.items ≡ into.old.items ++ optional_text number) }
-    ensures memory { OnErr result (into.new.items ≡ into.old.items) }
-{
-    match number {
-        Some(number) => print_number(number, into),
-        None => print_name("-", into),
+        Word::Courses(courses) => print_list(b'+', courses, into),
+        Word::Sections(sections) => print_list(b'+', sections, into),
     }
 }
 
@@ -100,7 +80,7 @@ fn print_space(space: Option<i64>, into: &mut Vec<u8>) -> Result<(), Memory>
     ensures memory { OnErr result (into.new.items ≡ into.old.items) }
 {
     match space {
-        Some(space) => print_name(Buffer::new().format(space), into),
-        None => print_name("-", into),
+        Some(space) => print_text(Buffer::new().format(space), into),
+        None => print_text("-", into),
     }
 }
