@@ -10,6 +10,7 @@ use sect_base::{
     ClassId, ConfigId, CourseId, Curriculum, GroupId, MajorId, Memory, SectionId, StudentId,
 };
 use sect_catalog::CourseRow;
+use sect_reserve::Place;
 use sect_time::{Meeting, print_meeting};
 
 /// A value that has a word.
@@ -76,6 +77,14 @@ impl Spelled for MajorId {
 
     fn print(&self, into: &mut Vec<u8>) -> Result<(), Memory> {
         print_number(u64::from(self.0), into)
+    }
+}
+
+impl Spelled for Place {
+    ghost spelling = { λ place. decimal place.section.0 };
+
+    fn print(&self, into: &mut Vec<u8>) -> Result<(), Memory> {
+        self.section.print(into)
     }
 }
 
