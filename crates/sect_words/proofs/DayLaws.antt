@@ -49,7 +49,7 @@ test_le : (a b : ℕ) → nat_le a b ≡ true → a ≤ b
 test_le a b h = grind (arith, nat_tests)
 
 -- a date by the test is one of the calendar
-calendar_date : (d : Date) → d.year < 10000 → d.month < 13 → is_date d ≡ true → IsDate (pos d.year) (pos d.month) (pos d.date)
+pub calendar_date : (d : Date) → d.year < 10000 → d.month < 13 → is_date d ≡ true → IsDate (pos d.year) (pos d.month) (pos d.date)
 calendar_date d y m e =
     let a = both (nat_le 1 d.month && nat_le 1 d.date) (nat_le d.date (days_in_month (pos d.year) d.month)) e in
     let b = both (nat_le 1 d.month) (nat_le 1 d.date) a.0 in
@@ -101,7 +101,7 @@ text_of_found n d f = record {
   is_number = int_same d n f.passes;
 }
 
-not_both : (a b : Bool) → a ≡ true → b ≡ true → (a && b) ≡ false → ⊥
+pub not_both : (a b : Bool) → a ≡ true → b ≡ true → (a && b) ≡ false → ⊥
 not_both a b p q e = cc (rw (p, q) at e)
 
 -- a text that says a day is the day's

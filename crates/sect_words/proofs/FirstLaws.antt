@@ -1,9 +1,9 @@
 -- What the first number gives, and that none gives anything.
-use Rattle.std.proofs.Common.{◌≡◌, ◌<◌, ◌≤◌, ℕ, zero, suc, Bool, true, false, Option, None, Some, ap, refl, ◌∙◌, arith}
+use Rattle.std.proofs.Common.{◌≡◌, ◌<◌, ◌≤◌, ℕ, zero, suc, Bool, true, false, ◌&&◌, ◌==◌, List, [], ◌∷◌, Option, None, Some, ap, refl, ◌∙◌, arith}
 use Rattle.std.proofs.Math.Logic.{◌⊎◌, inl, inr}
-use Rattle.std.proofs.lemmas.Bool.{cases_lt}
+use Rattle.std.proofs.lemmas.Bool.{cases_lt, eq-eqb, eqb-true}
 use Rattle.std.specs.Option.{option_or}
-use Rattle.sect_words.specs.First.{first_below, only_where}
+use Rattle.sect_words.specs.First.{first_below, only_where, same_text}
 
 -- a number below the bound that gives this
 pub record GivenBelow {A : Type 0} (bound : ℕ) (gives : ℕ → Option A) (x : A) : Type 0 where
@@ -60,3 +60,23 @@ where_passes false x y e = absurd (cc)
 pub where_fails : {A : Type 0} (test : Bool) (x : A) → only_where test x ≡ None → test ≡ false
 where_fails true x e = absurd (cc)
 where_fails false x e = refl
+
+pub both : (a b : Bool) → (a && b) ≡ true → (a ≡ true) × (b ≡ true)
+both true b e = (refl, e)
+both false b e = absurd (cc)
+
+-- texts that are the same are equal
+pub same_is : (xs ys : List ℕ) → same_text xs ys ≡ true → xs ≡ ys
+same_is [] [] e = refl
+same_is [] (y ∷ ys) e = absurd (cc)
+same_is (x ∷ xs) [] e = absurd (cc)
+same_is (x ∷ xs) (y ∷ ys) e =
+    let h = both (x == y) (same_text xs ys) e in
+    let first : x ≡ y = eqb-true x y h.0 in
+    let rest : xs ≡ ys = same_is xs ys h.1 in
+    cc
+
+-- a text is the same as itself
+pub is_same : (xs : List ℕ) → same_text xs xs ≡ true
+is_same [] = refl
+is_same (x ∷ xs) = rw (eq-eqb x x refl, is_same xs) refl

@@ -1,3 +1,5 @@
 pub mod Appending
 pub mod DayLaws
 pub mod FirstLaws
+pub mod ListLaws
+pub mod TimeLaws
