@@ -38,15 +38,18 @@ small_day (negsuc k) n e = absurd (cc)
 found_day : (text : List ℕ) (d : Date) → FoundDate (is_text_of text) d → (day : Option ℕ) → day_of_date d ≡ day → (n : ℕ) × (day ≡ Some n) × IsDayText text n
 found_day text d f None e = absurd (let t = both (same_text (date_text d.year d.month d.date) text) (is_some (day_of_date d)) f.passes in cc (rw e at t.1))
 found_day text d f (Some n) e =
-    let t = both (same_text (date_text d.year d.month d.date) text) (is_some (day_of_date d)) f.passes in
-    (n, refl, record {
-      year = d.year;
-      month = d.month;
-      date = d.date;
-      is_date = calendar_date d f.year f.month f.is_date;
-      is_text = sym (same_is (date_text d.year d.month d.date) text t.0);
-      is_number = has_number (days_from_civil (pos d.year) d.month d.date) n e;
-    })
+    let t = both (same_text (date_text d.year d.month d.date) text) (is_some (day_of_date d)) f.passes in (
+      n,
+      refl,
+      record {
+        year = d.year;
+        month = d.month;
+        date = d.date;
+        is_date = calendar_date d f.year f.month f.is_date;
+        is_text = sym (same_is (date_text d.year d.month d.date) text t.0);
+        is_number = has_number (days_from_civil (pos d.year) d.month d.date) n e;
+      },
+    )
 
 passes_text : (text : List ℕ) (n : ℕ) (d : Date) → n ≤ 84005 → text ≡ date_text d.year d.month d.date → days_from_civil (pos d.year) d.month d.date ≡ pos n → is_text_of text d ≡ true
 passes_text text n d small e number = rw (number_is (days_from_civil (pos d.year) d.month d.date) n small number, e, is_same (date_text d.year d.month d.date)) refl
@@ -58,6 +61,7 @@ day_found text n small is = by (date_with (is_text_of text)) refl
   where
     the : Date
     the = record { year = is.year; month = is.month; date = is.date }
+
     by : (found : Option Date) → date_with (is_text_of text) ≡ found → Some n ≡ option_and_then day_of_date (date_with (is_text_of text))
     by None e =
         let l = looked_at the is.is_date in
@@ -126,6 +130,7 @@ meeting_fits p h =
   where
     by_less : (x y : ℕ) → x < y → nat_lt x y ≡ true
     by_less x y h = grind (arith, nat_tests)
+
     by_most : (x y : ℕ) → x ≤ y → nat_le x y ≡ true
     by_most x y h = grind (arith, nat_tests)
 
@@ -147,6 +152,7 @@ fits_meeting text p f =
   where
     by_less : (x y : ℕ) → nat_lt x y ≡ true → x < y
     by_less x y h = grind (arith, nat_tests)
+
     by_most : (x y : ℕ) → nat_le x y ≡ true → x ≤ y
     by_most x y h = grind (arith, nat_tests)
 

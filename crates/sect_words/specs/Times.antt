@@ -35,7 +35,7 @@ is_meeting p = nat_lt 0 p.days && nat_lt 0 p.slots && nat_le (p.start + p.slots)
 unfoldable pub meeting_of : List ℕ → Option Pattern
 meeting_of text =
     first_below (2 ^ 7) (λ days. first_below 288 (λ start. first_below 289 (λ slots. first_below (2 ^ 60) (λ weeks.
-        only_where (is_meeting (record { days = days; start = start; slots = slots; weeks = weeks }) && same_text (meeting_text (record { days = days; start = start; slots = slots; weeks = weeks })) text) (record { days = days; start = start; slots = slots; weeks = weeks })))))
+    only_where (is_meeting (record { days = days; start = start; slots = slots; weeks = weeks }) && same_text (meeting_text (record { days = days; start = start; slots = slots; weeks = weeks })) text) (record { days = days; start = start; slots = slots; weeks = weeks })))))
 
 -- the weeks of a term that meet the days from the first to the last, which are in order and within sixty weeks
 abbrev pub weeks_between : ℕ → ℕ → ℕ → Option ℕ

@@ -4,9 +4,7 @@ ghost use Rattle.std.specs.Prelude.{◌≡◌, ◌==◌, ℕ, List, Option, IfOk
 ghost use Rattle.sect_words.specs.Reading.{cut_at as is_cut_at, id_of, joined_of, list_of};
 
 use crate::read::{dash, read_number};
-use sect_base::{
-    ClassId, ConfigId, CourseId, GroupId, MajorId, Memory, SectionId, StudentId,
-};
+use sect_base::{ClassId, ConfigId, CourseId, GroupId, MajorId, Memory, SectionId, StudentId};
 use std::alloc::Global;
 
 /// A value that is read from a word.
@@ -20,7 +18,11 @@ pub trait Readable: Sized {
 }
 
 /// The values of words with a separator between each two, or none for a dash.
-pub fn read_list<R: Readable + Drop>(alloc: Global, separator: u8, text: &[u8]) -> Result<Option<Vec<R>>, Memory>
+pub fn read_list<R: Readable + Drop>(
+    alloc: Global,
+    separator: u8,
+    text: &[u8],
+) -> Result<Option<Vec<R>>, Memory>
     ensures { IfOk result (λ found. option_map (λ v. v.items) found ≡ list_of R.reads separator text.now) }
 {
     if dash(text) {
@@ -30,7 +32,11 @@ pub fn read_list<R: Readable + Drop>(alloc: Global, separator: u8, text: &[u8]) 
 }
 
 /// The values of words with a separator between each two. There is one word at least.
-pub fn read_joined<R: Readable + Drop>(alloc: Global, separator: u8, text: &[u8]) -> Result<Option<Vec<R>>, Memory>
+pub fn read_joined<R: Readable + Drop>(
+    alloc: Global,
+    separator: u8,
+    text: &[u8],
+) -> Result<Option<Vec<R>>, Memory>
     ensures { IfOk result (λ found. option_map (λ v. v.items) found ≡ joined_of R.reads separator text.now) }
 {
     let mut values = Vec::new(alloc);
