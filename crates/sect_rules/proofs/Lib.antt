@@ -1,1 +1,5 @@
 pub mod NthLemmas
+pub mod IdLemmas
+pub mod OptionLemmas
+pub mod MomentLemmas
+pub mod CreditLemmas

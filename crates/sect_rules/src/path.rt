@@ -133,9 +133,11 @@ impl Path {
         requires { length self.old.done < 4 }
         ensures { self.new ≡ closed self.old self.old.course self.old.reservation self.old.config }
     {
-        if let (Some(course), Some(reservation), Some(config)) =
-            (self.course, self.reservation, self.config)
-        {
+        if let (Some(course), Some(reservation), Some(config)) = (
+            self.course,
+            self.reservation,
+            self.config,
+        ) {
             self.push(Choice {
                 course,
                 reservation,

@@ -1,6 +1,8 @@
 // Where decisions stand in the catalogue.
 
-ghost use Rattle.std.specs.Prelude.{◌≡◌, ◌≤◌, length, option_copied, []};
+ghost use Rattle.std.specs.Prelude.{◌≡◌, length, map, option_copied, [], IsTrue};
+ghost use Rattle.sect_people.specs.Order.{all_differ};
+ghost use Rattle.sect_model.specs.Allowed.{reservations_of};
 ghost use Rattle.std.specs.Option.{option_map_or};
 ghost use Rattle.sect_model.specs.World.{offering_of};
 ghost use Rattle.sect_model.specs.Choice.{config_in, config_of, subparts_of};
@@ -8,7 +10,8 @@ ghost use Rattle.sect_model.specs.Path.{sections_due, next_subpart};
 ghost use Rattle.sect_model.specs.Kept.{KeptWorld};
 
 use sect_base::{ConfigId, CourseId, SectionId};
-use sect_catalog::{ConfigRow, OfferingRow, SubpartRow};
+use sect_catalog::{ConfigRow, OfferingRow, SectionRow, SubpartRow};
+use sect_reserve::Reservation;
 use sect_space::World;
 
 /// The offering of a course.
@@ -25,7 +28,11 @@ pub fn offering(world: &World, course: CourseId) -> Option<&OfferingRow>
 pub fn config_of_offering(offering: &OfferingRow, config: ConfigId) -> Option<&ConfigRow>
     ensures { option_copied result ≡ config_in offering.now config }
 {
-    offering.configs.as_slice().iter().find(|row| row.id == config)
+    offering
+        .configs
+        .as_slice()
+        .iter()
+        .find(|row| row.id == config)
 }
 
 /// The configuration of an id, where the offering of the course has it.
@@ -64,5 +71,53 @@ pub fn due(world: &World, course: Option<CourseId>, config: Option<ConfigId>) ->
     match (course, config) {
         (Some(course), Some(config)) => subparts(world, course, config).len(),
         _ => 0,
+    }
+}
+
+/// What the world keeps. It does nothing.
+pub fn keeps(world: &World)
+    ensures { KeptWorld world.now.world }
+{
+    let _ = world.day();
+}
+
+/// The configurations of the course's offering, no two of one id.
+pub fn configs(world: &World, course: CourseId) -> &[ConfigRow]
+    ensures value { result.now ≡ option_map_or (λ o. o.configs) (offering_of world.now.world course) [] }
+    ensures differ { IsTrue (all_differ (map (λ g. g.id.0) result.now)) }
+{
+    keeps(world);
+    match offering(world, course) {
+        Some(row) => row.configs.as_slice(),
+        None => &[],
+    }
+}
+
+/// The sections of the subpart that comes after those chosen, no two of one id.
+pub fn next_sections<'a>(
+    world: &'a World,
+    course: CourseId,
+    config: ConfigId,
+    sections: &[SectionId],
+) -> &'a [SectionRow]
+    ensures value { result.now ≡ option_map_or (λ p. p.sections) (next_subpart world.now.world course config sections.now) [] }
+    ensures differ { IsTrue (all_differ (map (λ s. s.id.0) result.now)) }
+{
+    keeps(world);
+    match subpart_after(world, course, config, sections) {
+        Some(row) => row.sections.as_slice(),
+        None => &[],
+    }
+}
+
+/// The reservations of the course's offering, no two of one id.
+pub fn reservations(world: &World, course: CourseId) -> &[Reservation]
+    ensures value { result.now ≡ option_map_or (λ o. reservations_of world.now.world o.id) (offering_of world.now.world course) [] }
+    ensures differ { IsTrue (all_differ (map (λ r. r.id.0) result.now)) }
+{
+    keeps(world);
+    match offering(world, course) {
+        Some(row) => world.reservations(row.id),
+        None => &[],
     }
 }
