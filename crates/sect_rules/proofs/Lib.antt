@@ -3,3 +3,4 @@ pub mod IdLemmas
 pub mod OptionLemmas
 pub mod MomentLemmas
 pub mod CreditLemmas
+pub mod ReservedLemmas

@@ -1,5 +1,5 @@
 -- What is counted at a path: what was counted before, less what leaves, and what was made.
-use Rattle.std.specs.Prelude.{◌≡◌, ℕ, suc, ◌+◌, ◌≤◌, Bool, true, false, not, ◌&&◌, ◌||◌, ◌==◌, nat_le, cond, List, [], ◌∷◌, ◌++◌, length, map, filter, count_by, sum_by, refl}
+use Rattle.std.specs.Prelude.{◌≡◌, ℕ, ◌+◌, ◌≤◌, Bool, true, false, not, ◌&&◌, ◌||◌, ◌==◌, nat_le, cond, List, [], ◌∷◌, ◌++◌, length, map, filter, count_by, refl}
 use Rattle.std.specs.List.{list_any, list_all}
 use Rattle.std.proofs.Common.{sym, ◌∙◌, ap, arith, append_assoc}
 use Rattle.std.proofs.lemmas.Bool.{eq-eqb}
@@ -13,11 +13,11 @@ use Rattle.sect_model.specs.Counts.{is_at, count_of, used_of}
 use Rattle.sect_model.specs.Kept.{is_ordered}
 use Rattle.sect_model.specs.Path.{Path}
 use Rattle.sect_model.specs.Rules.{world_at}
-use Rattle.sect_model.proofs.Members.{Member, both-left, both-right, not_both, filter-filter, filter-same, member-filter}
+use Rattle.sect_model.proofs.Members.{both-left, both-right, filter-filter, filter-same, member-filter}
 use Rattle.sect_model.proofs.RosterLemmas.{count-insert, ordered-insert, ordered-filter}
 use Rattle.sect_model.proofs.TurnLemmas.{not-or, any-append}
 use Rattle.sect_model.proofs.ListLemmas.{any-filter-both}
-use Rattle.sect_rules.specs.Moment.{Moment, is_given, is_left, enrolment, with_made, moved_roster, moved, counts_at, uses}
+use Rattle.sect_rules.specs.Moment.{is_given, is_left, enrolment, with_made, moved_roster, moved, counts_at, uses}
 use Rattle.sect_rules.proofs.NthLemmas.{filter-both}
 
 -- ---- the world at a path

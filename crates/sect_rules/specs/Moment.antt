@@ -1,5 +1,5 @@
 -- The world at a path, with no copy of the world: only the roster differs.
-use Rattle.std.specs.Prelude.{ℕ, Bool, false, not, ◌==◌, List, [], ◌∷◌, filter}
+use Rattle.std.specs.Prelude.{Bool, false, not, ◌==◌, List, [], ◌∷◌, filter}
 use Rattle.std.specs.List.{list_any}
 use Rattle.sect_base.specs.declared.limit.Level.TheVariants.{Course, Offering, Config, Section}
 use Rattle.std.specs.Option.{option_map_or}

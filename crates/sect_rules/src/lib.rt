@@ -1,12 +1,18 @@
 // The options of a path of decisions, and the first rule that a decision breaks.
 #![tactic(auto)]
 
+mod config;
+mod course;
 mod held;
 mod moment;
 mod nth;
 mod options;
+mod overlap;
 mod path;
 mod place;
+mod places;
+mod reservation;
+mod reserved;
 
 pub use options::option;
 pub use path::Path;

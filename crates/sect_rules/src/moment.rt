@@ -1,20 +1,23 @@
 // The world at a path, without a copy of it.
 
 ghost use Rattle.std.specs.Prelude.{◌≡◌, ◌≤◌, option_copied};
-ghost use Rattle.sect_model.specs.World.{reservation_of};
+ghost use Rattle.sect_model.specs.World.{reservation_of, offering_of, credits_of};
+ghost use Rattle.sect_model.specs.Choice.{subparts_of};
 ghost use Rattle.sect_model.specs.Counts.{count_of, used_of};
 ghost use Rattle.sect_model.specs.Allowed.{reservations_of, restrictions_of, holds_offering as has_offering, max_credits as most_credits, credits_held as credits_of_student};
+ghost use Rattle.sect_model.specs.Space.{places_at};
 ghost use Rattle.sect_model.specs.Premises.{MoveFits};
 ghost use Rattle.sect_model.specs.Rules.{world_at};
 
 use crate::held::{
-    counts_given, counts_made, credits_kept, credits_made, given_by, holds_kept, holds_made,
-    made_by, max_credits,
+    counts_given, counts_made, credits, credits_kept, credits_made, given_by, holds_kept,
+    holds_made, made_by, max_credits,
 };
 use crate::path::Path;
-use crate::place::keeps;
-use sect_base::{Choice, CourseId, Level, Move, OfferingId, ReservationId, StudentId};
-use sect_catalog::Catalogue;
+use crate::place::{keeps, offering, subparts};
+use crate::places::places;
+use sect_base::{Choice, ConfigId, CourseId, Level, Move, OfferingId, ReservationId, StudentId};
+use sect_catalog::{Catalogue, OfferingRow, SubpartRow};
 use sect_model::Enrolment;
 use sect_people::People;
 use sect_reserve::{Reservation, Restriction};
@@ -103,6 +106,13 @@ impl<'a> Moment<'a> {
         self.world.day()
     }
 
+    /// The number of places at the level, None where it has no limit.
+    pub fn places(&self, level: Level) -> Option<u64>
+        ensures { result ≡ places_at self.now.at level }
+    {
+        places(self.world, level)
+    }
+
     /// The number of enrolments at the level.
     pub fn count(&self, level: Level) -> u64
         ensures { result ≡ count_of self.now.at level }
@@ -149,5 +159,26 @@ impl<'a> Moment<'a> {
         let kept = credits_kept(self.world, self.give, held);
         prove!(kept <= u32::from(most));
         kept + credits_made(self.world, self.done)
+    }
+
+    /// The offering of a course.
+    pub fn offering(&self, course: CourseId) -> Option<&OfferingRow>
+        ensures { option_copied result ≡ offering_of self.now.at course }
+    {
+        offering(self.world, course)
+    }
+
+    /// The subparts of a configuration of the course's offering.
+    pub fn subparts(&self, course: CourseId, config: ConfigId) -> &[SubpartRow]
+        ensures { result.now ≡ subparts_of self.now.at course config }
+    {
+        subparts(self.world, course, config)
+    }
+
+    /// The credits of a course, 0 where it is unknown.
+    pub fn credits(&self, course: CourseId) -> u8
+        ensures { result ≡ credits_of self.now.at course }
+    {
+        credits(self.world, course)
     }
 }

@@ -1,9 +1,9 @@
 -- the world's number, less what leaves, and what was made
-use Rattle.std.proofs.Common.{◌≡◌, ℕ, ◌+◌, ◌-◌, ◌≤◌, subst, sym, ◌∙◌, ap, arith}
+use Rattle.std.proofs.Common.{◌≡◌, ◌+◌, ◌-◌, ◌∙◌, ap, arith}
 use Rattle.std.specs.Prelude.{count_by, ◌&&◌}
-use Rattle.sect_model.specs.World.{World, held_by}
+use Rattle.sect_model.specs.World.{held_by}
 use Rattle.sect_model.specs.Counts.{count_of}
-use Rattle.sect_rules.specs.Moment.{Moment, is_given, counts_at, moved}
+use Rattle.sect_rules.specs.Moment.{is_given, counts_at, moved}
 use Rattle.sect_rules.proofs.MomentLemmas.{count-moved, left-few, count-by-choice}
 use Rattle.sect_rules.proofs.moment.Moment.count.Goals as goal
 

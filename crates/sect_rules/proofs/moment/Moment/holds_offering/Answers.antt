@@ -1,11 +1,11 @@
 -- an enrolment that stays, or a choice that was made
 use Rattle.std.proofs.Common.{◌≡◌, sym, ◌∙◌, ap}
-use Rattle.std.specs.Prelude.{Bool, true, false, not, ◌&&◌, ◌||◌, ◌++◌, List, filter, map, refl}
+use Rattle.std.specs.Prelude.{Bool, true, false, not, ◌&&◌, ◌||◌, List, refl}
 use Rattle.std.specs.List.{list_any}
 use Rattle.sect_model.specs.World.{World, held_by, is_of}
 use Rattle.sect_model.specs.Allowed.{holds_offering}
 use Rattle.sect_model.specs.Data.{StudentId, CourseId, OfferingId, Choice}
-use Rattle.sect_rules.specs.Moment.{Moment, is_given, moved}
+use Rattle.sect_rules.specs.Moment.{is_given, moved}
 use Rattle.sect_model.proofs.Members.{not_both}
 use Rattle.sect_model.specs.Kept.{is_ordered}
 use Rattle.sect_rules.proofs.MomentLemmas.{held-moved, any-moved}

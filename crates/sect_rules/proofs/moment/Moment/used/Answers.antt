@@ -1,9 +1,9 @@
 -- the world's number, less what leaves, and what was made
-use Rattle.std.proofs.Common.{◌≡◌, ℕ, ◌+◌, ◌-◌, ◌≤◌, subst, sym, ◌∙◌, ap, arith}
+use Rattle.std.proofs.Common.{◌≡◌, ◌+◌, ◌-◌, ◌∙◌, ap, arith}
 use Rattle.std.specs.Prelude.{count_by, ◌&&◌}
-use Rattle.sect_model.specs.World.{World, held_by}
+use Rattle.sect_model.specs.World.{held_by}
 use Rattle.sect_model.specs.Counts.{used_of}
-use Rattle.sect_rules.specs.Moment.{Moment, is_given, uses, moved}
+use Rattle.sect_rules.specs.Moment.{is_given, uses, moved}
 use Rattle.sect_rules.proofs.MomentLemmas.{used-moved, left-few}
 use Rattle.sect_rules.proofs.moment.Moment.used.Goals as goal
 

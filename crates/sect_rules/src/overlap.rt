@@ -1,0 +1,140 @@
+// The least section that overlaps another one.
+
+ghost use Rattle.std.specs.Prelude.{◌≡◌, ◌++◌, map, filter, cond, flat_map, option_copied};
+ghost use Rattle.std.specs.Prelude.{[], ◌||◌, false};
+ghost use Rattle.std.specs.List.{list_any};
+ghost use Rattle.std.specs.Option.{option_map_or};
+ghost use Rattle.sect_time.specs.Pattern.{meetings_overlap, lists_overlap};
+ghost use Rattle.sect_model.specs.World.{meetings_of};
+ghost use Rattle.sect_model.specs.Overlap.{sections_overlap};
+ghost use Rattle.sect_model.specs.Allowed.{permits_overlap as choice_permits};
+ghost use Rattle.sect_model.specs.Rules.{least, held_overlaps, own_overlaps};
+ghost use Rattle.sect_rules.specs.Overlapped.{lesser_of as lesser_option};
+
+use crate::moment::Moment;
+use sect_base::{Choice, SectionId};
+use sect_reserve::Reservation;
+use sect_time::{Meeting, overlaps};
+
+/// Whether a meeting of the one overlaps a meeting of the other.
+pub fn any_overlap(meetings: &[Meeting], others: &[Meeting]) -> bool
+    ensures { result ≡ lists_overlap meetings.now others.now }
+{
+    meetings.iter().any(|meeting| overlaps_any(meeting, others))
+}
+
+fn overlaps_any(meeting: &Meeting, others: &[Meeting]) -> bool
+    ensures { result ≡ list_any (meetings_overlap meeting.now) others.now }
+{
+    others.iter().any(|other| overlaps(meeting, other))
+}
+
+/// The lesser of two numbers, where there are any.
+pub fn lesser_of(a: Option<u32>, b: Option<u32>) -> Option<u32>
+    ensures { result ≡ lesser_option a b }
+{
+    match (a, b) {
+        (None, later) => later,
+        (Some(n), None) => Some(n),
+        (Some(n), Some(m)) => Some(if n <= m { n } else { m }),
+    }
+}
+
+/// Whether there is a reservation, and it permits overlap.
+pub fn is_overlapping(r: Option<&Reservation>) -> bool
+    ensures { result ≡ option_map_or (λ r. r.overlap) (option_copied r.entry) false }
+{
+    match r {
+        Some(r) => r.overlap,
+        None => false,
+    }
+}
+
+impl Moment<'_> {
+    /// When a section meets.
+    pub fn meetings(&self, section: SectionId) -> &[Meeting]
+        ensures { result.now ≡ meetings_of self.now.at section }
+    {
+        match self.catalogue().section(section) {
+            Some(row) => row.meetings.as_slice(),
+            None => &[],
+        }
+    }
+
+    fn overlap(&self, a: SectionId, b: SectionId) -> bool
+        ensures { result ≡ sections_overlap self.now.at a b }
+    {
+        any_overlap(self.meetings(a), self.meetings(b))
+    }
+
+    /// Whether the choice is by a reservation that permits overlap.
+    fn permits_overlap(&self, choice: &Choice) -> bool
+        ensures { result ≡ choice_permits self.now.at choice.now }
+    {
+        match choice.reservation {
+            Some(id) => is_overlapping(self.reservation(id)),
+            None => false,
+        }
+    }
+
+    /// The least of the sections that this one overlaps.
+    fn least_of(&self, section: SectionId, others: &[SectionId]) -> Option<u32>
+        ensures { result ≡ least (map (λ s. s.0) (filter (sections_overlap self.now.at section) others.now)) }
+    {
+        match others {
+            [] => None,
+            [first, rest @ ..] => {
+                let later = self.least_of(section, rest);
+                if self.overlap(section, *first) {
+                    lesser_of(Some(first.0), later)
+                } else {
+                    later
+                }
+            }
+        }
+    }
+
+    /// The least of the sections that overlap this one.
+    fn least_before(&self, section: SectionId, others: &[SectionId]) -> Option<u32>
+        ensures { result ≡ least (map (λ s. s.0) (filter (λ s. sections_overlap self.now.at s section) others.now)) }
+    {
+        match others {
+            [] => None,
+            [first, rest @ ..] => {
+                let later = self.least_before(section, rest);
+                if self.overlap(*first, section) {
+                    lesser_of(Some(first.0), later)
+                } else {
+                    later
+                }
+            }
+        }
+    }
+
+    /// The least section of the choice that this one overlaps, where its reservation doesn't
+    /// permit it and neither is it permitted otherwise.
+    pub fn least_in(&self, permitted: bool, section: SectionId, choice: &Choice) -> Option<u32>
+        ensures { result ≡ least (cond (permitted || choice_permits self.now.at choice.now) [] (map (λ s. s.0) (filter (sections_overlap self.now.at section) choice.now.sections))) }
+    {
+        if permitted || self.permits_overlap(choice) {
+            return None;
+        }
+        self.least_of(section, choice.sections.as_slice())
+    }
+
+    /// The least of the earlier sections of this choice that overlap this one, where its
+    /// reservation doesn't permit it.
+    fn least_own(
+        &self,
+        r: Option<&Reservation>,
+        earlier: &[SectionId],
+        section: SectionId,
+    ) -> Option<u32>
+        ensures { result ≡ least (own_overlaps self.now.at (option_copied r.entry) earlier.now section) }
+    {
+        if is_overlapping(r) {
+            return None;
+        }
+        self.least_before(section, earlier)
+    }
+}
