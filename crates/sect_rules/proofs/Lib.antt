@@ -4,3 +4,5 @@ pub mod OptionLemmas
 pub mod MomentLemmas
 pub mod CreditLemmas
 pub mod ReservedLemmas
+pub mod LeastLemmas
+pub mod OwnLemmas

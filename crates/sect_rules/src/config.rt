@@ -1,6 +1,6 @@
 // The rules on a configuration.
 
-ghost use Rattle.std.specs.Prelude.{◌≡◌, ◌&&◌, [], not, false, zip, option_copied};
+ghost use Rattle.std.specs.Prelude.{◌≡◌, ◌&&◌, [], not, false, zip, option_copied, IsTrue};
 ghost use Rattle.std.specs.List.{list_any, list_all};
 ghost use Rattle.std.specs.Option.{option_map_or, option_and_then};
 ghost use Rattle.sect_reserve.specs.Audience.{admits_config as has_config, admits_section as has_section};
@@ -8,7 +8,7 @@ ghost use Rattle.sect_model.specs.World.{offering_of, reservation_of};
 ghost use Rattle.sect_model.specs.Choice.{subparts_of};
 ghost use Rattle.sect_model.specs.Allowed.{applies_to, restrictions_for};
 ghost use Rattle.sect_model.specs.Rules.{first_broken, config_rules, is_restricted as restricted_by};
-ghost use Rattle.sect_rules.specs.Standing.{admits_all as admits_places, OwnConfig};
+ghost use Rattle.sect_rules.specs.Standing.{admits_all as admits_places, own_config};
 
 use crate::moment::Moment;
 use crate::reserved::is_over;
@@ -85,9 +85,10 @@ impl Moment<'_> {
         id: Option<ReservationId>,
         config: ConfigId,
     ) -> Option<(Rule, u32)>
-        requires { OwnConfig self.now.at course config }
+        requires { IsTrue (own_config self.now.at course config) }
         ensures { result ≡ first_broken (option_map_or (λ o. config_rules self.now.at self.now.student o course (option_and_then (reservation_of self.now.at) id) config) (offering_of self.now.at course) []) }
     {
+        self.keeps();
         let offering = self.offering(course)?.id;
         let r = self.named(id);
         let level = Level::Config(config);

@@ -13,7 +13,10 @@ mod place;
 mod places;
 mod reservation;
 mod reserved;
+mod rules;
+mod section;
 
 pub use options::option;
 pub use path::Path;
+pub use rules::broken;
 pub use sect_model::Pick;

@@ -1,7 +1,12 @@
 // The world at a path, without a copy of it.
 
-ghost use Rattle.std.specs.Prelude.{◌≡◌, ◌≤◌, option_copied};
-ghost use Rattle.sect_model.specs.World.{reservation_of, offering_of, credits_of};
+ghost use Rattle.std.specs.Prelude.{◌≡◌, ◌≤◌, option_copied, flat_map, IsTrue};
+ghost use Rattle.std.specs.List.{list_all};
+ghost use Rattle.sect_catalog.specs.Fault.{are_checked};
+ghost use Rattle.sect_model.specs.Kept.{includes_fit};
+ghost use Rattle.sect_model.specs.Rules.{least};
+ghost use Rattle.sect_rules.specs.Overlapped.{overlapped};
+ghost use Rattle.sect_model.specs.World.{reservation_of, offering_of, credits_of, held_by};
 ghost use Rattle.sect_model.specs.Choice.{subparts_of};
 ghost use Rattle.sect_model.specs.Counts.{count_of, used_of};
 ghost use Rattle.sect_model.specs.Allowed.{reservations_of, restrictions_of, holds_offering as has_offering, max_credits as most_credits, credits_held as credits_of_student};
@@ -13,10 +18,13 @@ use crate::held::{
     counts_given, counts_made, credits, credits_kept, credits_made, given_by, holds_kept,
     holds_made, made_by, max_credits,
 };
+use crate::overlap::lesser_of;
 use crate::path::Path;
 use crate::place::{keeps, offering, subparts};
 use crate::places::places;
-use sect_base::{Choice, ConfigId, CourseId, Level, Move, OfferingId, ReservationId, StudentId};
+use sect_base::{
+    Choice, ConfigId, CourseId, Level, Move, OfferingId, ReservationId, SectionId, StudentId,
+};
 use sect_catalog::{Catalogue, OfferingRow, SubpartRow};
 use sect_model::Enrolment;
 use sect_people::People;
@@ -180,5 +188,26 @@ impl<'a> Moment<'a> {
         ensures { result ≡ credits_of self.now.at course }
     {
         credits(self.world, course)
+    }
+
+    /// What the world keeps of its rows. It does nothing.
+    pub fn keeps(&self)
+        ensures checked { IsTrue (are_checked self.now.at.catalogue.rows) }
+        ensures fit { IsTrue (list_all (λ r. includes_fit self.now.at r.offering r.includes) self.now.at.reservations) }
+    {
+        let _ = &self.world;
+    }
+
+    /// The least section of the student's other choices that this one overlaps, where neither
+    /// permits it.
+    pub fn least_held(&self, permitted: bool, section: SectionId) -> Option<u32>
+        ensures { result ≡ least (flat_map (λ e. overlapped self.now.at permitted section e.choice) (held_by self.now.at self.now.student)) }
+    {
+        let held = self.world.enrolments(self.student);
+        let (give, done) = (self.give, self.done);
+        lesser_of(
+            self.least_kept(permitted, section, give, held),
+            self.least_made(permitted, section, done),
+        )
     }
 }

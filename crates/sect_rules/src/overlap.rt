@@ -9,10 +9,13 @@ ghost use Rattle.sect_model.specs.World.{meetings_of};
 ghost use Rattle.sect_model.specs.Overlap.{sections_overlap};
 ghost use Rattle.sect_model.specs.Allowed.{permits_overlap as choice_permits};
 ghost use Rattle.sect_model.specs.Rules.{least, held_overlaps, own_overlaps};
-ghost use Rattle.sect_rules.specs.Overlapped.{lesser_of as lesser_option};
+ghost use Rattle.sect_rules.specs.Moment.{is_given as given_up};
+ghost use Rattle.sect_rules.specs.Overlapped.{lesser_of as lesser_option, overlapped};
 
+use crate::held::is_given;
 use crate::moment::Moment;
-use sect_base::{Choice, SectionId};
+use sect_base::{Choice, CourseId, SectionId};
+use sect_model::Enrolment;
 use sect_reserve::Reservation;
 use sect_time::{Meeting, overlaps};
 
@@ -111,15 +114,59 @@ impl Moment<'_> {
         }
     }
 
-    /// The least section of the choice that this one overlaps, where its reservation doesn't
-    /// permit it and neither is it permitted otherwise.
-    pub fn least_in(&self, permitted: bool, section: SectionId, choice: &Choice) -> Option<u32>
-        ensures { result ≡ least (cond (permitted || choice_permits self.now.at choice.now) [] (map (λ s. s.0) (filter (sections_overlap self.now.at section) choice.now.sections))) }
+    /// The least section of the choice that this one overlaps, where neither permits it.
+    fn least_in(&self, permitted: bool, section: SectionId, choice: &Choice) -> Option<u32>
+        ensures { result ≡ least (overlapped self.now.at permitted section choice.now) }
     {
         if permitted || self.permits_overlap(choice) {
             return None;
         }
         self.least_of(section, choice.sections.as_slice())
+    }
+
+    /// The least section that this one overlaps, of the enrolments that stay.
+    pub fn least_kept(
+        &self,
+        permitted: bool,
+        section: SectionId,
+        give: &[CourseId],
+        held: &[Enrolment],
+    ) -> Option<u32>
+        ensures { result ≡ least (flat_map (λ e. cond (given_up give.now e.choice.course) [] (overlapped self.now.at permitted section e.choice)) held.now) }
+    {
+        let mut least = None;
+        for e in held {
+            if !is_given(give, e.choice.course) {
+                least = lesser_of(least, self.least_in(permitted, section, &e.choice));
+            }
+        }
+        least
+    }
+
+    /// The least section that this one overlaps, of the choices made.
+    pub fn least_made(&self, permitted: bool, section: SectionId, done: &[Choice]) -> Option<u32>
+        ensures { result ≡ least (flat_map (overlapped self.now.at permitted section) done.now) }
+    {
+        let mut least = None;
+        for choice in done {
+            least = lesser_of(least, self.least_in(permitted, section, choice));
+        }
+        least
+    }
+
+    /// The least section that overlaps this one, held or chosen earlier, where it isn't permitted.
+    pub fn least_overlap(
+        &self,
+        r: Option<&Reservation>,
+        earlier: &[SectionId],
+        section: SectionId,
+    ) -> Option<u32>
+        ensures { result ≡ least (held_overlaps self.now.at self.now.student (option_copied r.entry) section ++ own_overlaps self.now.at (option_copied r.entry) earlier.now section) }
+    {
+        lesser_of(
+            self.least_held(is_overlapping(r), section),
+            self.least_own(r, earlier, section),
+        )
     }
 
     /// The least of the earlier sections of this choice that overlap this one, where its
