@@ -1,7 +1,6 @@
 -- The least of numbers taken one after another, and the first of rules.
 use Rattle.std.specs.Prelude.{◌≡◌, ℕ, zero, suc, ◌+◌, ◌-◌, ◌<◌, ◌≤◌, Bool, true, false, not, ◌&&◌, ◌||◌, ◌==◌, nat_lt, nat_le, cond, List, [], ◌∷◌, ◌++◌, length, map, filter, flat_map, Option, Some, None, refl}
-use Rattle.std.specs.List.{list_any, enumerate_from, filter_map}
-use Rattle.std.specs.Option.{cons_option}
+use Rattle.std.specs.List.{list_any, enumerate_from, filter_map, cons_option}
 use Rattle.std.specs.Option.{option_map_or}
 use Rattle.std.proofs.Common.{sym, ◌∙◌, ap, arith, take, drop, get_or, append_assoc}
 use Rattle.std.proofs.Math.Seq.{take-length}
@@ -10,7 +9,8 @@ use Rattle.std.proofs.lemmas.List.{append-nil}
 use Rattle.sect_people.specs.declared.row.Ask.TheVariants.{Course as asks_course, Free}
 use Rattle.sect_reserve.specs.Audience.{empty_or_any}
 use Rattle.sect_time.specs.Pattern.{Pattern, lists_overlap}
-use Rattle.sect_model.specs.Data.{Ask, Rule}
+use Rattle.std.specs.Option.{option_map, option_map_or}
+use Rattle.sect_model.specs.Data.{Ask, Rule, Student}
 use Rattle.sect_model.specs.Allowed.{free_before}
 use Rattle.sect_model.specs.Rules.{least, first_broken}
 use Rattle.sect_rules.specs.FreeTimes.{meets_free, first_free}
@@ -168,3 +168,21 @@ none-admits {X = X} applies admits (x ∷ xs) = by_test (applies x) (none-admits
         → (b || list_any applies xs) && not ((b && admits x) || list_any (λ x. applies x && admits x) xs) ≡ not (empty_or_any admits (cond b (x ∷ filter applies xs) (filter applies xs)))
     by_test true ih = λ i. not (admits x || any-both xs i)
     by_test false ih = ih
+
+-- the requests of a student that is known
+pub asks-free : (rank : ℕ) (x : Option Student) (asks : List Ask) → Some asks ≡ option_map (λ s. s.asks) x
+    → filter_map (free_before rank) (enumerate_from 1 asks) ≡ option_map_or (λ s. filter_map (free_before rank) (enumerate_from 1 s.asks)) x []
+asks-free rank None asks h = cc
+asks-free rank (Some s) asks h = ap (λ xs. filter_map (free_before rank) (enumerate_from 1 xs)) (same asks s.asks h)
+  where
+    same : (a b : List Ask) → Some a ≡ Some b → a ≡ b
+    same a b e = cc
+
+-- one of two tests, where the first is known
+pub and-true : (a b : Bool) → a ≡ true → b ≡ a && b
+and-true true b h = refl
+and-true false b h = cc
+
+pub and-false : (a b : Bool) → a ≡ false → a ≡ a && b
+and-false false b h = refl
+and-false true b h = cc

@@ -20,11 +20,14 @@ use sect_reserve::{Includes, Reservation, Restriction, admits_config, admits_sec
 fn admits_all(includes: &Includes, subparts: &[SubpartRow], sections: &[SectionId]) -> bool
     ensures { result ≡ list_all (λ p. has_section includes.now p.0.id p.1) (zip subparts.now sections.now) }
 {
-    match (subparts, sections) {
-        ([subpart, others @ ..], [section, rest @ ..]) => {
-            admits_section(includes, subpart.id, *section) && admits_all(includes, others, rest)
-        }
-        _ => true,
+    match subparts {
+        [] => true,
+        [subpart, others @ ..] => match sections {
+            [] => true,
+            [section, rest @ ..] => {
+                admits_section(includes, subpart.id, *section) && admits_all(includes, others, rest)
+            }
+        },
     }
 }
 

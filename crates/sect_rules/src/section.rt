@@ -44,7 +44,7 @@ fn overlaps_one(meetings: &[Meeting], meeting: &Meeting) -> bool
 
 /// The position of the first free time before the rank that the meetings overlap, where the first
 /// of these requests has this position.
-fn first_free(meetings: &[Meeting], rank: u8, number: u8, asks: &[Ask]) -> Option<u8>
+fn first_free(meetings: &[Meeting], rank: u32, number: u32, asks: &[Ask]) -> Option<u32>
     ensures { result ≡ first_free_time meetings.now rank number asks.now }
 {
     if rank <= number {
@@ -115,8 +115,7 @@ impl Moment<'_> {
         ensures { result ≡ least (map (λ f. f.0) (filter (λ f. meets_at self.now.at section f.1) (free_times self.now.at self.now.student rank))) }
     {
         let asks = self.people().asks(self.student())?;
-        let number = first_free(self.meetings(section), rank, 1, asks)?;
-        Some(u32::from(number))
+        first_free(self.meetings(section), u32::from(rank), 1, asks)
     }
 
     /// The first rule on where a section stands.
