@@ -1,5 +1,5 @@
 -- The least of numbers taken one after another, and the first of rules.
-use Rattle.std.specs.Prelude.{◌≡◌, ℕ, zero, suc, ◌+◌, ◌-◌, ◌<◌, ◌≤◌, Bool, true, false, not, ◌&&◌, ◌||◌, ◌==◌, nat_lt, nat_le, cond, List, [], ◌∷◌, ◌++◌, length, map, filter, flat_map, Option, Some, None, refl}
+use Rattle.std.specs.Prelude.{◌≡◌, ℕ, zero, suc, ◌+◌, ◌-◌, ◌<◌, ◌≤◌, Bool, true, false, not, ◌&&◌, ◌||◌, nat_lt, nat_le, cond, List, [], ◌∷◌, ◌++◌, length, map, filter, flat_map, Option, Some, None, refl}
 use Rattle.std.specs.List.{list_any, enumerate_from, filter_map, cons_option}
 use Rattle.std.specs.Option.{option_map_or}
 use Rattle.std.proofs.Common.{sym, ◌∙◌, ap, arith, take, drop, get_or, append_assoc}

@@ -1,5 +1,5 @@
 -- Options stand in what was decided before, and a reservation names levels of its own offering alone.
-use Rattle.std.specs.Prelude.{◌≡◌, ℕ, suc, ◌<◌, ◌≤◌, Bool, true, false, not, ◌&&◌, ◌||◌, ◌==◌, nat_le, List, [], ◌∷◌, ◌++◌, length, map, filter, flat_map, Option, Some, None, slice_get, Contains, refl}
+use Rattle.std.specs.Prelude.{◌≡◌, ℕ, ◌<◌, ◌≤◌, Bool, true, false, not, ◌&&◌, ◌||◌, ◌==◌, nat_le, List, [], ◌∷◌, ◌++◌, length, map, filter, flat_map, Option, Some, None, Contains, refl}
 use Rattle.std.specs.List.{list_any, list_all}
 use Rattle.std.specs.Option.{option_map_or, option_and_then, is_some}
 use Rattle.std.proofs.Common.{sym, ◌∙◌, ap, subst, arith}
@@ -9,7 +9,7 @@ use Rattle.sect_base.specs.declared.limit.Level.TheVariants.{Config as at_config
 use Rattle.sect_catalog.specs.Catalogue.{find_offering}
 use Rattle.sect_catalog.specs.Fault.{are_checked}
 use Rattle.sect_people.specs.Order.{sorted_by}
-use Rattle.sect_model.specs.Data.{CourseId, ReservationId, ConfigId, SectionId, OfferingId, OfferingRow, ConfigRow, SubpartRow, SectionRow, Want, Move, Reservation}
+use Rattle.sect_model.specs.Data.{CourseId, ReservationId, ConfigId, SectionId, OfferingRow, ConfigRow, SubpartRow, SectionRow, Want, Move, Reservation}
 use Rattle.sect_model.specs.declared.pick.Pick.{Pick}
 use Rattle.sect_model.specs.declared.pick.Pick.TheVariants.{Course, Reservation as by_reservation, Config, Section}
 use Rattle.sect_model.specs.World.{World, offering_of}

@@ -1,5 +1,5 @@
 -- Where a decision stands: a configuration in the offering, a section in the next subpart.
-use Rattle.std.specs.Prelude.{Bool, false, true, ◌&&◌, ◌==◌, List, Option, Some, None, zip}
+use Rattle.std.specs.Prelude.{Bool, false, true, ◌&&◌, ◌==◌, List, Option, zip}
 use Rattle.std.specs.List.{list_any, list_all}
 use Rattle.std.specs.Option.{option_map_or, is_some}
 use Rattle.sect_reserve.specs.Audience.{admits_config, admits_section}

@@ -1,12 +1,12 @@
 // The options of a path, by their places.
 
-ghost use Rattle.std.specs.Prelude.{◌≡◌, map, filter, slice_get, [], IsTrue, Some};
+ghost use Rattle.std.specs.Prelude.{◌≡◌, map, filter, slice_get, [], IsTrue, Some, option_copied};
 ghost use Rattle.sect_model.specs.Allowed.{reservations_of};
 ghost use Rattle.std.specs.Option.{option_map_or};
 ghost use Rattle.sect_people.specs.Order.{all_differ, sorted_by};
 ghost use Rattle.sect_model.specs.declared.pick.Pick.TheVariants.{Course, Reservation as by_reservation};
 ghost use Rattle.sect_model.specs.World.{offering_of};
-ghost use Rattle.sect_model.specs.Path.{options_at, options_for, reservation_options, config_options, section_options, next_subpart};
+ghost use Rattle.sect_model.specs.Path.{options_at, options_for, want_at, reservation_options, config_options, section_options, next_subpart};
 ghost use Rattle.sect_rules.specs.Part.{is_of_part};
 
 use crate::nth::{nth, nth_reservation, part_len};
@@ -23,8 +23,14 @@ use sect_space::World;
 pub fn option(world: &World, mv: &Move, path: &Path, i: usize) -> Option<Pick>
     ensures { result ≡ slice_get (options_at world.now.world mv.now path.now) i }
 {
-    let want = mv.take.as_slice().get(path.done().len())?;
-    option_for(world, want, path, i)
+    option_for(world, want_of(mv, path)?, path, i)
+}
+
+/// The want that the path has come to, None where each has its choice.
+pub fn want_of<'a>(mv: &'a Move, path: &Path) -> Option<&'a Want>
+    ensures { option_copied result ≡ want_at mv.now path.now }
+{
+    mv.take.as_slice().get(path.done().len())
 }
 
 /// The option at a place for this want.

@@ -124,6 +124,23 @@ impl Moment<'_> {
         self.least_of(section, choice.sections.as_slice())
     }
 
+    /// The least section of the enrolment that this one overlaps, where it stays.
+    fn least_where_kept(
+        &self,
+        permitted: bool,
+        section: SectionId,
+        give: &[CourseId],
+        choice: &Choice,
+    ) -> Option<u32>
+        ensures { result ≡ least (cond (given_up give.now choice.now.course) [] (overlapped self.now.at permitted section choice.now)) }
+    {
+        if is_given(give, choice.course) {
+            None
+        } else {
+            self.least_in(permitted, section, choice)
+        }
+    }
+
     /// The least section that this one overlaps, of the enrolments that stay.
     pub fn least_kept(
         &self,
@@ -136,9 +153,8 @@ impl Moment<'_> {
     {
         let mut least = None;
         for e in held {
-            if !is_given(give, e.choice.course) {
-                least = lesser_of(least, self.least_in(permitted, section, &e.choice));
-            }
+            let later = self.least_where_kept(permitted, section, give, &e.choice);
+            least = lesser_of(least, later);
         }
         least
     }

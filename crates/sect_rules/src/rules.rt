@@ -7,6 +7,7 @@ ghost use Rattle.sect_model.specs.Rules.{leaf_of, first_broken, rules_on, joined
 ghost use Rattle.sect_rules.specs.Standing.{stands};
 
 use crate::moment::Moment;
+use crate::options::want_of;
 use crate::path::Path;
 use sect_base::{Move, ReservationId, Rule, Want};
 use sect_model::Pick;
@@ -20,9 +21,10 @@ pub fn broken(world: &World, mv: &Move, path: &Path, pick: Pick) -> Option<(Rule
     requires option { Contains (options_at world.now.world mv.now path.now) pick }
     ensures { result ≡ leaf_of world.now.world mv.now path.now pick }
 {
-    let want = mv.take.as_slice().get(path.done().len())?;
-    let at = Moment::new(world, mv, path);
-    first_rule(&at, want, path, pick)
+    match want_of(mv, path) {
+        Some(want) => first_rule(&Moment::new(world, mv, path), want, path, pick),
+        None => None,
+    }
 }
 
 fn first_rule(at: &Moment, want: &Want, path: &Path, pick: Pick) -> Option<(Rule, u32)>

@@ -1,9 +1,9 @@
 -- of what stays and of what was made
-use Rattle.std.proofs.Common.{◌≡◌, sym, ◌∙◌, ap, cond, []}
+use Rattle.std.proofs.Common.{sym, ◌∙◌, ap, cond, []}
 use Rattle.std.specs.Prelude.{flat_map}
 use Rattle.sect_model.specs.World.{held_by}
 use Rattle.sect_model.specs.Rules.{least}
-use Rattle.sect_rules.specs.Moment.{is_given, enrolment, moved}
+use Rattle.sect_rules.specs.Moment.{is_given, enrolment}
 use Rattle.sect_rules.specs.Overlapped.{lesser_of, overlapped}
 use Rattle.sect_rules.proofs.MomentLemmas.{held-moved}
 use Rattle.sect_rules.proofs.LeastLemmas.{least-both}
