@@ -237,38 +237,3 @@ module _ (w : World) (checked : are_checked w.catalogue.rows ≡ true) where
       sections-apart w.catalogue.rows checked p
       (Members.member-of_flat_map (λ g. g.subparts) (all_configs w.catalogue.rows) s.1 p
       (Members.member-of_flat_map (λ o. o.configs) w.catalogue.rows s.0 s.1 s.3 s.4) s.5)
-
--- ---- the number of configurations
-
-passed-one : (before rows : List OfferingRow) → are_checked_after before rows ≡ true → (o : OfferingRow) → Member rows o → (b : List OfferingRow) × (passed b o ≡ true)
-passed-one before [] h o m = absurd m
-passed-one before (x ∷ xs) h o (inl e) = (before, subst (λ y. passed before y ≡ true) e (both-left (passed before x) (are_checked_after (before ++ x ∷ []) xs) h))
-passed-one before (x ∷ xs) h o (inr m) = passed-one (before ++ x ∷ []) xs (both-right (passed before x) (are_checked_after (before ++ x ∷ []) xs) h) o m
-
-counts-pass : (before : List OfferingRow) (o : OfferingRow) → passed before o ≡ true → is_none (too_many (record { rows = before; cancelled = [] }) o) ≡ true
-counts-pass before o h =
-    let c : Catalogue = record { rows = before; cancelled = [] } in
-    let b = none-right (option_map Known (known_id c o)) _ h in
-    let d = none-right (then_some (is_empty o.courses) NoCourse) _ b in
-    let e = none-right (then_some (is_empty o.configs) NoConfig) _ d in
-    let f = none-right (option_map (λ g. NoSubpart g.id.0) (find (λ g. is_empty g.subparts) o.configs)) _ e in
-    let g = none-right (option_map (λ p. NoSection p.id.0) (find (λ p. is_empty p.sections) (flat_map (λ g. g.subparts) o.configs))) _ f in
-    let k = none-right (option_map BadParent (bad_parent o.configs)) _ g in
-    sym (none-map (λ n. TooMany (told n)) (too_many c o)) ∙ k
-
-within-ten : (n : ℕ) → is_none (above 10 (n ∷ [])) ≡ true → n ≤ 10
-within-ten n h = by_test (nat_lt 10 n) refl h
-  where
-    least : nat_lt 10 n ≡ false → n ≤ 10
-    least e = grind (arith, nat_tests, e)
-
-    by_test : (b : Bool) → nat_lt 10 n ≡ b → is_none (cond b (Some n) None) ≡ true → n ≤ 10
-    by_test true e h = absurd (not_both false h refl)
-    by_test false e h = least e
-
--- at most ten in an offering
-pub configs-few : (rows : List OfferingRow) → are_checked rows ≡ true → (o : OfferingRow) → Member rows o → length o.configs ≤ 10
-configs-few rows h o m =
-    let p = passed-one [] rows h o m in
-    within-ten (length o.configs)
-    (none-left (above 10 (length o.configs ∷ [])) _ (none-right (above 10 (length o.courses ∷ [])) _ (counts-pass p.0 o p.1)))

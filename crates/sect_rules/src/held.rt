@@ -7,7 +7,6 @@ ghost use Rattle.sect_model.specs.World.{is_of as course_is_of, credits_of};
 ghost use Rattle.sect_model.specs.Allowed.{max_credits as most_credits};
 ghost use Rattle.sect_rules.specs.Moment.{is_given as given_up, counts_at as choice_counts, uses};
 
-use crate::place::offering;
 use sect_base::{Choice, CourseId, Level, OfferingId, ReservationId, StudentId};
 use sect_model::Enrolment;
 use sect_space::World;
@@ -19,23 +18,13 @@ pub fn is_given(give: &[CourseId], course: CourseId) -> bool
     give.iter().any(|other| course == *other)
 }
 
-/// Whether the course is one of this offering's.
-pub fn is_of(world: &World, id: OfferingId, course: CourseId) -> bool
-    ensures { result ≡ course_is_of world.now.world id course }
-{
-    match offering(world, course) {
-        Some(row) => row.id == id,
-        None => false,
-    }
-}
-
 /// Whether a choice counts at the level.
 fn counts_at(world: &World, level: Level, choice: &Choice) -> bool
     ensures { result ≡ choice_counts world.now.world level choice.now }
 {
     match level {
         Level::Course(id) => choice.course == id,
-        Level::Offering(id) => is_of(world, id, choice.course),
+        Level::Offering(id) => world.is_of(id, choice.course),
         Level::Config(id) => choice.config == id,
         Level::Section(id) => choice.sections.as_slice().contains(&id),
     }
@@ -89,14 +78,14 @@ pub fn made_by(id: ReservationId, done: &[Choice]) -> usize
 pub fn holds_kept(world: &World, id: OfferingId, give: &[CourseId], held: &[Enrolment]) -> bool
     ensures { result ≡ list_any (λ e. not (given_up give.now e.choice.course) && course_is_of world.now.world id e.choice.course) held.now }
 {
-    held.iter().any(|e| !is_given(give, e.choice.course) && is_of(world, id, e.choice.course))
+    held.iter().any(|e| !is_given(give, e.choice.course) && world.is_of(id, e.choice.course))
 }
 
 /// Whether a choice is in the offering.
 pub fn holds_made(world: &World, id: OfferingId, done: &[Choice]) -> bool
     ensures { result ≡ list_any (λ c. course_is_of world.now.world id c.course) done.now }
 {
-    done.iter().any(|choice| is_of(world, id, choice.course))
+    done.iter().any(|choice| world.is_of(id, choice.course))
 }
 
 /// The credits of a course, 0 where it is unknown.

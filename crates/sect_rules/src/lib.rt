@@ -10,7 +10,6 @@ mod options;
 mod overlap;
 mod path;
 mod place;
-mod places;
 mod reservation;
 mod reserved;
 mod rules;

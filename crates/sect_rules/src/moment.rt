@@ -20,8 +20,7 @@ use crate::held::{
 };
 use crate::overlap::lesser_of;
 use crate::path::Path;
-use crate::place::{keeps, offering, subparts};
-use crate::places::places;
+use crate::place::{offering, subparts};
 use sect_base::{
     Choice, ConfigId, CourseId, Level, Move, OfferingId, ReservationId, SectionId, StudentId,
 };
@@ -63,7 +62,7 @@ impl<'a> Moment<'a> {
         requires { MoveFits world.now.world mv.now }
         ensures { result ≡ record { at = world_at world.now.world mv.now path.now; student = mv.now.student } }
     {
-        keeps(world);
+        world.is_kept();
         Moment {
             world,
             student: mv.student,
@@ -118,7 +117,7 @@ impl<'a> Moment<'a> {
     pub fn places(&self, level: Level) -> Option<u64>
         ensures { result ≡ places_at self.now.at level }
     {
-        places(self.world, level)
+        self.world.places(level)
     }
 
     /// The number of enrolments at the level.

@@ -10,8 +10,7 @@ ghost use Rattle.sect_model.specs.Rules.{first_broken, least, chosen_rules, none
 
 use crate::moment::Moment;
 use crate::overlap::lesser_of;
-use crate::places::limited;
-use crate::reserved::is_over;
+use crate::reserved::{is_over, limited};
 use sect_base::{CourseId, Level, ReservationId, Rule};
 use sect_catalog::OfferingRow;
 use sect_reserve::{Audience, Reservation, active, applies};

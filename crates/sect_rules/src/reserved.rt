@@ -2,33 +2,25 @@
 
 ghost use Rattle.std.specs.Prelude.{◌≡◌, ◌==◌, int_le, pos, IsTrue, option_copied};
 ghost use Rattle.std.specs.List.{list_any};
+ghost use Rattle.sect_catalog.specs.Catalogue.{places as limit_places};
 ghost use Rattle.sect_model.specs.Counts.{permits_over};
 ghost use Rattle.sect_model.specs.Space.{has_place as place_at, names as level_named, named_by, space_of};
 ghost use Rattle.sect_model.specs.Rules.{is_full as full_at, is_reserved as reserved_at, is_kept as kept_at};
 ghost use Rattle.sect_rules.specs.Reserved.{held_back as back_at, are_own};
 
 use crate::moment::Moment;
-use crate::places::limited;
-use sect_base::{Level, OfferingId, SectionId};
-use sect_reserve::{Place, Reservation, active};
+use sect_base::{Level, Limit, OfferingId};
+use sect_reserve::{Reservation, active};
+use sect_space::names;
 
-/// Whether a reservation names the level: its offering always, and a configuration or section
-/// where it lists it.
-pub fn names(r: &Reservation, level: Level) -> bool
-    ensures { result ≡ level_named r.now level }
+/// The number of a limit.
+pub fn limited(limit: Limit) -> Option<u64>
+    ensures { result ≡ limit_places limit }
 {
-    match level {
-        Level::Course(_) => false,
-        Level::Offering(id) => r.offering == id,
-        Level::Config(id) => r.includes.configs.as_slice().contains(&id),
-        Level::Section(id) => names_section(r.includes.sections.as_slice(), id),
+    match limit {
+        Limit::Unlimited => None,
+        Limit::Places(places) => Some(u64::from(places)),
     }
-}
-
-fn names_section(places: &[Place], id: SectionId) -> bool
-    ensures { result ≡ list_any (λ p. p.section.0 == id.0) places.now }
-{
-    places.iter().any(|place| place.section == id)
 }
 
 impl Moment<'_> {

@@ -1,12 +1,12 @@
 // The world (a stand-in: its lists are empty).
 
 ghost use Rattle.std.specs.Prelude.{◌≡◌, option_copied};
-ghost use Rattle.sect_model.specs.World.{held_by, reservation_of};
+ghost use Rattle.sect_model.specs.World.{held_by, reservation_of, is_of as course_is_of};
 ghost use Rattle.sect_model.specs.Counts.{count_of, used_of};
 ghost use Rattle.sect_model.specs.Allowed.{reservations_of, restrictions_of};
 ghost use Rattle.sect_model.specs.Kept.{KeptWorld};
 
-use sect_base::{Level, OfferingId, ReservationId, StudentId};
+use sect_base::{CourseId, Level, OfferingId, ReservationId, StudentId};
 use sect_catalog::Catalogue;
 use sect_model::Enrolment;
 use sect_people::People;
@@ -81,10 +81,24 @@ impl World {
     }
 
     pub fn day(&self) -> Day
-        ensures value { result ≡ self.now.world.day }
-        ensures kept { KeptWorld self.now.world }
+        ensures { result ≡ self.now.world.day }
     {
         self.day
+    }
+
+    pub fn is_kept(&self)
+        ensures { KeptWorld self.now.world }
+    {
+        let _ = &self.day;
+    }
+
+    pub fn is_of(&self, id: OfferingId, course: CourseId) -> bool
+        ensures { result ≡ course_is_of self.now.world id course }
+    {
+        match self.catalogue.course(course) {
+            Some((row, _)) => row.id == id,
+            None => false,
+        }
     }
 
     pub fn count(&self, level: Level) -> u32
