@@ -44,7 +44,7 @@ grows-one {Y = Y} f g (z ∷ ys) more y m one = by_place (grows-one f g ys more 
     by_place ih (inr n) = there (ih n one)
 
 -- where each element has its class, there are at most as many as in the classes together
-at-most-classes : {X Y : Type 0} (in_class : Y → X → Bool) (ys : List Y) (xs : List X) → ((x : X) → Member xs x → (y : Y) × Member ys y × (in_class y x ≡ true))
+pub at-most-classes : {X Y : Type 0} (in_class : Y → X → Bool) (ys : List Y) (xs : List X) → ((x : X) → Member xs x → (y : Y) × Member ys y × (in_class y x ≡ true))
     → length xs ≤ sum_by (λ y. length (filter (in_class y) xs)) ys
 at-most-classes in_class ys [] class = omega arith
 at-most-classes {X = X} {Y = Y} in_class ys (x ∷ xs) class =
@@ -63,7 +63,7 @@ at-most-classes {X = X} {Y = Y} in_class ys (x ∷ xs) class =
     one-longer false zs h = absurd (not_both false h refl)
 
 -- a sum of summands that are at most k
-sum-bound : {Y : Type 0} (f : Y → ℕ) (k : ℕ) (ys : List Y) → ((y : Y) → Member ys y → f y ≤ k) → sum_by f ys ≤ length ys * k
+pub sum-bound : {Y : Type 0} (f : Y → ℕ) (k : ℕ) (ys : List Y) → ((y : Y) → Member ys y → f y ≤ k) → sum_by f ys ≤ length ys * k
 sum-bound f k [] few = omega arith
 sum-bound f k (y ∷ ys) few = joined (f y) (sum_by f ys) (length ys) (few y (inl refl)) (sum-bound f k ys (λ z m. few z (inr m))) (sum_by-cons f y ys)
   where
@@ -73,7 +73,7 @@ sum-bound f k (y ∷ ys) few = joined (f y) (sum_by f ys) (length ys) (few y (in
 -- ---- one enrolment of a student in an offering
 
 module _ (w : World) where
-  abbrev enrolled_in : StudentId → OfferingId → Enrolment → Bool
+  abbrev pub enrolled_in : StudentId → OfferingId → Enrolment → Bool
   enrolled_in student offering e = e.student.0 == student.0 && is_of w offering e.choice.course
 
   same-number : (a b c : ℕ) → a == c ≡ true → b == c ≡ true → a == b ≡ true
@@ -96,7 +96,7 @@ module _ (w : World) where
       by_test true h = absurd (conflict h)
       by_test false h = refl
 
-  at-most-one : (student : StudentId) (offering : OfferingId) (es : List Enrolment) → all_go_together w es ≡ true → length (filter (enrolled_in student offering) es) ≤ 1
+  pub at-most-one : (student : StudentId) (offering : OfferingId) (es : List Enrolment) → all_go_together w es ≡ true → length (filter (enrolled_in student offering) es) ≤ 1
   at-most-one student offering [] h = omega arith
   at-most-one student offering (e ∷ es) h = by_test (enrolled_in student offering e) refl (at-most-one student offering es (both-right (list_all (λ later. go_together w later e) es) _ h))
     where

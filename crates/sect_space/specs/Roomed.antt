@@ -1,19 +1,36 @@
--- The world with its room (a stand-in).
-use Rattle.std.specs.Prelude.{◌≡◌, ℕ, List, []}
-use Rattle.sect_model.specs.Data.{Catalogue, Student, Reservation, Restriction}
-use Rattle.sect_model.specs.declared.held.Enrolment.{Enrolment}
+-- The world with the room of its lists.
+use Rattle.std.specs.Prelude.{ℕ, List}
 use Rattle.sect_model.specs.World.{World}
-use Rattle.sect_model.specs.Kept.{KeptWorld}
+use Rattle.sect_model.specs.declared.held.Enrolment.{Enrolment}
+use Rattle.sect_catalog.specs.Catalogue.{Catalogue}
+use Rattle.sect_people.specs.Student.{Student}
+use Rattle.sect_reserve.specs.declared.row.Reservation.{Reservation}
+use Rattle.sect_reserve.specs.declared.row.Restriction.{Restriction}
+use Rattle.sect_roster.specs.Listed.{Listed}
 
+-- a world, and how many enrolments, reservations and restrictions more fit without asking for memory
 pub record Roomed : Type 0 where
   pub world : World
+  pub spare : ℕ
+  pub reservation_spare : ℕ
+  pub restriction_spare : ℕ
 
--- a world by its parts
-abbrev pub seen : Catalogue → List Student → List Reservation → List Restriction → List Enrolment → ℕ → World
-seen c ps rs ts es d = record { catalogue = c; students = ps; reservations = rs; restrictions = ts; roster = es; day = d }
+-- the world of these parts
+abbrev pub world_of : Catalogue → List Student → Listed Reservation → Listed Restriction → Listed Enrolment → ℕ → World
+world_of catalogue students reservations restrictions roster day = record {
+  catalogue = catalogue;
+  students = students;
+  reservations = reservations.items;
+  restrictions = restrictions.items;
+  roster = roster.items;
+  day = day;
+}
 
-pub record IsStandIn (w : World) : Type 0 where
-  pub kept : KeptWorld w
-  pub reservations : w.reservations ≡ []
-  pub restrictions : w.restrictions ≡ []
-  pub roster : w.roster ≡ []
+-- the world of these parts, with the room of its lists
+abbrev pub roomed : Catalogue → List Student → Listed Reservation → Listed Restriction → Listed Enrolment → ℕ → Roomed
+roomed catalogue students reservations restrictions roster day = record {
+  world = world_of catalogue students reservations restrictions roster day;
+  spare = roster.spare;
+  reservation_spare = reservations.spare;
+  restriction_spare = restrictions.spare;
+}

@@ -1,7 +1,24 @@
-// The world: a stand-in with the calls that sect_rules and sect_search use.
+// The world of the desk: its lists, what is counted in them, and the changes of it with their undoing.
 #![tactic(auto)]
 
+mod apply;
+mod back;
+mod change;
+mod count;
+mod enrolment;
+pub mod laws;
+mod mark;
+mod offering;
+mod parts;
+mod reservation;
+mod restriction;
+mod space;
+mod student;
+mod undo;
 mod world;
 
-pub use sect_model::Enrolment;
+pub use back::{Back, Mark};
+pub use sect_model::{Change, Enrolment};
+pub use space::names;
+pub use undo::Undo;
 pub use world::World;

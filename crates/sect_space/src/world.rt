@@ -1,119 +1,150 @@
-// The world (a stand-in: its lists are empty).
+// The world: offerings, students, reservations, restrictions, enrolments, and a day.
 
 ghost use Rattle.std.specs.Prelude.{◌≡◌, option_copied};
-ghost use Rattle.sect_model.specs.World.{held_by, reservation_of, is_of as course_is_of};
-ghost use Rattle.sect_model.specs.Counts.{count_of, used_of};
+ghost use Rattle.sect_model.specs.World.{empty_world, held_by, reservation_of};
 ghost use Rattle.sect_model.specs.Allowed.{reservations_of, restrictions_of};
+ghost use Rattle.sect_model.specs.Refusals.{restriction_of};
 ghost use Rattle.sect_model.specs.Kept.{KeptWorld};
 
-use sect_base::{CourseId, Level, OfferingId, ReservationId, StudentId};
+use crate::parts::Parts;
+use sect_base::{OfferingId, ReservationId, RestrictionId, StudentId};
 use sect_catalog::Catalogue;
 use sect_model::Enrolment;
 use sect_people::People;
 use sect_reserve::{Reservation, Restriction};
+use sect_roster::{Reservations, Restrictions, Roster};
 use sect_time::Day;
+use std::alloc::Global;
 use std::marker::Model;
 
+/// What the desk knows of offerings, students and enrolments, on a day. No limit is passed in it, and no student holds what
+/// may not be held together. Contracts see it as its lists, with the room that these have.
 #[derive(Drop)]
 pub struct World {
-    catalogue: Catalogue,
-    people: People,
-    reservations: Vec<Reservation>,
-    restrictions: Vec<Restriction>,
-    roster: Vec<Enrolment>,
-    day: Day,
+    pub(crate) parts: Parts,
 }
 
 impl Model for World {
-    ghost use Rattle.sect_space.specs.Roomed.{Roomed, IsStandIn, seen};
+    ghost use Rattle.sect_model.specs.Kept.{KeptWorld};
+    ghost use Rattle.sect_space.specs.Roomed.{Roomed};
+    ghost use Rattle.sect_space.specs.Parts.{roomed_of};
 
     ghost Value = { Roomed };
 
-    ghost view = { λ w. record { world = seen w.catalogue w.people w.reservations.items w.restrictions.items w.roster.items w.day } };
+    ghost view = { λ w. roomed_of w.parts };
 
-    ghost invariant = { λ w. IsStandIn (seen w.catalogue w.people w.reservations.items w.restrictions.items w.roster.items w.day) };
+    ghost invariant = { λ w. KeptWorld (roomed_of w.parts).world };
+}
+
+/// The day from which days are counted.
+fn first_day() -> Day
+    ensures { result ≡ 0 }
+{
+    match Day::new(0) {
+        Some(day) => day,
+        None => unreachable!(),
+    }
 }
 
 impl World {
-    pub fn catalogue(&self) -> &Catalogue
-        ensures { result.now ≡ self.now.world.catalogue }
+    /// No rows, on day 0. It takes no memory.
+    pub fn empty(alloc: Global) -> World
+        ensures { result.world ≡ empty_world }
     {
-        &self.catalogue
-    }
-
-    pub fn people(&self) -> &People
-        ensures { result.now ≡ self.now.world.students }
-    {
-        &self.people
-    }
-
-    pub fn reservations(&self, offering: OfferingId) -> &[Reservation]
-        ensures { result.now ≡ reservations_of self.now.world offering }
-    {
-        let _ = offering;
-        &self.reservations
-    }
-
-    pub fn restrictions(&self, offering: OfferingId) -> &[Restriction]
-        ensures { result.now ≡ restrictions_of self.now.world offering }
-    {
-        let _ = offering;
-        &self.restrictions
-    }
-
-    pub fn reservation(&self, id: ReservationId) -> Option<&Reservation>
-        ensures { option_copied result ≡ reservation_of self.now.world id }
-    {
-        self.reservations.iter().find(|row| row.id == id)
-    }
-
-    pub fn enrolments(&self, student: StudentId) -> &[Enrolment]
-        ensures { result.now ≡ held_by self.now.world student }
-    {
-        let _ = student;
-        &self.roster
-    }
-
-    pub fn roster(&self) -> &[Enrolment]
-        ensures { result.now ≡ self.now.world.roster }
-    {
-        &self.roster
-    }
-
-    pub fn day(&self) -> Day
-        ensures { result ≡ self.now.world.day }
-    {
-        self.day
-    }
-
-    pub fn is_kept(&self)
-        ensures { KeptWorld self.now.world }
-    {
-        let _ = &self.day;
-    }
-
-    pub fn is_of(&self, id: OfferingId, course: CourseId) -> bool
-        ensures { result ≡ course_is_of self.now.world id course }
-    {
-        match self.catalogue.course(course) {
-            Some((row, _)) => row.id == id,
-            None => false,
+        World {
+            parts: Parts {
+                catalogue: Catalogue::empty(alloc),
+                people: People::empty(alloc),
+                reservations: Reservations::empty(alloc),
+                restrictions: Restrictions::empty(alloc),
+                roster: Roster::empty(alloc),
+                day: first_day(),
+            },
         }
     }
 
-    pub fn count(&self, level: Level) -> u32
-        ensures { result ≡ count_of self.now.world level }
+    /// Does nothing: the contract tells what holds of every world.
+    pub fn is_kept(&self)
+        ensures { KeptWorld self.now.world }
     {
-        let _ = level;
-        let _ = &self.roster;
-        0
+        let _ = &self.parts.day;
     }
 
-    pub fn used(&self, id: ReservationId) -> u32
-        ensures { result ≡ used_of self.now.world id }
+    /// The offerings. It takes no memory.
+    pub fn catalogue(&self) -> &Catalogue
+        ensures { result.now ≡ self.now.world.catalogue }
     {
-        let _ = id;
-        let _ = &self.roster;
-        0
+        &self.parts.catalogue
+    }
+
+    /// The students. It takes no memory.
+    pub fn people(&self) -> &People
+        ensures { result.now ≡ self.now.world.students }
+    {
+        &self.parts.people
+    }
+
+    /// The reservations of an offering, in the order of their coming. None where the offering is unknown. It takes no memory.
+    pub fn reservations(&self, offering: OfferingId) -> &[Reservation]
+        ensures { result.now ≡ reservations_of self.now.world offering }
+    {
+        self.parts.reservations.of_offering(offering)
+    }
+
+    /// The restrictions of an offering, in the order of their coming. None where the offering is unknown. It takes no memory.
+    pub fn restrictions(&self, offering: OfferingId) -> &[Restriction]
+        ensures { result.now ≡ restrictions_of self.now.world offering }
+    {
+        self.parts.restrictions.of_offering(offering)
+    }
+
+    /// All reservations, in order of offering. It takes no memory.
+    pub fn all_reservations(&self) -> &[Reservation]
+        ensures { result.now ≡ self.now.world.reservations }
+    {
+        self.parts.reservations.rows()
+    }
+
+    /// All restrictions, in order of offering. It takes no memory.
+    pub fn all_restrictions(&self) -> &[Restriction]
+        ensures { result.now ≡ self.now.world.restrictions }
+    {
+        self.parts.restrictions.rows()
+    }
+
+    /// The reservation of an id. None exactly where no row has it. It takes no memory.
+    pub fn reservation(&self, id: ReservationId) -> Option<&Reservation>
+        ensures { option_copied result ≡ reservation_of self.now.world id }
+    {
+        self.parts.reservations.get(id)
+    }
+
+    /// The restriction of an id. None exactly where no row has it. It takes no memory.
+    pub fn restriction(&self, id: RestrictionId) -> Option<&Restriction>
+        ensures { option_copied result ≡ restriction_of self.now.world id }
+    {
+        self.parts.restrictions.get(id)
+    }
+
+    /// What a student holds, in the order in which it was enrolled. It takes no memory.
+    pub fn enrolments(&self, student: StudentId) -> &[Enrolment]
+        ensures { result.now ≡ held_by self.now.world student }
+    {
+        self.parts.roster.of_student(student)
+    }
+
+    /// All enrolments, in rising order of student, and for one student in the order in which they were made. It takes no
+    /// memory.
+    pub fn roster(&self) -> &[Enrolment]
+        ensures { result.now ≡ self.now.world.roster }
+    {
+        self.parts.roster.enrolments()
+    }
+
+    /// The day. It takes no memory.
+    pub fn day(&self) -> Day
+        ensures { result ≡ self.now.world.day }
+    {
+        self.parts.day
     }
 }

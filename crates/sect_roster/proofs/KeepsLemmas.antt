@@ -1,0 +1,130 @@
+-- The index of rows through each change.
+use Rattle.std.specs.Prelude.{◌≡◌, ℕ, ◌<◌, Bool, true, false, not, ◌==◌, List, length, map, filter, find, insert, Option, Some, None, refl}
+use Rattle.std.specs.List.{list_any, position_or_len, remove}
+use Rattle.std.specs.Option.{is_some, option_map}
+use Rattle.std.proofs.Common.{sym, ◌∙◌, ap, subst, arith}
+use Rattle.std.proofs.lemmas.Bool.{eqb-true}
+use Rattle.std.proofs.lemmas.Bool.Decides.{nat_tests}
+use Rattle.sect_people.specs.Order.{all_differ}
+use Rattle.sect_people.specs.Index.{rank}
+use Rattle.sect_model.specs.World.{put_behind}
+use Rattle.sect_model.specs.Kept.{is_ordered_by}
+use Rattle.sect_model.proofs.Easy.{differ-filter, map-key, new-key}
+use Rattle.sect_model.proofs.ListLemmas.{any-find}
+use Rattle.sect_model.proofs.Members.{find-filter, find-map}
+use Rattle.sect_model.proofs.PutLemmas.{differ-put, find-put, ordered-put, ordered-map}
+use Rattle.sect_model.proofs.RosterLemmas.{ordered-filter}
+use Rattle.sect_roster.specs.declared.mark.Mark.{Mark}
+use Rattle.sect_roster.specs.Filed.{Keeps}
+use Rattle.sect_roster.proofs.InsertLemmas.{differ-insert, find-insert, find-inserted, find-put-own, find-dropped, new-id, once, rank-place}
+use Rattle.sect_roster.proofs.PlaceLemmas.{place-within, remove-one}
+
+some-map : {X Y : Type 0} (f : X → Y) (o : Option X) → is_some (option_map f o) ≡ is_some o
+some-map f None = refl
+some-map f (Some x) = refl
+
+pub found-any : {X : Type 0} (p : X → Bool) (xs : List X) → is_some (find p xs) ≡ true → list_any p xs ≡ true
+found-any p xs h = sym (any-find p xs) ∙ h
+
+pub keeps-as : {R : Type 0} (key id : R → ℕ) (rows rows' : List R) (marks marks' : List Mark) → rows ≡ rows' → marks ≡ marks' → Keeps key id rows' marks' → Keeps key id rows marks
+keeps-as key id rows rows' marks marks' e f k = subst (λ rs. Keeps key id rs marks) (sym e) (subst (λ ms. Keeps key id rows' ms) (sym f) k)
+
+module _ {R : Type 0} (key id : R → ℕ) (rows : List R) (marks : List Mark) (k : Keeps key id rows marks) where
+  -- an id has a mark exactly where it has a row
+  pub marked : (n : ℕ) → is_some (find (λ m. m.id == n) marks) ≡ is_some (find (λ r. id r == n) rows)
+  marked n = sym (some-map (λ m. m.offering) (find (λ m. m.id == n) marks)) ∙ ap is_some (k.told n) ∙ some-map key (find (λ r. id r == n) rows)
+
+  abbrev pub mark_of : R → Mark
+  mark_of row = record { id = id row; offering = key row }
+
+  told-put : (row : R) (place : ℕ) → is_some (find (λ r. id r == id row) rows) ≡ false → (n : ℕ) (b : Bool) → id row == n ≡ b
+      → option_map (λ m. m.offering) (find (λ m. m.id == n) (put_behind (λ m. m.id) (mark_of row) marks)) ≡ option_map key (find (λ r. id r == n) (insert rows place row))
+  told-put row place new n true e =
+      let own = λ (j : ℕ). is_some (find (λ r. id r == j) rows) ≡ false in
+      let none = subst own (eqb-true (id row) n e) new in
+      ap (option_map (λ m. m.offering)) (find-put-own (λ m. m.id) (λ m. m.id == n) (mark_of row) marks e (marked n ∙ none))
+      ∙ ap (option_map key) (sym (find-inserted (λ r. id r == n) rows place row e none))
+  told-put row place new n false e =
+      ap (option_map (λ m. m.offering)) (find-put (λ m. m.id) (λ m. m.id == n) (mark_of row) marks e)
+      ∙ k.told n
+      ∙ ap (option_map key) (sym (find-insert (λ r. id r == n) rows place row e))
+
+  -- a row more, at a place that keeps the order
+  pub put-keeps : (row : R) (place : ℕ) → is_some (find (λ r. id r == id row) rows) ≡ false → is_ordered_by key (insert rows place row) ≡ true
+      → Keeps key id (insert rows place row) (put_behind (λ m. m.id) (mark_of row) marks)
+  put-keeps row place new ordered = record {
+    in_order = ordered;
+    differ = differ-insert id rows place row k.differ (new-id id (id row) rows new);
+    marks_in_order = ordered-put (λ m. m.id) (mark_of row) marks k.marks_in_order;
+    marks_differ = differ-put (λ m. m.id) (λ m. m.id) (mark_of row) marks k.marks_differ (new-key (λ m. m.id) marks (id row) (marked (id row) ∙ new));
+    told = λ n. told-put row place new n (id row == n) refl;
+  }
+
+  other : (a b c : ℕ) → a == b ≡ false → c == a ≡ true → not (c == b) ≡ true
+  other a b c h e = grind (arith, nat_tests)
+
+  told-drop : (n m : ℕ) (b : Bool) → m == n ≡ b
+      → option_map (λ m. m.offering) (find (λ x. x.id == m) (filter (λ m. not (m.id == n)) marks)) ≡ option_map key (find (λ r. id r == m) (filter (λ r. not (id r == n)) rows))
+  told-drop n m true e =
+      let same = eqb-true m n e in
+      ap (λ j. option_map (λ m. m.offering) (find (λ x. x.id == j) (filter (λ m. not (m.id == n)) marks))) same
+      ∙ ap (option_map (λ m. m.offering)) (find-dropped (λ m. m.id == n) marks)
+      ∙ ap (option_map key) (sym (find-dropped (λ r. id r == n) rows))
+      ∙ ap (λ j. option_map key (find (λ r. id r == j) (filter (λ r. not (id r == n)) rows))) (sym same)
+  told-drop n m false e =
+      ap (option_map (λ m. m.offering)) (find-filter (λ x. x.id == m) (λ x. not (x.id == n)) marks (λ x t. other m n x.id e t))
+      ∙ k.told m
+      ∙ ap (option_map key) (sym (find-filter (λ r. id r == m) (λ r. not (id r == n)) rows (λ r t. other m n (id r) e t)))
+
+  -- without the row of an id
+  pub drop-keeps : (n : ℕ) → Keeps key id (filter (λ r. not (id r == n)) rows) (filter (λ m. not (m.id == n)) marks)
+  drop-keeps n = record {
+    in_order = ordered-filter key (λ r. not (id r == n)) rows k.in_order;
+    differ = differ-filter id (λ r. not (id r == n)) rows k.differ;
+    marks_in_order = ordered-filter (λ m. m.id) (λ m. not (m.id == n)) marks k.marks_in_order;
+    marks_differ = differ-filter (λ m. m.id) (λ m. not (m.id == n)) marks k.marks_differ;
+    told = λ m. told-drop n m (m == n) refl;
+  }
+
+  -- ---- what is left
+
+  once-row : (n : ℕ) → is_some (find (λ r. id r == n) rows) ≡ true → length (filter (λ r. id r == n) rows) ≡ 1
+  once-row n h = once id n rows k.differ h
+
+  once-mark : (n : ℕ) → is_some (find (λ r. id r == n) rows) ≡ true → length (filter (λ m. m.id == n) marks) ≡ 1
+  once-mark n h = once (λ m. m.id) n marks k.marks_differ (marked n ∙ h)
+
+  pub rows-left : (n : ℕ) → is_some (find (λ r. id r == n) rows) ≡ true → remove rows (position_or_len (λ r. id r == n) rows) ≡ filter (λ r. not (id r == n)) rows
+  rows-left n h = remove-one (λ r. id r == n) rows (once-row n h)
+
+  at-rank : (n : ℕ) → is_some (find (λ r. id r == n) rows) ≡ true → rank (λ m. m.id) n marks ≡ position_or_len (λ m. m.id == n) marks
+  at-rank n h = rank-place (λ m. m.id) n marks k.marks_in_order (marked n ∙ h)
+
+  pub marks-left : (n : ℕ) → is_some (find (λ r. id r == n) rows) ≡ true → remove marks (rank (λ m. m.id) n marks) ≡ filter (λ m. not (m.id == n)) marks
+  marks-left n h = ap (remove marks) (at-rank n h) ∙ remove-one (λ m. m.id == n) marks (once-mark n h)
+
+  pub marks-within : (n : ℕ) → is_some (find (λ r. id r == n) rows) ≡ true → rank (λ m. m.id) n marks < length marks
+  marks-within n h =
+      let at = at-rank n h in
+      let within = place-within (λ m. m.id == n) marks (found-any (λ m. m.id == n) marks (marked n ∙ h)) in
+      omega (arith, at, within)
+
+  -- ---- a change of rows that keeps their offerings and ids
+
+  told-map : (f : R → R) → ((r : R) → key (f r) ≡ key r) → ((r : R) → id (f r) ≡ id r) → (n : ℕ)
+      → option_map (λ m. m.offering) (find (λ m. m.id == n) marks) ≡ option_map key (find (λ r. id r == n) (map f rows))
+  told-map f same_key same_id n =
+      k.told n ∙ sym (ap (option_map key) (find-map (λ r. id r == n) f rows (λ r. ap (λ m. m == n) (same_id r))) ∙ through (find (λ r. id r == n) rows))
+    where
+      through : (o : Option R) → option_map key (option_map f o) ≡ option_map key o
+      through None = refl
+      through (Some r) = ap (λ n. Some n) (same_key r)
+
+  pub change-keeps : (f : R → R) → ((r : R) → key (f r) ≡ key r) → ((r : R) → id (f r) ≡ id r) → Keeps key id (map f rows) marks
+  change-keeps f same_key same_id = record {
+    in_order = ordered-map key f rows same_key ∙ k.in_order;
+    differ = ap all_differ (map-key id f rows same_id) ∙ k.differ;
+    marks_in_order = k.marks_in_order;
+    marks_differ = k.marks_differ;
+    told = told-map f same_key same_id;
+  }

@@ -1,0 +1,7 @@
+pub mod ExpiryLemmas
+pub mod FoundLemmas
+pub mod InsertLemmas
+pub mod KeepsLemmas
+pub mod LastLemmas
+pub mod PlaceLemmas
+pub mod UndoneLemmas
