@@ -193,7 +193,7 @@ held-kept st give es =
 pub held-moved : (w : World) (st : StudentId) (give : List CourseId) (done : List Choice) → is_ordered w.roster ≡ true
     → held_by (moved w st give done) st ≡ filter (λ e. not (is_given give e.choice.course)) (held_by w st) ++ map (enrolment st) done
 held-moved w st give done h =
-    held-made st done (filter (λ e. not (is_left st give e)) w.roster) (ordered-filter (λ e. not (is_left st give e)) w.roster h)
+    held-made st done (filter (λ e. not (is_left st give e)) w.roster) (ordered-filter (λ e. e.student.0) (λ e. not (is_left st give e)) w.roster h)
     ∙ ap (λ xs. xs ++ map (enrolment st) done) (held-kept st give w.roster)
 
 any-map : {X Y : Type 0} (f : X → Y) (test : Y → Bool) (xs : List X) → list_any test (map f xs) ≡ list_any (λ x. test (f x)) xs

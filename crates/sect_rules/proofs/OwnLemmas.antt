@@ -179,3 +179,29 @@ module _ (w : World) (checked : are_checked w.catalogue.rows ≡ true) where
           by_offering : (x : Option OfferingRow) → offering_of w course ≡ x → length (option_map_or (λ g. g.subparts) (option_and_then (λ o. config_in o config) x) []) ≤ 6
           by_offering None e = omega arith
           by_offering (Some o) e = by_config o (all-at sized w.catalogue.rows (checked-size w.catalogue.rows checked) o (offering-member w checked course o e)) (config_in o config) refl
+
+-- ---- the room of a path
+
+module _ (w : World) (mv : Move) (p : Path) (pick : Pick) (option : Contains (options_at w mv p) pick) where
+  -- where there is an option, a want is left
+  pub done-few : length mv.take ≤ 4 → length p.done < 4
+  done-few few = by_want (want_at mv p) refl
+    where
+      within : length p.done < length mv.take → length p.done < 4
+      within h = omega (arith, h, few)
+
+      by_want : (x : Option Want) → want_at mv p ≡ x → length p.done < 4
+      by_want None e =
+          absurd (not_both false
+          (contained (λ pick. false) (option_map_or (λ want. options_for w want p.course p.reservation p.config p.sections) None []) pick
+          (subst (λ x. Contains (option_map_or (λ want. options_for w want p.course p.reservation p.config p.sections) x []) pick) e option) refl) refl)
+      by_want (Some want) e = within (slice_get_within mv.take (length p.done) want e)
+
+-- where the next decision is a section, there is room for it
+pub room : (w : World) → are_checked w.catalogue.rows ≡ true → (p : Path) (section : SectionId) → stands w p (Section section) ≡ true → length p.sections < 6
+room w checked p section h = by_place p.course p.config h
+  where
+    by_place : (c : Option CourseId) (g : Option ConfigId) → option_map_or (λ c. option_map_or (λ g. own_section w c g p.sections section) g false) c false ≡ true → length p.sections < 6
+    by_place None g h = absurd (not_both false h refl)
+    by_place (Some c) None h = absurd (not_both false h refl)
+    by_place (Some c) (Some g) h = sections-few w checked c g p.sections section h

@@ -1,3 +1,4 @@
+pub mod Added
 pub mod FreeTimes
 pub mod Moment
 pub mod Overlapped

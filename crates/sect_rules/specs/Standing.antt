@@ -28,8 +28,8 @@ own_section w course config sections section =
 abbrev pub stands_at : World → Option CourseId → Option ConfigId → List SectionId → Pick → Bool
 stands_at w course config sections (Course id) = true
 stands_at w course config sections (Reservation id) = true
-stands_at w course config sections (Config id) = option_map_or (λ c. own_config w c id) course true
-stands_at w course config sections (Section id) = option_map_or (λ c. option_map_or (λ g. own_section w c g sections id) config true) course true
+stands_at w course config sections (Config id) = option_map_or (λ c. own_config w c id) course false
+stands_at w course config sections (Section id) = option_map_or (λ c. option_map_or (λ g. own_section w c g sections id) config false) course false
 
 abbrev pub stands : World → Path → Pick → Bool
 stands w p pick = stands_at w p.course p.config p.sections pick

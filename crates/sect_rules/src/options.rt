@@ -1,6 +1,6 @@
 // The options of a path, by their places.
 
-ghost use Rattle.std.specs.Prelude.{◌≡◌, map, filter, slice_get, [], IsTrue, Some, option_copied};
+ghost use Rattle.std.specs.Prelude.{◌≡◌, map, filter, slice_get, [], IsTrue, Some, option_copied, Contains, IfSome};
 ghost use Rattle.sect_model.specs.Allowed.{reservations_of};
 ghost use Rattle.std.specs.Option.{option_map_or};
 ghost use Rattle.sect_people.specs.Order.{all_differ, sorted_by};
@@ -21,6 +21,13 @@ use sect_space::World;
 /// ones first and each part by id, and behind them none, or its configurations by id, or the
 /// sections of the next subpart by id. None exactly past the last. It takes no memory.
 pub fn option(world: &World, mv: &Move, path: &Path, i: usize) -> Option<Pick>
+    ensures value { result ≡ slice_get (options_at world.now.world mv.now path.now) i }
+    ensures option { IfSome result (λ pick. Contains (options_at world.now.world mv.now path.now) pick) }
+{
+    option_at(world, mv, path, i)
+}
+
+fn option_at(world: &World, mv: &Move, path: &Path, i: usize) -> Option<Pick>
     ensures { result ≡ slice_get (options_at world.now.world mv.now path.now) i }
 {
     option_for(world, want_of(mv, path)?, path, i)

@@ -7,11 +7,11 @@ ghost use Rattle.sect_model.specs.Path.{
   close as closed,
   is_complete as has_all,
   options_at,
-  sections_due,
 };
 ghost use Rattle.sect_model.specs.Premises.{MoveFits};
+ghost use Rattle.sect_rules.specs.Added.{with_section};
 
-use crate::place::subparts;
+use crate::place::due;
 use sect_base::{Choice, ConfigId, CourseId, Move, ReservationId, SectionId, Sections};
 use sect_model::Pick;
 use sect_space::World;
@@ -149,5 +149,37 @@ impl Path {
             self.config = None;
             self.sections = Sections::empty();
         }
+    }
+
+    /// Puts a section behind the others, and makes a choice of the decisions where as many as are
+    /// due are there.
+    fn add(&mut self, section: SectionId, due: usize)
+        requires sections { length self.old.sections < 6 }
+        requires done { length self.old.done < 4 }
+        ensures { self.new ≡ with_section due self.old section }
+    {
+        self.sections.push(section);
+        if due <= self.sections.len() {
+            self.close();
+        }
+    }
+
+    /// The path with one decision more, which is one of its options.
+    pub fn extended(&self, world: &World, mv: &Move, pick: Pick) -> Path
+        requires fits { MoveFits world.now.world mv.now }
+        requires option { Contains (options_at world.now.world mv.now self.now) pick }
+        ensures { result ≡ extend world.now.world self.now pick }
+    {
+        world.is_kept();
+        let mut path = self.copied();
+        match pick {
+            Pick::Course(course) => path.course = Some(course),
+            Pick::Reservation(id) => path.reservation = Some(id),
+            Pick::Config(config) => path.config = Some(config),
+            Pick::Section(section) => {
+                path.add(section, due(world, self.course, self.config));
+            }
+        }
+        path
     }
 }
