@@ -45,11 +45,13 @@ fn find(alloc: Global, world: &World, mv: &Move, budget: Budget) -> Result<Outco
         return Ok(Outcome::Found(Items::from_vec(Vec::new(alloc)), 0));
     }
     let mut left = budget.get();
-    Ok(match below(alloc, world, mv, &start, decisions(mv), &mut left)? {
-        Walked::Found(choices) => Outcome::Found(choices, budget.get() - left),
-        Walked::Refuted(trees) => Outcome::Blocked(Block::split(trees), budget.get() - left),
-        Walked::Spent => Outcome::Spent(budget.get()),
-    })
+    Ok(
+        match below(alloc, world, mv, &start, decisions(mv), &mut left)? {
+            Walked::Found(choices) => Outcome::Found(choices, budget.get() - left),
+            Walked::Refuted(trees) => Outcome::Blocked(Block::split(trees), budget.get() - left),
+            Walked::Spent => Outcome::Spent(budget.get()),
+        },
+    )
 }
 
 /// The most decisions of a path: nine for each want.

@@ -1,10 +1,9 @@
 // Whether a tree refutes every choice.
 
-ghost use Rattle.std.specs.Prelude.{◌≡◌, ◌→◌, Contains, List, drop, IsTrue, false};
+ghost use Rattle.std.specs.Prelude.{◌≡◌, Contains, IsTrue};
 ghost use Rattle.sect_base.specs.TreeOf.{tree_of};
 ghost use Rattle.sect_base.specs.Tree.{trees_of};
 ghost use Rattle.sect_model.specs.Covers.{covers, covers_with, cover_each, is_leaf};
-ghost use Rattle.sect_model.specs.Move.{is_allowed_move};
 ghost use Rattle.sect_model.specs.Path.{options_at};
 ghost use Rattle.sect_model.specs.Premises.{MoveFits};
 ghost use Rattle.sect_search.specs.Refutes.{NoMove};
