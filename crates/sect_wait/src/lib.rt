@@ -1,0 +1,11 @@
+// Who waits: entries in order of ticket, and settling, which places them until none can be placed.
+#![tactic(auto)]
+
+mod back;
+mod queue;
+mod undo;
+
+pub use back::QueueBack;
+pub use queue::Queue;
+pub use sect_model::{Placed, Waiting};
+pub use undo::QueueUndo;
