@@ -1,4 +1,5 @@
 pub mod Bounds
+pub mod Lengths
 pub mod LimitBack
 pub mod Lists
 pub mod Steps

@@ -31,30 +31,29 @@ use Rattle.sect_model.proofs.Members
 use Rattle.sect_model.proofs.Members.{any-at, both-left, both-right, not_both, not_true}
 use Rattle.sect_model.proofs.ChangeLemmas.{new_id, not_in_use}
 use Rattle.sect_space.specs.declared.back.Back.TheVariants.{StudentAdded, StudentReplaced, RequestsReplaced, ReservationRemoved, ExpiryReplaced, RestrictionRemoved, LimitReplaced, Left}
-use Rattle.sect_space.specs.Back.{back_of, taken_back, no_change, offering_id, cap_offering, but_last}
+use Rattle.sect_space.specs.Back.{back_of, taken_back, no_change, offering_id, reservation_offering, cap_offering, but_last}
 use Rattle.sect_roster.proofs.InsertLemmas.{once}
 use Rattle.sect_roster.proofs.LastLemmas.{drop-put}
-use Rattle.sect_roster.proofs.Laws.{taken-back as dropped}
 use Rattle.sect_roster.proofs.PlaceLemmas.{put-one-back}
 use Rattle.sect_space.proofs.Bounds.{held-once}
-use Rattle.sect_space.proofs.Lists.{but-last, map-back}
+use Rattle.sect_space.proofs.Lists.{but-last, map-back, put-dropped}
 use Rattle.sect_space.proofs.StudentBack.{new-back, row-back, asks-back}
 use Rattle.sect_space.proofs.LimitBack.{limit-back}
 
 -- ---- the parts of a change of something known
 
 student-back : (w : World) → KeptWorld w → (row : StudentRow) (o : Option Student) → find_student w.students row.id ≡ o
-    → taken_back (put_student w row) (option_map_or (λ s. StudentReplaced s.row) o (StudentAdded row.id)) ≡ w
+    → taken_back (put_student w row) (option_map_or StudentReplaced (option_map (λ s. s.row) o) (StudentAdded row.id)) ≡ w
 student-back w k row None e = λ i. record w { students = new-back w.students row e i }
 student-back w k row (Some s) e = λ i. record w { students = row-back w.students row s k.students_differ e i }
 
 requests-back : (w : World) → KeptWorld w → (student : StudentId) (asks : List Ask) (o : Option Student) → find_student w.students student ≡ o → is_some o ≡ true
-    → taken_back (put_asks w student asks) (option_map_or (λ s. RequestsReplaced student s.asks) o (no_change w)) ≡ w
+    → taken_back (put_asks w student asks) (option_map_or (RequestsReplaced student) (option_map (λ s. s.asks) o) (no_change w)) ≡ w
 requests-back w k student asks None e h = absurd (Members.not_both false h refl)
 requests-back w k student asks (Some s) e h = λ i. record w { students = asks-back w.students student asks s k.students_differ e i }
 
 expiry-back : (w : World) → KeptWorld w → (id : ReservationId) (day : Option ℕ) (o : Option Reservation) → reservation_of w id ≡ o → is_some o ≡ true
-    → taken_back (put_expiry w id day) (option_map_or (λ r. ExpiryReplaced id (Some r.offering) r.expiry) o (no_change w)) ≡ w
+    → taken_back (put_expiry w id day) (option_map_or (ExpiryReplaced id (reservation_offering w id)) (option_map (λ r. r.expiry) o) (no_change w)) ≡ w
 expiry-back w k id day None e h = absurd (Members.not_both false h refl)
 expiry-back w k id day (Some r) e h = λ i. record w { reservations = same i }
   where
@@ -116,10 +115,10 @@ pub taken-back : (w : World) (c : Change) → KeptWorld w → Fits w c → taken
 taken-back w (Offering row) k f = λ i. record w { catalogue = record { rows = but-last w.catalogue.rows row i; cancelled = w.catalogue.cancelled } }
 taken-back w (student_change row) k f = student-back w k row (find_student w.students row.id) refl
 taken-back w (Requests student asks) k f = requests-back w k student asks (find_student w.students student) refl (both-left (is_some (find_student w.students student)) _ f)
-taken-back w (Reserve r) k f = λ i. record w { reservations = dropped (λ x. x.offering.0) (λ x. x.id.0) r w.reservations (new_id w r f) i }
+taken-back w (Reserve r) k f = λ i. record w { reservations = put-dropped (λ x. x.offering.0) (λ x. x.id.0) r w.reservations (new_id w r f) i }
 taken-back w (Unreserve id) k f = unreserve-back w k id (reservation_of w id) refl (both-left (is_some (reservation_of w id)) _ f)
 taken-back w (Expiry id day) k f = expiry-back w k id day (reservation_of w id) refl f
-taken-back w (Restrict r) k f = λ i. record w { restrictions = dropped (λ x. x.offering.0) (λ x. x.id.0) r w.restrictions (new_restriction_id w r f) i }
+taken-back w (Restrict r) k f = λ i. record w { restrictions = put-dropped (λ x. x.offering.0) (λ x. x.id.0) r w.restrictions (new_restriction_id w r f) i }
 taken-back w (Unrestrict id) k f = unrestrict-back w k id (restriction_of w id) refl f
 taken-back w (new_cap cap limit) k f = cap-back w k cap limit (limit_in w.catalogue.rows cap) refl (known_limit w cap (both-left (is_known_cap w cap) _ f))
 taken-back w (Cancelled id) k f = λ i. record w { catalogue = record { rows = w.catalogue.rows; cancelled = cancel-back w id (not_true (is_cancelled w.catalogue id) (both-right (is_some (find_section w.catalogue.rows id)) _ (both-left _ _ f))) i } }

@@ -64,11 +64,11 @@ no_change w = DayReplaced w.day w.day
 -- what is kept of a change, so that it can be taken back
 abbrev pub back_of : World → Change → Back
 back_of w (Offering row) = OfferingAdded row.id
-back_of w (Student row) = option_map_or (λ s. StudentReplaced s.row) (find_student w.students row.id) (StudentAdded row.id)
-back_of w (Requests student asks) = option_map_or (λ s. RequestsReplaced student s.asks) (find_student w.students student) (no_change w)
+back_of w (Student row) = option_map_or StudentReplaced (option_map (λ s. s.row) (find_student w.students row.id)) (StudentAdded row.id)
+back_of w (Requests student asks) = option_map_or (RequestsReplaced student) (option_map (λ s. s.asks) (find_student w.students student)) (no_change w)
 back_of w (Reserve r) = ReservationAdded r.id r.offering
 back_of w (Unreserve id) = option_map_or (ReservationRemoved (position_or_len (λ r. r.id.0 == id.0) w.reservations)) (reservation_of w id) (no_change w)
-back_of w (Expiry id day) = option_map_or (λ r. ExpiryReplaced id (Some r.offering) r.expiry) (reservation_of w id) (no_change w)
+back_of w (Expiry id day) = option_map_or (ExpiryReplaced id (reservation_offering w id)) (option_map (λ r. r.expiry) (reservation_of w id)) (no_change w)
 back_of w (Restrict r) = RestrictionAdded r.id r.offering
 back_of w (Unrestrict id) = option_map_or (RestrictionRemoved (position_or_len (λ r. r.id.0 == id.0) w.restrictions)) (restriction_of w id) (no_change w)
 back_of w (new_cap cap limit) = option_map_or (LimitReplaced cap (cap_offering w cap)) (limit_in w.catalogue.rows cap) (no_change w)

@@ -2,9 +2,17 @@
 #![tactic(auto)]
 
 mod back;
+mod change;
 mod count;
+mod enrolment;
 pub mod laws;
+mod mark;
+mod offering;
+mod parts;
+mod reservation;
+mod restriction;
 mod space;
+mod student;
 mod world;
 
 pub use back::{Back, Mark};

@@ -6,6 +6,7 @@ ghost use Rattle.sect_model.specs.Allowed.{reservations_of, restrictions_of};
 ghost use Rattle.sect_model.specs.Refusals.{restriction_of};
 ghost use Rattle.sect_model.specs.Kept.{KeptWorld};
 
+use crate::parts::Parts;
 use sect_base::{OfferingId, ReservationId, RestrictionId, StudentId};
 use sect_catalog::Catalogue;
 use sect_model::Enrolment;
@@ -20,23 +21,19 @@ use std::marker::Model;
 /// may not be held together. Contracts see it as its lists, with the room that these have.
 #[derive(Drop)]
 pub struct World {
-    catalogue: Catalogue,
-    people: People,
-    reservations: Reservations,
-    restrictions: Restrictions,
-    roster: Roster,
-    day: Day,
+    parts: Parts,
 }
 
 impl Model for World {
     ghost use Rattle.sect_model.specs.Kept.{KeptWorld};
-    ghost use Rattle.sect_space.specs.Roomed.{Roomed, world_of, roomed};
+    ghost use Rattle.sect_space.specs.Roomed.{Roomed};
+    ghost use Rattle.sect_space.specs.Parts.{roomed_of};
 
     ghost Value = { Roomed };
 
-    ghost view = { λ w. roomed w.catalogue w.people w.reservations w.restrictions w.roster w.day };
+    ghost view = { λ w. roomed_of w.parts };
 
-    ghost invariant = { λ w. KeptWorld (world_of w.catalogue w.people w.reservations w.restrictions w.roster w.day) };
+    ghost invariant = { λ w. KeptWorld (roomed_of w.parts).world };
 }
 
 /// The day from which days are counted.
@@ -55,12 +52,14 @@ impl World {
         ensures { result.world ≡ empty_world }
     {
         World {
-            catalogue: Catalogue::empty(alloc),
-            people: People::empty(alloc),
-            reservations: Reservations::empty(alloc),
-            restrictions: Restrictions::empty(alloc),
-            roster: Roster::empty(alloc),
-            day: first_day(),
+            parts: Parts {
+                catalogue: Catalogue::empty(alloc),
+                people: People::empty(alloc),
+                reservations: Reservations::empty(alloc),
+                restrictions: Restrictions::empty(alloc),
+                roster: Roster::empty(alloc),
+                day: first_day(),
+            },
         }
     }
 
@@ -68,70 +67,70 @@ impl World {
     pub fn is_kept(&self)
         ensures { KeptWorld self.now.world }
     {
-        let _ = &self.day;
+        let _ = &self.parts.day;
     }
 
     /// The offerings. It takes no memory.
     pub fn catalogue(&self) -> &Catalogue
         ensures { result.now ≡ self.now.world.catalogue }
     {
-        &self.catalogue
+        &self.parts.catalogue
     }
 
     /// The students. It takes no memory.
     pub fn people(&self) -> &People
         ensures { result.now ≡ self.now.world.students }
     {
-        &self.people
+        &self.parts.people
     }
 
     /// The reservations of an offering, in the order of their coming. None where the offering is unknown. It takes no memory.
     pub fn reservations(&self, offering: OfferingId) -> &[Reservation]
         ensures { result.now ≡ reservations_of self.now.world offering }
     {
-        self.reservations.of_offering(offering)
+        self.parts.reservations.of_offering(offering)
     }
 
     /// The restrictions of an offering, in the order of their coming. None where the offering is unknown. It takes no memory.
     pub fn restrictions(&self, offering: OfferingId) -> &[Restriction]
         ensures { result.now ≡ restrictions_of self.now.world offering }
     {
-        self.restrictions.of_offering(offering)
+        self.parts.restrictions.of_offering(offering)
     }
 
     /// All reservations, in order of offering. It takes no memory.
     pub fn all_reservations(&self) -> &[Reservation]
         ensures { result.now ≡ self.now.world.reservations }
     {
-        self.reservations.rows()
+        self.parts.reservations.rows()
     }
 
     /// All restrictions, in order of offering. It takes no memory.
     pub fn all_restrictions(&self) -> &[Restriction]
         ensures { result.now ≡ self.now.world.restrictions }
     {
-        self.restrictions.rows()
+        self.parts.restrictions.rows()
     }
 
     /// The reservation of an id. None exactly where no row has it. It takes no memory.
     pub fn reservation(&self, id: ReservationId) -> Option<&Reservation>
         ensures { option_copied result ≡ reservation_of self.now.world id }
     {
-        self.reservations.get(id)
+        self.parts.reservations.get(id)
     }
 
     /// The restriction of an id. None exactly where no row has it. It takes no memory.
     pub fn restriction(&self, id: RestrictionId) -> Option<&Restriction>
         ensures { option_copied result ≡ restriction_of self.now.world id }
     {
-        self.restrictions.get(id)
+        self.parts.restrictions.get(id)
     }
 
     /// What a student holds, in the order in which it was enrolled. It takes no memory.
     pub fn enrolments(&self, student: StudentId) -> &[Enrolment]
         ensures { result.now ≡ held_by self.now.world student }
     {
-        self.roster.of_student(student)
+        self.parts.roster.of_student(student)
     }
 
     /// All enrolments, in rising order of student, and for one student in the order in which they were made. It takes no
@@ -139,13 +138,13 @@ impl World {
     pub fn roster(&self) -> &[Enrolment]
         ensures { result.now ≡ self.now.world.roster }
     {
-        self.roster.enrolments()
+        self.parts.roster.enrolments()
     }
 
     /// The day. It takes no memory.
     pub fn day(&self) -> Day
         ensures { result ≡ self.now.world.day }
     {
-        self.day
+        self.parts.day
     }
 }

@@ -1,0 +1,78 @@
+// Changes of the roster, and of the day.
+
+ghost use Rattle.std.specs.Prelude.{◌≡◌, ◌<◌, IfOk, IsOk, OnErr};
+ghost use Rattle.sect_model.specs.Fits.{Fits};
+ghost use Rattle.sect_model.specs.Kept.{KeptWorld};
+ghost use Rattle.sect_space.specs.Back.{taken_back};
+ghost use Rattle.sect_space.specs.Made.{Made, Unchanged, Taken, Ready};
+ghost use Rattle.sect_space.specs.Parts.{roomed_of};
+
+use crate::back::Back;
+use crate::parts::Parts;
+use sect_base::{CourseId, Memory, OfferingId, StudentId};
+use sect_model::{Change, Enrolment};
+use sect_time::Day;
+
+impl Parts {
+    /// Enrols a student. Where memory runs out, nothing is changed; it takes none where there is room.
+    pub fn enrol(&mut self, enrolment: Enrolment) -> Result<Back, Memory>
+        ensures ok { IfOk result (λ back. Made (roomed_of self.old) (roomed_of self.new) (Change.Enrol enrolment) back) }
+        ensures err { OnErr result (Unchanged (roomed_of self.old) (roomed_of self.new)) }
+        ensures enough { 0 < (roomed_of self.old).spare → IsOk result }
+    {
+        let back = Back::Enrolled(
+            enrolment.student,
+            self.course_offering(enrolment.choice.course),
+        );
+        self.roster.reserve(1)?;
+        self.roster.insert(enrolment);
+        Ok(back)
+    }
+
+    /// Takes the last enrolment of the student off. There is one.
+    pub fn remove_enrolment(&mut self, student: StudentId, offering: Option<OfferingId>)
+        requires { Ready (roomed_of self.old) (Back.Enrolled student offering) }
+        ensures { Taken (roomed_of self.old) (roomed_of self.new) (Back.Enrolled student offering) }
+    {
+        let _ = offering;
+        let _ = self.roster.remove_last_of(student);
+    }
+
+    /// The student leaves the course. It takes no memory.
+    pub fn leave(&mut self, student: StudentId, course: CourseId) -> Back
+        requires kept { KeptWorld (roomed_of self.old).world }
+        requires fits { Fits (roomed_of self.old).world (Change.Leave student course) }
+        ensures { Made (roomed_of self.old) (roomed_of self.new) (Change.Leave student course) result }
+    {
+        let offering = self.course_offering(course);
+        let (place, enrolment) = self.roster.remove(student, course);
+        Back::Left(place, enrolment, offering)
+    }
+
+    /// Puts an enrolment back where it stood. There is room.
+    pub fn put_enrolment_back(&mut self, place: usize, enrolment: Enrolment, offering: Option<OfferingId>)
+        requires ready { Ready (roomed_of self.old) (Back.Left place enrolment offering) }
+        requires kept { KeptWorld (taken_back (roomed_of self.old).world (Back.Left place enrolment offering)) }
+        ensures { Taken (roomed_of self.old) (roomed_of self.new) (Back.Left place enrolment offering) }
+    {
+        let _ = offering;
+        self.roster.put_back(place, enrolment);
+    }
+
+    /// Another day. It takes no memory.
+    pub fn put_day(&mut self, day: Day) -> Back
+        ensures { Made (roomed_of self.old) (roomed_of self.new) (Change.Day day) result }
+    {
+        let old = self.day;
+        self.day = day;
+        Back::DayReplaced(old, day)
+    }
+
+    /// The old day again.
+    pub fn restore_day(&mut self, old: Day, new: Day)
+        ensures { Taken (roomed_of self.old) (roomed_of self.new) (Back.DayReplaced old new) }
+    {
+        let _ = new;
+        self.day = old;
+    }
+}

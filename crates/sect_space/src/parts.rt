@@ -1,0 +1,17 @@
+// The parts of a world, each a list with its index. Which worlds there can be is told where the parts are one.
+
+use sect_catalog::Catalogue;
+use sect_people::People;
+use sect_roster::{Reservations, Restrictions, Roster};
+use sect_time::Day;
+
+/// The parts of a world.
+#[derive(Drop)]
+pub struct Parts {
+    pub catalogue: Catalogue,
+    pub people: People,
+    pub reservations: Reservations,
+    pub restrictions: Restrictions,
+    pub roster: Roster,
+    pub day: Day,
+}
