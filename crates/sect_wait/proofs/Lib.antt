@@ -1,2 +1,3 @@
+pub mod NextLemmas
 pub mod QueueLemmas
 pub mod UndoLemmas

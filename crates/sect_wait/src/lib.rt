@@ -2,6 +2,8 @@
 #![tactic(auto)]
 
 mod back;
+mod entry;
+mod next;
 mod queue;
 mod undo;
 
