@@ -10,11 +10,6 @@ use Rattle.sect_space.specs.Back.{back_of, taken_back}
 use Rattle.sect_space.specs.Roomed.{Roomed}
 use Rattle.sect_space.specs.Room.{HasRoom}
 
--- what was kept of changes, the first one first, and how many more fit without asking for memory
-pub record Recorded : Type 0 where
-  pub backs : List Back
-  pub spare : ℕ
-
 -- the world in which all of these are taken back, the last one first
 abbrev pub undone : World → List Back → World
 undone w [] = w
