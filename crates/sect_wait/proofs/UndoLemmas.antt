@@ -2,8 +2,8 @@
 use Rattle.std.specs.Prelude.{◌≡◌, ℕ, zero, suc, ◌+◌, ◌-◌, ◌<◌, ◌≤◌, ◌==◌, List, [], ◌∷◌, ◌++◌, length, take, drop, insert, find, Option, Some, None, refl}
 use Rattle.std.specs.List.{position_or_len}
 use Rattle.std.specs.Option.{is_some, option_map, option_to_list}
-use Rattle.std.proofs.Common.{sym, ◌∙◌, ap, subst, arith, length-append}
-use Rattle.std.proofs.Math.Seq.{take-append_seam}
+use Rattle.std.proofs.Common.{sym, ◌∙◌, ap, subst, arith, length-append, append_assoc}
+use Rattle.std.proofs.Math.Seq.{take-append_seam, drop-append_seam}
 use Rattle.std.proofs.Math.ListN.{drop_of_length-le}
 use Rattle.std.proofs.lemmas.List.{take-append-le, drop-append-le, append-nil}
 use Rattle.sect_model.specs.declared.held.Waiting.{Waiting}
@@ -15,7 +15,7 @@ use Rattle.sect_roster.proofs.PlaceLemmas.{put-one-back, place-left}
 use Rattle.sect_wait.specs.declared.back.QueueBack.{QueueBack}
 use Rattle.sect_wait.specs.declared.back.QueueBack.TheVariants.{Joined, Left}
 use Rattle.sect_wait.specs.Queued.{Queued, RoomedQueue, IsQueue, left}
-use Rattle.sect_wait.specs.Undo.{taken_back, left_back, undone, Ready, AllReady, Undoable}
+use Rattle.sect_wait.specs.Undo.{taken_back, left_back, undone, Ready, AllReady, Since, Undoable}
 use Rattle.sect_wait.proofs.QueueLemmas.{one-ticket, without-none}
 
 -- ---- room
@@ -126,6 +126,46 @@ pub left-undoable : (q p : RoomedQueue) (ticket : ℕ) (bs cs : List QueueBack) 
 left-undoable q p ticket bs cs k few is room recorded h =
     subst (λ n. AllReady n p.queue cs) (sym room) (subst (λ v. AllReady q.room v cs) (sym is) (subst (AllReady q.room (left q.queue ticket)) (sym recorded)
     (leave-undoable q.room q.queue ticket bs (find (λ f. f.ticket == ticket) q.queue.entries) k refl few h)))
+
+-- ---- what changes led to
+
+pub since-none : (q p : Queued) (bs cs : List QueueBack) → p ≡ q → cs ≡ bs → Since q bs p cs
+since-none q p bs cs same recorded = record { more = []; recorded = recorded ∙ sym (append-nil bs); led = same }
+
+pub since-joined : (q p : Queued) (e : Waiting) (bs cs : List QueueBack) → p ≡ record { entries = q.entries ++ e ∷ []; next = q.next + 1 } → cs ≡ bs ++ Joined ∷ [] → Since q bs p cs
+since-joined q p e bs cs is recorded = record { more = Joined ∷ []; recorded = recorded; led = ap (λ v. taken_back v Joined) is ∙ join-back q e }
+
+pub since-left : (q p : Queued) (ticket : ℕ) (bs cs : List QueueBack) → IsQueue q → p ≡ left q ticket → cs ≡ bs ++ left_back q ticket → Since q bs p cs
+since-left q p ticket bs cs k is recorded = by_entry (find (λ f. f.ticket == ticket) q.entries) refl recorded
+  where
+    by_entry : (o : Option Waiting) → find (λ f. f.ticket == ticket) q.entries ≡ o
+        → cs ≡ bs ++ option_to_list (option_map (Left (position_or_len (λ f. f.ticket == ticket) q.entries)) o) → Since q bs p cs
+    by_entry None found h =
+        let none = without-none q.entries ticket (sym (any-find (λ f. f.ticket == ticket) q.entries) ∙ ap is_some found) in
+        since-none q p bs cs (is ∙ (λ i. record { entries = none i; next = q.next })) (h ∙ append-nil bs)
+    by_entry (Some e) found h = record {
+      more = Left (position_or_len (λ f. f.ticket == ticket) q.entries) e ∷ [];
+      recorded = h;
+      led = ap (λ v. taken_back v (Left (position_or_len (λ f. f.ticket == ticket) q.entries) e)) is ∙ leave-back q ticket e k found;
+    }
+
+undone-append : (q : Queued) (bs cs : List QueueBack) → undone q (bs ++ cs) ≡ undone (undone q cs) bs
+undone-append q [] cs = refl
+undone-append q (b ∷ bs) cs = ap (λ p. taken_back p b) (undone-append q bs cs)
+
+-- one after the other
+pub since-joins : (q p r : Queued) (bs cs ds : List QueueBack) → Since q bs p cs → Since p cs r ds → Since q bs r ds
+since-joins q p r bs cs ds a b = record {
+  more = a.more ++ b.more;
+  recorded = b.recorded ∙ ap (λ xs. xs ++ b.more) a.recorded ∙ append_assoc {xs = bs} {ys = a.more} {zs = b.more};
+  led = undone-append r a.more b.more ∙ ap (λ v. undone v a.more) b.led ∙ a.led;
+}
+
+pub since-undone : (q p : Queued) (bs cs : List QueueBack) → Since q bs p cs → undone p (drop (length bs) cs) ≡ q
+since-undone q p bs cs s = ap (λ ds. undone p (drop (length bs) ds)) s.recorded ∙ ap (undone p) (drop-append_seam bs s.more) ∙ s.led
+
+pub since-recorded : (q p : Queued) (bs cs : List QueueBack) → Since q bs p cs → take (length bs) cs ≡ bs
+since-recorded q p bs cs s = ap (take (length bs)) s.recorded ∙ take-append_seam bs s.more
 
 -- ---- taking changes back, one after the other
 

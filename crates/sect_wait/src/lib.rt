@@ -3,6 +3,7 @@
 
 mod back;
 mod entry;
+pub mod laws;
 mod next;
 mod queue;
 mod undo;

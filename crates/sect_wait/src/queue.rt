@@ -6,7 +6,7 @@ ghost use Rattle.std.specs.List.{list_any};
 ghost use Rattle.sect_people.specs.Index.{rank as rank_of};
 ghost use Rattle.sect_model.specs.Kept.{is_ordered_by};
 ghost use Rattle.sect_wait.specs.Queued.{empty_queue, joined, left, IsQueue};
-ghost use Rattle.sect_wait.specs.Undo.{left_back, taken_back, undone, Ready, Undoable};
+ghost use Rattle.sect_wait.specs.Undo.{left_back, taken_back, undone, Ready, Since, Undoable};
 ghost use Rattle.sect_wait.specs.declared.back.QueueBack.TheVariants.{Joined};
 
 use crate::back::QueueBack;
@@ -75,6 +75,7 @@ impl Queue {
         ensures err { OnErr result (self.new.queue ≡ self.old.queue) }
         ensures recorded { OnOk result (undo.new ≡ undo.old ++ Joined ∷ []) }
         ensures not_recorded { OnErr result (undo.new ≡ undo.old) }
+        ensures since { Since self.old.queue undo.old self.new.queue undo.new }
         ensures undoable { Undoable self.old undo.old → Undoable self.new undo.new }
     {
         if self.next == u64::MAX {
@@ -101,6 +102,7 @@ impl Queue {
         ensures err { OnErr result (self.new.queue ≡ self.old.queue) }
         ensures recorded { OnOk result (undo.new ≡ undo.old ++ left_back self.old.queue ticket) }
         ensures not_recorded { OnErr result (undo.new ≡ undo.old) }
+        ensures since { Since self.old.queue undo.old self.new.queue undo.new }
         ensures undoable { Undoable self.old undo.old → Undoable self.new undo.new }
     {
         self.is_kept();
