@@ -2,6 +2,7 @@ pub mod Bounds
 pub mod Lengths
 pub mod LimitBack
 pub mod Lists
+pub mod MarkLemmas
 pub mod ReadyLemmas
 pub mod Steps
 pub mod StudentBack

@@ -1,5 +1,5 @@
 -- After a change that fits, what it refers to is there, and there is room for what is put back.
-use Rattle.std.specs.Prelude.{◌≡◌, ℕ, ◌+◌, ◌<◌, ◌≤◌, Bool, true, false, not, ◌&&◌, ◌==◌, nat_le, cond, List, [], ◌∷◌, ◌++◌, length, map, flat_map, filter, find, insert, Option, Some, None, refl}
+use Rattle.std.specs.Prelude.{◌≡◌, ℕ, ◌+◌, ◌<◌, ◌≤◌, Bool, true, false, not, ◌==◌, nat_le, cond, List, [], ◌∷◌, ◌++◌, length, map, flat_map, filter, find, Option, Some, None, refl}
 use Rattle.std.specs.List.{list_any, position_or_len}
 use Rattle.std.specs.Option.{option_map, option_map_or, is_some, is_none}
 use Rattle.std.proofs.Common.{sym, ◌∙◌, ap, subst, arith, length-append}
@@ -15,12 +15,12 @@ use Rattle.sect_base.specs.declared.limit.Cap.{Cap}
 use Rattle.sect_base.specs.declared.limit.Cap.TheVariants.{Course as cap_course, Config as cap_config, Section as cap_section}
 use Rattle.sect_base.specs.declared.limit.Limit.{Limit}
 use Rattle.sect_catalog.specs.declared.row.OfferingRow.{OfferingRow}
-use Rattle.sect_catalog.specs.Catalogue.{all_courses, all_configs, all_sections, find_section, find_course, find_config, is_cancelled}
+use Rattle.sect_catalog.specs.Catalogue.{all_courses, all_configs, find_section, find_course, find_config, is_cancelled}
 use Rattle.sect_catalog.specs.Limits.{with_limit, limit_in, capped_course, capped_config}
 use Rattle.sect_people.specs.declared.row.StudentRow.{StudentRow}
 use Rattle.sect_people.specs.declared.row.Ask.{Ask}
 use Rattle.sect_people.specs.Student.{Student, find_student}
-use Rattle.sect_people.specs.Changes.{put_row, with_row, with_asks}
+use Rattle.sect_people.specs.Changes.{with_row, with_asks}
 use Rattle.sect_reserve.specs.declared.row.Reservation.{Reservation}
 use Rattle.sect_reserve.specs.declared.row.Restriction.{Restriction}
 use Rattle.sect_model.specs.declared.held.Enrolment.{Enrolment}
@@ -39,7 +39,6 @@ use Rattle.sect_model.proofs.ChangeLemmas.{new_id}
 use Rattle.sect_roster.proofs.InsertLemmas.{find-put-own, find-dropped, once}
 use Rattle.sect_roster.proofs.PlaceLemmas.{put-one-back, place-left}
 use Rattle.sect_space.specs.Back.{back_of, no_change, offering_id, reservation_offering, cap_offering}
-use Rattle.sect_space.specs.declared.back.Back.{Back}
 use Rattle.sect_space.specs.declared.back.Back.TheVariants.{StudentAdded, StudentReplaced, RequestsReplaced, ReservationRemoved, ExpiryReplaced, RestrictionRemoved, LimitReplaced, Left}
 use Rattle.sect_space.specs.Roomed.{Roomed}
 use Rattle.sect_space.specs.Room.{HasRoom}

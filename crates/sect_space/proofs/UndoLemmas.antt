@@ -11,7 +11,7 @@ use Rattle.sect_space.specs.Room.{KeepsRoom}
 use Rattle.sect_space.specs.Made.{Ready, Taken}
 use Rattle.sect_space.specs.Undo.{undone, Undoable}
 use Rattle.sect_space.specs.Undoing.{UndoneLast, Undoing}
-use Rattle.sect_space.proofs.Steps.{Last, last-of, taken-last, undone-last}
+use Rattle.sect_space.proofs.Steps.{last-of, taken-last, undone-last}
 use Rattle.sect_space.proofs.ReadyLemmas.{ready}
 
 trans : {a b c : ℕ} → a ≤ b → b ≤ c → a ≤ c
