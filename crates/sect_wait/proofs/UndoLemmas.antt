@@ -157,7 +157,7 @@ undone-append q (b ∷ bs) cs = ap (λ p. taken_back p b) (undone-append q bs cs
 pub since-joins : (q p r : Queued) (bs cs ds : List QueueBack) → Since q bs p cs → Since p cs r ds → Since q bs r ds
 since-joins q p r bs cs ds a b = record {
   more = a.more ++ b.more;
-  recorded = b.recorded ∙ ap (λ xs. xs ++ b.more) a.recorded ∙ append_assoc {xs = bs} {ys = a.more} {zs = b.more};
+  recorded = b.recorded ∙ ap (λ xs. xs ++ b.more) a.recorded ∙ append_assoc bs a.more b.more;
   led = undone-append r a.more b.more ∙ ap (λ v. undone v a.more) b.led ∙ a.led;
 }
 

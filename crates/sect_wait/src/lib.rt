@@ -5,10 +5,13 @@ mod back;
 mod entry;
 pub mod laws;
 mod next;
+mod place;
 mod queue;
+mod settling;
 mod undo;
 
 pub use back::QueueBack;
 pub use queue::Queue;
 pub use sect_model::{Placed, Waiting};
+pub use settling::settle;
 pub use undo::QueueUndo;

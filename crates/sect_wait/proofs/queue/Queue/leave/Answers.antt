@@ -8,7 +8,7 @@ use Rattle.sect_roster.proofs.FoundLemmas.{is_none}
 use Rattle.sect_model.proofs.ListLemmas.{any-find}
 use Rattle.sect_wait.specs.declared.back.QueueBack.TheVariants.{Left}
 use Rattle.sect_wait.proofs.QueueLemmas.{placed, not-placed, without-none}
-use Rattle.sect_wait.proofs.UndoLemmas.{left-undoable}
+use Rattle.sect_wait.proofs.UndoLemmas.{left-undoable, since-left}
 use Rattle.sect_wait.proofs.queue.Queue.leave.Goals as goal
 
 pub returns-in_ok-take-in-Some-clause-found : goal.returns-in_ok-take-in-Some-clause-found
@@ -34,3 +34,8 @@ returns-in-None-clause-recorded c =
     let p = λ (e : Waiting). e.ticket == c.args.ticket in
     let none = is_none (find p q.entries) (any-find p q.entries ∙ not-placed p q.entries (sym c.place.ensures ∙ c.in-None.is)) in
     sym (append-nil c.args.undo.now) ∙ ap (λ o. c.args.undo.now ++ option_to_list (option_map (Left (position_or_len p q.entries)) o)) (sym none)
+
+pub returns-in_ok-take-in-Some-clause-since : goal.returns-in_ok-take-in-Some-clause-since
+returns-in_ok-take-in-Some-clause-since c =
+    since-left c.args.self.now.queue c.take.new.self.queue c.args.ticket c.args.undo.now c.take.new.undo c.is_kept.ensures.kept
+    c.in_ok-take-in-Some.ensures.ok c.in_ok-take-in-Some.ensures.recorded
