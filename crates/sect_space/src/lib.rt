@@ -6,6 +6,7 @@ mod back;
 mod change;
 mod count;
 mod enrolment;
+mod holds;
 pub mod laws;
 mod mark;
 mod offering;

@@ -1,0 +1,5 @@
+pub mod NextLemmas
+pub mod PlacingLemmas
+pub mod QueueLemmas
+pub mod SettlingLemmas
+pub mod UndoLemmas

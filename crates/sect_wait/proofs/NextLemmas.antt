@@ -1,0 +1,108 @@
+-- The entry that is placed next, found in one pass, and the one choice that its search finds.
+use Rattle.std.specs.Prelude.{◌≡◌, ℕ, Bool, true, false, ◌&&◌, ◌||◌, ◌==◌, nat_lt, nat_le, cond, List, [], ◌∷◌, ◌++◌, filter, slice_get, Option, Some, None, refl}
+use Rattle.std.specs.Option.{option_map, option_map_or}
+use Rattle.std.proofs.Common.{sym, ◌∙◌, ap, arith}
+use Rattle.std.proofs.lemmas.Bool.Decides.{nat_tests}
+use Rattle.std.proofs.lemmas.List.{append-nil}
+use Rattle.sect_base.specs.declared.choice.Choice.{Choice}
+use Rattle.sect_model.specs.declared.held.Waiting.{Waiting}
+use Rattle.sect_model.specs.declared.pick.Outcome.{Outcome}
+use Rattle.sect_model.specs.declared.pick.Outcome.TheVariants.{Found}
+use Rattle.sect_model.specs.World.{World, leave_all}
+use Rattle.sect_model.specs.Allowed.{is_allowed}
+use Rattle.sect_model.specs.Move.{are_allowed}
+use Rattle.sect_model.specs.Outcome.{outcome_of}
+use Rattle.sect_model.specs.Settle.{first_entry, comes_first, is_placeable, placement_of, found_in, move_of}
+use Rattle.sect_model.proofs.Members.{both-right, not_both}
+use Rattle.sect_model.proofs.KeptMoves.{found-allowed}
+use Rattle.sect_wait.specs.declared.next.Candidate.{Candidate}
+use Rattle.sect_wait.specs.Placing.{IsOf, IsBest, is_before, candidate_of}
+
+-- ---- one choice for one want
+
+-- what a search for an entry finds is one choice
+pub one-choice : (w : World) (e : Waiting) (choices : List Choice) → placement_of w e ≡ Some choices → option_map (λ c. c ∷ []) (slice_get choices 0) ≡ Some choices
+one-choice w e choices found = by_choices choices (found-allowed w (move_of w e) 2000 choices found)
+  where
+    by_choices : (choices : List Choice) → are_allowed (leave_all w e.student (move_of w e).give) e.student (e.want ∷ []) choices ≡ true
+        → option_map (λ c. c ∷ []) (slice_get choices 0) ≡ Some choices
+    by_choices [] h = absurd (not_both false h refl)
+    by_choices (c ∷ []) h = refl
+    by_choices (c ∷ d ∷ cs) h = absurd (not_both false (both-right (is_allowed (leave_all w e.student (move_of w e).give) e.student e.want c) false h) refl)
+
+-- the choice that a search found, as it is answered
+pub found-choice : (w : World) (e : Waiting) (o : Outcome) (choices : List Choice) (visits : ℕ) → o ≡ outcome_of w (move_of w e) 2000 → o ≡ Found choices visits
+    → option_map (λ c. c ∷ []) (slice_get choices 0) ≡ placement_of w e
+found-choice w e o choices visits is found =
+    let at : placement_of w e ≡ Some choices = ap found_in (sym is ∙ found) in
+    one-choice w e choices at ∙ sym at
+
+-- ---- the first of some entries and one more
+
+-- the first of three entries, whichever two are compared first
+turns : (d f e : Waiting) → cond (comes_first d (cond (comes_first f e) f e)) d (cond (comes_first f e) f e) ≡ cond (comes_first (cond (comes_first d f) d f) e) (cond (comes_first d f) d f) e
+turns d f e = grind (arith, nat_tests)
+
+pub first-append : (es : List Waiting) (e : Waiting) → first_entry (es ++ e ∷ []) ≡ Some (option_map_or (λ f. cond (comes_first f e) f e) (first_entry es) e)
+first-append [] e = refl
+first-append (d ∷ es) e = ap (λ o. Some (option_map_or (λ f. cond (comes_first d f) d f) o d)) (first-append es e) ∙ by_rest (first_entry es)
+  where
+    by_rest : (o : Option Waiting)
+        → Some (cond (comes_first d (option_map_or (λ f. cond (comes_first f e) f e) o e)) d (option_map_or (λ f. cond (comes_first f e) f e) o e))
+        ≡ Some (cond (comes_first (option_map_or (λ f. cond (comes_first d f) d f) o d) e) (option_map_or (λ f. cond (comes_first d f) d f) o d) e)
+    by_rest None = refl
+    by_rest (Some f) = ap Some (turns d f e)
+
+pub filter-more : {X : Type 0} (test : X → Bool) (xs : List X) (x : X) → filter test (xs ++ x ∷ []) ≡ filter test xs ++ cond (test x) (x ∷ []) []
+filter-more test [] x = refl
+filter-more test (y ∷ ys) x = by_test (test y) (filter-more test ys x)
+  where
+    by_test : (b : Bool) → filter test (ys ++ x ∷ []) ≡ filter test ys ++ cond (test x) (x ∷ []) []
+        → cond b (y ∷ filter test (ys ++ x ∷ [])) (filter test (ys ++ x ∷ [])) ≡ cond b (y ∷ filter test ys) (filter test ys) ++ cond (test x) (x ∷ []) []
+    by_test true ih = ap (λ zs. y ∷ zs) ih
+    by_test false ih = ih
+
+module _ (w : World) (before : List Waiting) (e : Waiting) where
+  abbrev placeable : List Waiting → List Waiting
+  placeable es = filter (is_placeable w) es
+
+  -- an entry that can't be placed changes nothing
+  not-placed : is_placeable w e ≡ false → first_entry (placeable (before ++ e ∷ [])) ≡ first_entry (placeable before)
+  not-placed h = ap first_entry (filter-more (is_placeable w) before e ∙ ap (λ b. placeable before ++ cond b (e ∷ []) []) h ∙ append-nil (placeable before))
+
+  -- one that can be placed is compared with the first so far
+  is-placed : is_placeable w e ≡ true → first_entry (placeable (before ++ e ∷ [])) ≡ Some (option_map_or (λ f. cond (comes_first f e) f e) (first_entry (placeable before)) e)
+  is-placed h = ap first_entry (filter-more (is_placeable w) before e ∙ ap (λ b. placeable before ++ cond b (e ∷ []) []) h) ∙ first-append (placeable before) e
+
+  -- the first so far stays where it comes before the entry
+  stays : (f : Waiting) → first_entry (placeable before) ≡ Some f → comes_first f e ≡ true → first_entry (placeable (before ++ e ∷ [])) ≡ Some f
+  stays f first earlier = by_test (is_placeable w e) refl
+    where
+      by_test : (b : Bool) → is_placeable w e ≡ b → first_entry (placeable (before ++ e ∷ [])) ≡ Some f
+      by_test true t = is-placed t ∙ ap (λ o. Some (option_map_or (λ g. cond (comes_first g e) g e) o e)) first ∙ ap (λ b. Some (cond b f e)) earlier
+      by_test false t = not-placed t ∙ first
+
+  -- a candidate comes before an entry where its own entry does
+  same-order : (f : Waiting) (c : Candidate) → IsOf w f c → is_before c e ≡ comes_first f e
+  same-order f c is = λ i. nat_lt (is.class i) e.class || (is.class i) == e.class && nat_le (is.ticket i) e.ticket
+
+  pub best-stays : (best : Option Candidate) → true ≡ option_map_or (λ c. is_before c e) best false → IsBest w before best → IsBest w (before ++ e ∷ []) best
+  best-stays None h best = cc
+  best-stays (Some c) h best = (best.0, stays best.0 best.1 (sym (same-order best.0 c best.2) ∙ sym h), best.2)
+
+  pub best-found : (best : Option Candidate) (choice : Choice) → false ≡ option_map_or (λ c. is_before c e) best false → Some (choice ∷ []) ≡ placement_of w e
+      → IsBest w before best → IsBest w (before ++ e ∷ []) (Some (candidate_of e choice))
+  best-found best choice h found is_best = (e, by_best best h is_best, record { ticket = refl; class = refl; student = refl; give = refl; choice = sym found })
+    where
+      placed : is_placeable w e ≡ true
+      placed = ap (λ o. option_map_or (λ choices. true) o false) (sym found)
+
+      by_best : (best : Option Candidate) → false ≡ option_map_or (λ c. is_before c e) best false → IsBest w before best → first_entry (placeable (before ++ e ∷ [])) ≡ Some e
+      by_best None h b = is-placed placed ∙ ap (λ o. Some (option_map_or (λ g. cond (comes_first g e) g e) o e)) b
+      by_best (Some c) h b =
+          is-placed placed ∙ ap (λ o. Some (option_map_or (λ g. cond (comes_first g e) g e) o e)) b.1
+          ∙ ap (λ t. Some (cond t b.0 e)) (sym (same-order b.0 c b.2) ∙ sym h)
+
+  pub best-none : (best : Option Candidate) → None ≡ placement_of w e → IsBest w before best → IsBest w (before ++ e ∷ []) best
+  best-none None h b = not-placed (ap (λ o. option_map_or (λ choices. true) o false) (sym h)) ∙ b
+  best-none (Some c) h b = (b.0, not-placed (ap (λ o. option_map_or (λ choices. true) o false) (sym h)) ∙ b.1, b.2)

@@ -1,0 +1,43 @@
+-- The one entry of the ticket stands at its first place.
+use Rattle.std.proofs.Common.{Some, ◌≡◌, ◌∙◌, ◌==◌, ◌++◌, ap, not, length, filter}
+use Rattle.std.specs.List.{find, position, remove}
+use Rattle.std.specs.Option.{option_map, option_to_list}
+use Rattle.sect_model.specs.declared.held.Waiting.{Waiting}
+use Rattle.sect_model.specs.Kept.{tickets_rise}
+use Rattle.sect_model.specs.Settle.{without}
+use Rattle.sect_model.proofs.TicketLemmas.{rise-filter}
+use Rattle.sect_roster.proofs.PlaceLemmas.{read-one, remove-one}
+use Rattle.sect_wait.specs.declared.back.QueueBack.TheVariants.{Left}
+use Rattle.sect_wait.proofs.QueueLemmas.{Placed, placed, one-ticket}
+use Rattle.sect_wait.proofs.queue.Queue.take.Goals as goal
+
+pub invariant_of-self-2 : goal.invariant_of-self-2
+invariant_of-self-2 c =
+    let es = c.self.inside.entries.items in
+    let p = λ (e : Waiting). e.ticket == c.args.ticket in
+    let at : Placed p es c.args.place = placed p es c.args.place (ap (λ v. position p v.queue.entries) c.self.view_is ∙ c.requires) in
+    let one : length (filter p es) ≡ 1 = one-ticket es c.self.inside.next c.args.ticket c.self.invariant.in_order at.found in
+    let left : c.remove-entry.new.self.items ≡ without es c.args.ticket = c.remove-entry.ensures.items ∙ ap (remove es) at.at ∙ remove-one p es one in
+    record {
+      in_order = ap (λ fs. tickets_rise fs c.self.inside.next) left ∙ rise-filter (λ e. not (p e)) es c.self.inside.next c.self.invariant.in_order;
+      first = c.self.invariant.first;
+    }
+
+pub returns-clause-ok : goal.returns-clause-ok
+returns-clause-ok c =
+    let es = c.self.inside.entries.items in
+    let p = λ (e : Waiting). e.ticket == c.args.ticket in
+    let at : Placed p es c.args.place = placed p es c.args.place (ap (λ v. position p v.queue.entries) c.self.view_is ∙ c.requires) in
+    let one : length (filter p es) ≡ 1 = one-ticket es c.self.inside.next c.args.ticket c.self.invariant.in_order at.found in
+    let left : c.remove-entry.new.self.items ≡ without es c.args.ticket = c.remove-entry.ensures.items ∙ ap (remove es) at.at ∙ remove-one p es one in
+    rw (← c.self.view_is) (λ i. record { entries = left i; next = c.self.inside.next })
+
+pub returns-clause-recorded : goal.returns-clause-recorded
+returns-clause-recorded c =
+    let es = c.self.inside.entries.items in
+    let p = λ (e : Waiting). e.ticket == c.args.ticket in
+    let at : Placed p es c.args.place = placed p es c.args.place (ap (λ v. position p v.queue.entries) c.self.view_is ∙ c.requires) in
+    let read : Some c.remove-entry.result ≡ find p es = read-one p es c.args.place c.remove-entry.result at.some at.at c.remove-entry.ensures.value in
+    rw (← c.self.view_is, ← c.undo.view_is)
+    (c.in_ok-push.ensures.items
+    ∙ (λ i. c.reserve.ensures.items i ++ option_to_list (option_map (Left (at.at i)) (read i))))

@@ -1,0 +1,17 @@
+-- settling what is left gives what settling all gives, and the changes made so far can be taken back
+use Rattle.std.proofs.Common.{length}
+use Rattle.sect_space.specs.Undo.{Since, Undoable}
+use Rattle.sect_wait.specs.Undo.{Since as QueueSince, Undoable as QueueUndoable}
+use Rattle.sect_wait.proofs.SettlingLemmas.{Settling}
+use Rattle.sect_wait.proofs.settling.place_all.Given as goal
+
+abbrev pub invariant-rounds : goal.invariant-rounds
+invariant-rounds g l =
+    Settling l.initial.world.world l.initial.queue.queue l.initial.steps l.world.world l.queue.queue l.placed.items l.steps
+    × Since l.initial.world.world l.initial.undo.backs l.world.world l.undo.backs
+    × QueueSince l.initial.queue.queue l.initial.left l.queue.queue l.left
+    × Undoable l.world l.undo.backs
+    × QueueUndoable l.queue l.left
+
+abbrev pub decreases-rounds : goal.decreases-rounds
+decreases-rounds g l = length l.queue.queue.entries

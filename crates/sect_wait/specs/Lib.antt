@@ -1,0 +1,3 @@
+pub mod Placing
+pub mod Queued
+pub mod Undo

@@ -1,0 +1,52 @@
+-- The entry that is placed next, and what its placement makes of the world.
+use Rattle.std.specs.Prelude.{◌≡◌, Bool, ◌&&◌, ◌||◌, ◌==◌, nat_lt, nat_le, List, [], ◌∷◌, filter, Option, Some, None}
+use Rattle.std.specs.Option.{option_to_list}
+use Rattle.sect_base.specs.declared.ids.CourseId.{CourseId}
+use Rattle.sect_base.specs.declared.choice.Choice.{Choice}
+use Rattle.sect_model.specs.declared.held.Waiting.{Waiting}
+use Rattle.sect_model.specs.declared.held.Placed.{Placed}
+use Rattle.sect_model.specs.declared.held.Enrolment.{Enrolment}
+use Rattle.sect_model.specs.World.{World, enrol, leave_all, holds}
+use Rattle.sect_model.specs.Settle.{first_entry, is_placeable, placement_of}
+use Rattle.sect_wait.specs.declared.next.Candidate.{Candidate}
+
+-- the candidate of an entry that a choice places
+abbrev pub candidate_of : Waiting → Choice → Candidate
+candidate_of e choice = record { ticket = e.ticket; class = e.class; student = e.student; give = e.give; choice = choice }
+
+-- the candidate is this entry, with the one choice that its search finds
+pub record IsOf (w : World) (e : Waiting) (c : Candidate) : Type 0 where
+  pub ticket : c.ticket ≡ e.ticket
+  pub class : c.class ≡ e.class
+  pub student : c.student ≡ e.student
+  pub give : c.give ≡ e.give
+  pub choice : placement_of w e ≡ Some (c.choice ∷ [])
+
+-- the candidate is the first of the entries that can be placed, and there is none where none can be
+abbrev pub IsBest : World → List Waiting → Option Candidate → Type 0
+IsBest w es None = first_entry (filter (is_placeable w) es) ≡ None
+IsBest w es (Some c) = (e : Waiting) × (first_entry (filter (is_placeable w) es) ≡ Some e) × IsOf w e c
+
+-- the candidate is of a smaller class than the entry, or of the same class and no larger ticket
+abbrev pub is_before : Candidate → Waiting → Bool
+is_before c e = nat_lt c.class e.class || c.class == e.class && nat_le c.ticket e.ticket
+
+-- the course that is given up, where the student holds it
+abbrev pub given_by : World → Candidate → List CourseId
+given_by w c = filter (holds w c.student) (option_to_list c.give)
+
+-- the world in which the candidate's course is given up
+abbrev pub given_up : World → Candidate → World
+given_up w c = leave_all w c.student (given_by w c)
+
+-- the enrolment by the candidate's choice
+abbrev pub enrolment_of : Candidate → Enrolment
+enrolment_of c = record { student = c.student; choice = c.choice }
+
+-- the world in which the candidate is placed
+abbrev pub moved : World → Candidate → World
+moved w c = enrol (given_up w c) c.student c.choice
+
+-- what the placement gives the student
+abbrev pub placed_of : Candidate → Placed
+placed_of c = record { ticket = c.ticket; student = c.student; choice = c.choice }

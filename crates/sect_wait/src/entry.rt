@@ -1,0 +1,75 @@
+// What a waiting entry asks of the search, and what the search finds for it.
+
+ghost use Rattle.std.specs.Prelude.{◌≡◌, ◌≤◌, ◌+◌, [], ◌∷◌, filter, IfOk, IsTrue};
+ghost use Rattle.std.specs.Option.{option_map, option_to_list};
+ghost use Rattle.sect_model.specs.World.{holds as is_held};
+ghost use Rattle.sect_model.specs.Kept.{entry_fits};
+ghost use Rattle.sect_model.specs.Settle.{move_of as move_of_entry, placement_of};
+
+use sect_base::{Budget, Choice, CourseId, Duplicate, Items, Memory, Move, StudentId};
+use sect_model::{Outcome, Waiting};
+use sect_search::search;
+use sect_space::World;
+use sect_steps::Steps;
+use std::alloc::Global;
+use std::sync::ledger::Ledger;
+
+/// The choice by which the entry can be placed, None exactly where it can't be.
+pub fn placement<L: Ledger>(
+    alloc: Global,
+    world: &World,
+    entry: &Waiting,
+    steps: &mut Steps<L>,
+) -> Result<Option<Choice>, Memory>
+    requires { IsTrue (entry_fits world.now.world entry.now) }
+    ensures choice { IfOk result (λ found. option_map (λ c. c ∷ []) found ≡ placement_of world.now.world entry.now) }
+    ensures steps { steps.new ≤ steps.old + 1 }
+{
+    let mv = move_of(alloc, world, entry)?;
+    match search(alloc, world, &mv, budget(), steps)? {
+        Outcome::Found(choices, _) => Ok(choices.as_slice().first().copied()),
+        Outcome::Blocked(_, _) => Ok(None),
+        Outcome::Spent(_) => Ok(None),
+    }
+}
+
+/// The entry's move: it takes the want, and gives up the course where the student holds it.
+fn move_of(alloc: Global, world: &World, entry: &Waiting) -> Result<Move, Memory>
+    ensures { IfOk result (λ mv. mv ≡ move_of_entry world.now.world entry.now) }
+{
+    let mut take = Vec::new(alloc);
+    take.push(entry.want.copy(alloc)?)?;
+    Ok(Move {
+        student: entry.student,
+        give: given(alloc, world, entry.student, entry.give)?,
+        take: Items::from_vec(take),
+    })
+}
+
+/// The course to give up, where the student holds it.
+fn given(
+    alloc: Global,
+    world: &World,
+    student: StudentId,
+    give: Option<CourseId>,
+) -> Result<Items<CourseId>, Memory>
+    ensures { IfOk result (λ courses. courses ≡ filter (is_held world.now.world student) (option_to_list give)) }
+{
+    let mut courses = Vec::new(alloc);
+    if let Some(course) = give {
+        if world.holds(student, course) {
+            courses.push(course)?;
+        }
+    }
+    Ok(Items::from_vec(courses))
+}
+
+/// The budget of a search for a waiting entry.
+fn budget() -> Budget
+    ensures { result ≡ 2000 }
+{
+    match Budget::new(2_000) {
+        Some(budget) => budget,
+        None => unreachable!(),
+    }
+}

@@ -1,0 +1,17 @@
+// Who waits: entries in order of ticket, and settling, which places them until none can be placed.
+#![tactic(auto)]
+
+mod back;
+mod entry;
+pub mod laws;
+mod next;
+mod place;
+mod queue;
+mod settling;
+mod undo;
+
+pub use back::QueueBack;
+pub use queue::Queue;
+pub use sect_model::{Placed, Waiting};
+pub use settling::settle;
+pub use undo::QueueUndo;

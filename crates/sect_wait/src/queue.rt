@@ -1,0 +1,211 @@
+// The queue: entries join behind the others, leave by their tickets, and changes are taken back.
+
+ghost use Rattle.std.specs.Prelude.{◌≡◌, ◌<◌, ◌≤◌, ◌==◌, ◌++◌, [], ◌∷◌, length, take, drop, insert, position, Some, IfOk, OnOk, OnErr, IsTrue};
+ghost use Rattle.std.specs.Vec.{vec_len, vec_capacity};
+ghost use Rattle.std.specs.List.{list_any};
+ghost use Rattle.sect_people.specs.Index.{rank as rank_of};
+ghost use Rattle.sect_model.specs.Kept.{is_ordered_by};
+ghost use Rattle.sect_wait.specs.Queued.{empty_queue, joined, left, IsQueue};
+ghost use Rattle.sect_wait.specs.Undo.{left_back, taken_back, undone, Ready, Since, Undoable};
+ghost use Rattle.sect_wait.specs.declared.back.QueueBack.TheVariants.{Joined};
+
+use crate::back::QueueBack;
+use crate::undo::QueueUndo;
+use sect_base::{CourseId, Memory, StudentId, Want};
+use sect_model::Waiting;
+use std::alloc::Global;
+use std::marker::Model;
+
+/// Who waits, in order of ticket, and the next ticket, at first 1. Contracts see both, with the room of the list.
+#[derive(Drop)]
+pub struct Queue {
+    entries: Vec<Waiting>,
+    next: u64,
+}
+
+impl Model for Queue {
+    ghost use Rattle.std.specs.Vec.{vec_capacity};
+    ghost use Rattle.sect_wait.specs.Queued.{Queued, RoomedQueue, IsQueue};
+
+    ghost Value = { RoomedQueue };
+
+    ghost view = { λ q. record { queue = record { entries = q.entries.items; next = q.next }; room = vec_capacity q.entries } };
+
+    ghost invariant = { λ q. IsQueue (record { entries = q.entries.items; next = q.next }) };
+}
+
+impl Queue {
+    /// Nobody waits, and the next ticket is 1. It takes no memory.
+    pub fn empty(alloc: Global) -> Queue
+        ensures { result.queue ≡ empty_queue }
+    {
+        Queue {
+            entries: Vec::new(alloc),
+            next: 1,
+        }
+    }
+
+    /// Does nothing: the contract tells what holds of every queue.
+    pub fn is_kept(&self)
+        ensures kept { IsQueue self.now.queue }
+        ensures few { length self.now.queue.entries ≤ self.now.room }
+    {
+        let _ = self.entries.as_slice();
+    }
+
+    /// The entries in order of ticket. It takes no memory.
+    pub fn entries(&self) -> &[Waiting]
+        ensures { result.now ≡ self.now.queue.entries }
+    {
+        self.entries.as_slice()
+    }
+
+    /// Puts an entry with the next ticket behind the others, and gives the ticket. Where memory runs out, and where the
+    /// next ticket is 2^64 - 1, the queue is as before.
+    pub fn join(
+        &mut self,
+        student: StudentId,
+        want: Want,
+        give: Option<CourseId>,
+        class: u8,
+        undo: &mut QueueUndo,
+    ) -> Result<u64, Memory>
+        ensures ticket { IfOk result (λ ticket. ticket ≡ self.old.queue.next) }
+        ensures ok { OnOk result (self.new.queue ≡ joined self.old.queue student want give class) }
+        ensures err { OnErr result (self.new.queue ≡ self.old.queue) }
+        ensures recorded { OnOk result (undo.new ≡ undo.old ++ Joined ∷ []) }
+        ensures not_recorded { OnErr result (undo.new ≡ undo.old) }
+        ensures since { Since self.old.queue undo.old self.new.queue undo.new }
+        ensures undoable { Undoable self.old undo.old → Undoable self.new undo.new }
+    {
+        if self.next == u64::MAX {
+            return Err(Memory);
+        }
+        undo.backs.reserve(1)?;
+        let ticket = self.next;
+        self.entries.push(Waiting {
+            ticket,
+            student,
+            want,
+            give,
+            class,
+        })?;
+        self.next += 1;
+        undo.backs.push(QueueBack::Joined)?;
+        Ok(ticket)
+    }
+
+    /// Takes the entry of a ticket out. False exactly where no entry has it. Where memory runs out, the queue is as before.
+    pub fn leave(&mut self, ticket: u64, undo: &mut QueueUndo) -> Result<bool, Memory>
+        ensures found { IfOk result (λ found. found ≡ list_any (λ e. e.ticket == ticket) self.old.queue.entries) }
+        ensures ok { OnOk result (self.new.queue ≡ left self.old.queue ticket) }
+        ensures err { OnErr result (self.new.queue ≡ self.old.queue) }
+        ensures recorded { OnOk result (undo.new ≡ undo.old ++ left_back self.old.queue ticket) }
+        ensures not_recorded { OnErr result (undo.new ≡ undo.old) }
+        ensures since { Since self.old.queue undo.old self.new.queue undo.new }
+        ensures undoable { Undoable self.old undo.old → Undoable self.new undo.new }
+    {
+        self.is_kept();
+        match self.place(ticket) {
+            Some(place) => {
+                self.take(place, ticket, undo)?;
+                Ok(true)
+            }
+            None => Ok(false),
+        }
+    }
+
+    /// Takes the entry of a ticket out, which stands at the place.
+    fn take(&mut self, place: usize, ticket: u64, undo: &mut QueueUndo) -> Result<(), Memory>
+        requires { position (λ e. e.ticket == ticket) self.old.queue.entries ≡ Some place }
+        ensures ok { OnOk result (self.new.queue ≡ left self.old.queue ticket) }
+        ensures err { OnErr result (self.new.queue ≡ self.old.queue) }
+        ensures recorded { OnOk result (undo.new ≡ undo.old ++ left_back self.old.queue ticket) }
+        ensures not_recorded { OnErr result (undo.new ≡ undo.old) }
+        ensures room { self.new.room ≡ self.old.room }
+    {
+        undo.backs.reserve(1)?;
+        let entry = self.entries.remove(place);
+        undo.backs.push(QueueBack::Left(place, entry))?;
+        Ok(())
+    }
+
+    /// Where the entry of a ticket stands, None exactly where no entry has it.
+    fn place(&self, ticket: u64) -> Option<usize>
+        ensures { result ≡ position (λ e. e.ticket == ticket) self.now.queue.entries }
+    {
+        let place = rank(self.entries.as_slice(), ticket);
+        let entry = self.entries.get(place)?;
+        if entry.ticket == ticket {
+            Some(place)
+        } else {
+            None
+        }
+    }
+
+    /// Takes all recorded changes back. It takes no memory.
+    pub fn undo(&mut self, undo: QueueUndo)
+        requires { Undoable self.old undo }
+        ensures { self.new.queue ≡ undone self.old.queue undo }
+    {
+        let mut undo = undo;
+        self.undo_to(&mut undo, 0);
+    }
+
+    /// Takes the recorded changes back but for the first `len`. It takes no memory.
+    pub fn undo_to(&mut self, undo: &mut QueueUndo, len: usize)
+        requires { Undoable self.old undo.old }
+        ensures queue { self.new.queue ≡ undone self.old.queue (drop len undo.old) }
+        ensures recorded { undo.new ≡ take len undo.old }
+        ensures undoable { Undoable self.new undo.new }
+    {
+        while undo.len() > len {
+            self.take_back(undo.pop());
+        }
+    }
+
+    /// Takes a change back.
+    fn take_back(&mut self, back: QueueBack)
+        requires { Ready self.old.room self.old.queue back }
+        ensures queue { self.new.queue ≡ taken_back self.old.queue back }
+        ensures room { self.new.room ≡ self.old.room }
+    {
+        match back {
+            QueueBack::Joined => {
+                self.next -= 1;
+                let _ = self.entries.pop();
+            }
+            QueueBack::Left(place, entry) => put_at(&mut self.entries, place, entry),
+        }
+    }
+}
+
+/// How many entries have tickets below this one, which is where its entry stands.
+fn rank(entries: &[Waiting], ticket: u64) -> usize
+    requires { IsTrue (is_ordered_by (λ e. e.ticket) entries.now) }
+    ensures { result ≡ rank_of (λ e. e.ticket) ticket entries.now }
+{
+    let mut low = 0;
+    let mut high = entries.len();
+    while low < high {
+        let middle = low + (high - low) / 2;
+        if entries[middle].ticket < ticket {
+            low = middle + 1;
+        } else {
+            high = middle;
+        }
+    }
+    low
+}
+
+/// Puts an entry at the place, where there is room. It takes no memory.
+fn put_at(entries: &mut Vec<Waiting>, place: usize, entry: Waiting)
+    requires room { vec_len entries.old < vec_capacity entries.old }
+    requires within { place ≤ length entries.old.items }
+    ensures items { entries.new.items ≡ insert entries.old.items place entry }
+    ensures capacity { vec_capacity entries.new ≡ vec_capacity entries.old }
+{
+    if entries.insert(place, entry).is_err() {
+        unreachable!();
+    }
+}

@@ -1,0 +1,101 @@
+// Settling: the first entry by class and then by ticket that can be placed is placed, again and again, until none can be.
+
+ghost use Rattle.std.specs.Prelude.{◌≡◌, ◌≤◌, ◌+◌, ◌*◌, length, IfOk, OnOk, OnErr, IsTrue};
+ghost use Rattle.std.specs.List.{list_all};
+ghost use Rattle.sect_model.specs.Kept.{entry_fits};
+ghost use Rattle.sect_model.specs.Settle.{settle as settled, is_settled};
+ghost use Rattle.sect_space.specs.Undo.{Since, Undoable};
+ghost use Rattle.sect_wait.specs.Queued.{state_of};
+ghost use Rattle.sect_wait.specs.Undo.{Since as QueueSince, Undoable as QueueUndoable};
+ghost use Rattle.sect_wait.specs.Placing.{placed_of as placed_from};
+
+use crate::next::{Candidate, next};
+use crate::place::place;
+use crate::queue::Queue;
+use crate::undo::QueueUndo;
+use sect_base::{Items, Memory};
+use sect_model::Placed;
+use sect_space::{Undo, World};
+use sect_steps::Steps;
+use std::alloc::Global;
+use std::sync::ledger::Ledger;
+
+/// Places the entries that can be placed, one after another, and tells them in that order. After each placement all entries
+/// are tried again. Where memory runs out, world, queue and what is recorded are as before.
+pub fn settle<L: Ledger>(
+    alloc: Global,
+    world: &mut World,
+    queue: &mut Queue,
+    undo: &mut Undo,
+    left: &mut QueueUndo,
+    steps: &mut Steps<L>,
+) -> Result<Items<Placed>, Memory>
+    requires fit { IsTrue (list_all (entry_fits world.old.world) queue.old.queue.entries) }
+    requires undoable { Undoable world.old undo.old.backs }
+    requires queue_undoable { QueueUndoable queue.old left.old }
+    ensures settled { IfOk result (λ placed. settled (state_of world.old.world queue.old.queue) ≡ record { state = state_of world.new.world queue.new.queue; placed = placed }) }
+    ensures nobody_left { OnOk result (IsTrue (is_settled (state_of world.new.world queue.new.queue))) }
+    ensures steps { IfOk result (λ placed. steps.new ≤ steps.old + (length placed + 1) * length queue.old.queue.entries) }
+    ensures err { OnErr result (world.new.world ≡ world.old.world) }
+    ensures queue_err { OnErr result (queue.new.queue ≡ queue.old.queue) }
+    ensures not_recorded { OnErr result (undo.new.backs ≡ undo.old.backs) }
+    ensures queue_not_recorded { OnErr result (left.new ≡ left.old) }
+    ensures since { Since world.old.world undo.old.backs world.new.world undo.new.backs }
+    ensures queue_since { QueueSince queue.old.queue left.old queue.new.queue left.new }
+    ensures undoable { Undoable world.new undo.new.backs }
+    ensures queue_undoable { QueueUndoable queue.new left.new }
+{
+    world.is_kept();
+    let made = undo.len();
+    let gone = left.len();
+    let placed = place_all(alloc, world, queue, undo, left, steps);
+    if placed.is_err() {
+        world.undo_to(undo, made);
+        queue.undo_to(left, gone);
+    }
+    placed
+}
+
+/// Places the entries that can be placed. Where memory runs out, some may have been placed.
+fn place_all<L: Ledger>(
+    alloc: Global,
+    world: &mut World,
+    queue: &mut Queue,
+    undo: &mut Undo,
+    left: &mut QueueUndo,
+    steps: &mut Steps<L>,
+) -> Result<Items<Placed>, Memory>
+    requires fit { IsTrue (list_all (entry_fits world.old.world) queue.old.queue.entries) }
+    requires undoable { Undoable world.old undo.old.backs }
+    requires queue_undoable { QueueUndoable queue.old left.old }
+    ensures settled { IfOk result (λ placed. settled (state_of world.old.world queue.old.queue) ≡ record { state = state_of world.new.world queue.new.queue; placed = placed }) }
+    ensures steps { IfOk result (λ placed. steps.new ≤ steps.old + (length placed + 1) * length queue.old.queue.entries) }
+    ensures since { Since world.old.world undo.old.backs world.new.world undo.new.backs }
+    ensures queue_since { QueueSince queue.old.queue left.old queue.new.queue left.new }
+    ensures undoable { Undoable world.new undo.new.backs }
+    ensures queue_undoable { QueueUndoable queue.new left.new }
+{
+    world.is_kept();
+    queue.is_kept();
+    let mut placed = Vec::new(alloc);
+    'rounds: loop {
+        match next(alloc, world, queue.entries(), steps)? {
+            Some(candidate) => {
+                place(world, queue, &candidate, undo, left)?;
+                placed.push(placed_of(&candidate))?;
+            }
+            None => return Ok(Items::from_vec(placed)),
+        }
+    }
+}
+
+/// What the placement gives the student.
+fn placed_of(candidate: &Candidate) -> Placed
+    ensures { result ≡ placed_from candidate.now }
+{
+    Placed {
+        ticket: candidate.ticket,
+        student: candidate.student,
+        choice: candidate.choice,
+    }
+}
