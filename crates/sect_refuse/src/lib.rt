@@ -1,0 +1,7 @@
+// Why a command is refused: the first condition that holds, in numbered order.
+#![tactic(auto)]
+
+mod told;
+mod unknown;
+mod want;
+mod yours;
