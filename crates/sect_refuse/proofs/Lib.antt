@@ -1,1 +1,4 @@
+pub mod CourseLemmas
 pub mod HeldLemmas
+pub mod TicketLemmas
+pub mod WaitLemmas

@@ -3,8 +3,11 @@
 
 mod held;
 mod limit;
+mod registrar;
+mod requests;
 mod row;
 mod told;
 mod unknown;
+mod waiting;
 mod want;
 mod yours;
