@@ -1,5 +1,5 @@
 -- What a student holds, and courses that are given up.
-use Rattle.std.specs.Prelude.{◌≡◌, ℕ, zero, suc, Bool, true, false, not, ◌==◌, ◌&&◌, ◌||◌, cond, List, [], ◌∷◌, ◌++◌, filter, take, drop, Option, Some, refl}
+use Rattle.std.specs.Prelude.{◌≡◌, ℕ, zero, suc, Bool, true, false, not, ◌==◌, ◌&&◌, ◌||◌, cond, List, [], ◌∷◌, filter, take, drop, refl}
 use Rattle.std.specs.List.{list_any}
 use Rattle.std.specs.Option.{option_or}
 use Rattle.std.specs.Bool.{then_some}
@@ -7,7 +7,6 @@ use Rattle.std.proofs.Common.{◌<◌, length, get_or, sym, ◌∙◌, ap, arith
 use Rattle.std.proofs.Math.Seq.{drop-cons}
 use Rattle.sect_base.specs.declared.ids.CourseId.{CourseId}
 use Rattle.sect_base.specs.declared.ids.StudentId.{StudentId}
-use Rattle.sect_command.specs.declared.reply.Refusal.{Refusal}
 use Rattle.sect_command.specs.declared.reply.Refusal.TheVariants.{NotEnrolled}
 use Rattle.sect_model.specs.World.{World, holds}
 use Rattle.sect_model.specs.Refusals.{not_enrolled_in}

@@ -1,9 +1,8 @@
 -- A student's requests are few.
-use Rattle.std.specs.Prelude.{◌≡◌, ℕ, ◌+◌, suc, Bool, true, false, ◌||◌, ◌==◌, nat_lt, cond, List, [], ◌∷◌, flat_map, drop, find, Option, Some, None, refl}
+use Rattle.std.specs.Prelude.{◌≡◌, Bool, true, false, ◌==◌, nat_lt, List, [], find, Option, Some, None, refl}
 use Rattle.std.specs.Option.{option_or, option_map, option_map_or, is_none}
 use Rattle.std.specs.Bool.{then_some}
-use Rattle.std.proofs.Common.{◌≤◌, ◌<◌, length, get_or, sym, ◌∙◌, ap, arith, length-append}
-use Rattle.std.proofs.Math.Seq.{drop-cons}
+use Rattle.std.proofs.Common.{◌≤◌, length, arith}
 use Rattle.std.proofs.lemmas.Bool.Decides.{nat_tests}
 use Rattle.sect_base.specs.declared.ids.StudentId.{StudentId}
 use Rattle.sect_people.specs.declared.row.Ask.{Ask}

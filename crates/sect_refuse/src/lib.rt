@@ -3,11 +3,15 @@
 
 mod held;
 mod limit;
+mod refuse;
 mod registrar;
 mod requests;
 mod row;
+mod student;
 mod told;
 mod unknown;
 mod waiting;
 mod want;
 mod yours;
+
+pub use refuse::refusal;

@@ -1,6 +1,6 @@
 // Why the commands of registrars are refused.
 
-ghost use Rattle.std.specs.Prelude.{◌≡◌, ◌+◌, nat_le, true, false, length};
+ghost use Rattle.std.specs.Prelude.{◌≡◌, ℕ, ◌+◌, nat_le, true, false, length, Option};
 ghost use Rattle.std.specs.Bool.{then_some};
 ghost use Rattle.std.specs.Option.{option_and_then, option_or, is_some};
 ghost use Rattle.sect_catalog.specs.Catalogue.{find_offering};
@@ -103,6 +103,13 @@ pub fn unreserve(world: &World, id: ReservationId) -> Option<Refusal>
     ensures { result ≡ refused world.now.world (Command.Unreserve id) }
 {
     unknown_reservation(world, id).or_else(|| in_use(world.used(id)))
+}
+
+/// The reservation is unknown.
+pub fn expire(world: &World, id: ReservationId) -> Option<Refusal>
+    ensures { (expiry : Option ℕ) → result ≡ refused world.now.world (Command.Expire id expiry) }
+{
+    unknown_reservation(world, id)
 }
 
 /// The offering is unknown or has the most restrictions, or the row has a fault.

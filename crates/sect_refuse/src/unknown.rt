@@ -93,8 +93,10 @@ fn unknown_sections(world: &World, ids: &[SectionId]) -> Option<Refusal>
 pub fn unknown_in_want(world: &World, want: &Want) -> Option<Refusal>
     ensures { result ≡ want_fault world.now.world want.now }
 {
-    unknown_courses(world, want.courses.as_slice())
-        .or_else(|| unknown_sections(world, want.only.as_slice()))
+    unknown_courses(world, want.courses.as_slice()).or_else(|| unknown_sections(
+        world,
+        want.only.as_slice(),
+    ))
 }
 
 /// The first want with something unknown.

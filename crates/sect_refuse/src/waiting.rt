@@ -34,9 +34,7 @@ pub fn waiting_already(
 ) -> Option<Refusal>
     ensures { result ≡ option_map Refusal.WaitingAlready (least (map (λ e. e.ticket) (filter (is_shared student courses.now) entries.now))) }
 {
-    Some(Refusal::WaitingAlready(ticket_of(
-        entries, student, courses,
-    )?))
+    Some(Refusal::WaitingAlready(ticket_of(entries, student, courses)?))
 }
 
 /// No entry of the student has the ticket.

@@ -48,8 +48,7 @@ pub fn empty_want(want: &Want) -> Option<Refusal>
 pub fn many_in_want(want: &Want) -> Option<Refusal>
     ensures { result ≡ want_counts want.now }
 {
-    too_many(MOST_COURSES, want.courses.len())
-        .or_else(|| too_many(MOST_SECTIONS, want.only.len()))
+    too_many(MOST_COURSES, want.courses.len()).or_else(|| too_many(MOST_SECTIONS, want.only.len()))
 }
 
 /// The first want with too many.

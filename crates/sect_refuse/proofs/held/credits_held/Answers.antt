@@ -1,5 +1,5 @@
 -- a student's part of the roster is small
-use Rattle.std.proofs.Common.{◌≤◌, ◌∙◌, sym, ap, subst, length}
+use Rattle.std.proofs.Common.{◌≤◌, sym, ap, subst, length}
 use Rattle.std.specs.Prelude.{◌==◌}
 use Rattle.sect_model.specs.declared.held.Enrolment.{Enrolment}
 use Rattle.sect_space.proofs.Bounds.{part-small}

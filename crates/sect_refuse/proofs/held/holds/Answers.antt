@@ -1,5 +1,5 @@
 -- those of the student are those of the roster that are the student's
-use Rattle.std.proofs.Common.{◌∙◌, ap, sym}
+use Rattle.std.proofs.Common.{◌∙◌, ap}
 use Rattle.std.specs.Prelude.{◌==◌}
 use Rattle.std.specs.List.{list_any}
 use Rattle.sect_model.specs.declared.held.Enrolment.{Enrolment}

@@ -1,5 +1,5 @@
 -- a student has at most 20 requests
-use Rattle.std.proofs.Common.{◌≡◌, ◌≤◌, ap, arith, length}
+use Rattle.std.proofs.Common.{◌≡◌, ap, arith, length}
 use Rattle.sect_model.specs.Batch.{asks_of}
 use Rattle.sect_refuse.proofs.WaitLemmas.{asks-few}
 use Rattle.sect_refuse.proofs.requests.waits_of_one.Goals as goal
