@@ -111,6 +111,10 @@ CHAPTERS = [
      'What follows. Each stands on a function of `crates/sect_model/src/laws.rt`, which does nothing: its contract '
      'is the law.',
      model('Before', 'Refuted', 'Laws')),
+    ('The lists of the world',
+     'What the containers of enrolments, reservations and restrictions show, and what undoing a change of them gives '
+     'back.',
+     ['sect_roster/specs/' + n + '.antt' for n in ('Listed', 'Last', 'Undone')]),
     ('Worked examples',
      'The files `Examples..` have scripts from the empty desk with what each line is answered, and the functions of '
      '`crates/sect_model/src/examples.rt` have them as contracts, which the check computes. They are written in '
@@ -137,7 +141,7 @@ CHAPTERS = [
 
 # what private functions' contracts cite: a body's own words, which no public contract has
 INSIDE = ['sect_time/specs/WeekScan.antt', 'sect_catalog/specs/Place.antt', 'sect_catalog/specs/Rising.antt',
-          'sect_catalog/specs/Search.antt', 'sect_people/specs/Index.antt']
+          'sect_catalog/specs/Search.antt', 'sect_people/specs/Index.antt', 'sect_roster/specs/Filed.antt']
 
 BASE, CATALOG, PEOPLE = 'sect_base/specs/', 'sect_catalog/specs/', 'sect_people/specs/'
 # for definitions of the lower crates that have no sentence of their own

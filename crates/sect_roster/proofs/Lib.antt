@@ -4,3 +4,4 @@ pub mod InsertLemmas
 pub mod KeepsLemmas
 pub mod LastLemmas
 pub mod PlaceLemmas
+pub mod UndoneLemmas

@@ -171,7 +171,7 @@ place-skip {X = X} key p n (x ∷ xs) r e k = by_side (nat_lt (key x) n) (p x) r
 
 -- ---- the one that passes
 
-none-filter : {X : Type 0} (p : X → Bool) (xs : List X) → length (filter p xs) ≡ 0 → filter (λ x. not (p x)) xs ≡ xs
+pub none-filter : {X : Type 0} (p : X → Bool) (xs : List X) → length (filter p xs) ≡ 0 → filter (λ x. not (p x)) xs ≡ xs
 none-filter p [] h = refl
 none-filter p (x ∷ xs) h = by_test (none-filter p xs) (p x) h
   where

@@ -1,3 +1,4 @@
 pub mod Filed
 pub mod Last
 pub mod Listed
+pub mod Undone

@@ -3,6 +3,7 @@
 
 mod expiry;
 mod filed;
+pub mod laws;
 mod listing;
 mod mark;
 mod rank;
@@ -14,3 +15,6 @@ mod roster;
 pub use reservations::Reservations;
 pub use restrictions::Restrictions;
 pub use roster::Roster;
+
+#[cfg(test)]
+mod tests;

@@ -32,7 +32,7 @@ ghost use Rattle.sect_model.specs.Kept.{is_ordered_by};
 
 use crate::filed::Filed;
 use crate::mark::Mark;
-use crate::rank::{keyed, rank};
+use crate::rank::{of_key, rank};
 use crate::room::put_at;
 use sect_base::Memory;
 use std::alloc::Global;
@@ -63,7 +63,7 @@ impl<R: Filed> Model for Listing<R> {
 impl<R: Filed> Listing<R> {
     /// No rows. It takes no memory.
     pub fn empty(alloc: Global) -> Listing<R>
-        ensures { result.items ≡ [] }
+        ensures { result ≡ record { items = []; spare = 0 } }
     {
         Listing {
             rows: Vec::new(alloc),
@@ -84,7 +84,7 @@ impl<R: Filed> Listing<R> {
     pub fn of_key(&self, key: u32) -> &[R]
         ensures { result.now ≡ filter (λ r. R.key_of r == key) self.now.items }
     {
-        keyed(self.rows.as_slice(), key)
+        of_key(self.rows.as_slice(), key)
     }
 
     /// The row of an id, None exactly where it is unknown. It takes no memory.
@@ -126,8 +126,10 @@ impl<R: Filed> Listing<R> {
     pub fn remove(&mut self, id: u32) -> (usize, R)
         requires { IsSome (find (λ r. R.id_of r == id) self.old.items) }
         ensures row { Some result.1 ≡ find (λ r. R.id_of r == id) self.old.items }
+        ensures id { R.id_of result.1 ≡ id }
         ensures place { Some result.0 ≡ position (λ r. R.id_of r == id) self.old.items }
         ensures rest { self.new.items ≡ filter (λ r. not (R.id_of r == id)) self.old.items }
+        ensures gone { IsNone (find (λ r. R.id_of r == id) self.new.items) }
         ensures back { self.old.items ≡ insert self.new.items result.0 result.1 }
         ensures within { result.0 ≤ length self.new.items }
         ensures spare { self.new.spare ≡ self.old.spare + 1 }

@@ -25,7 +25,7 @@ pub fn rank<T: Keyed>(items: &[T], bound: u64) -> usize
 }
 
 /// The elements of a number, which stand together.
-pub fn keyed<T: Keyed>(items: &[T], key: u32) -> &[T]
+pub fn of_key<T: Keyed>(items: &[T], key: u32) -> &[T]
     requires { IsTrue (is_ordered_by T.key_of items.now) }
     ensures { result.now ≡ filter (λ x. T.key_of x == key) items.now }
 {

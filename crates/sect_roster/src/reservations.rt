@@ -55,7 +55,7 @@ impl Model for Reservations {
 impl Reservations {
     /// No reservations. It takes no memory.
     pub fn empty(alloc: Global) -> Reservations
-        ensures { result.items ≡ [] }
+        ensures { result ≡ record { items = []; spare = 0 } }
     {
         Reservations {
             listing: Listing::empty(alloc),
@@ -112,8 +112,10 @@ impl Reservations {
     pub fn remove(&mut self, id: ReservationId) -> (usize, Reservation)
         requires { IsSome (find (λ r. r.id.0 == id.0) self.old.items) }
         ensures row { Some result.1 ≡ find (λ r. r.id.0 == id.0) self.old.items }
+        ensures id { result.1.id ≡ id }
         ensures place { Some result.0 ≡ position (λ r. r.id.0 == id.0) self.old.items }
         ensures rest { self.new.items ≡ filter (λ r. not (r.id.0 == id.0)) self.old.items }
+        ensures gone { IsNone (find (λ r. r.id.0 == id.0) self.new.items) }
         ensures back { self.old.items ≡ insert self.new.items result.0 result.1 }
         ensures within { result.0 ≤ length self.new.items }
         ensures spare { self.new.spare ≡ self.old.spare + 1 }

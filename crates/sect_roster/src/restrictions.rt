@@ -52,7 +52,7 @@ impl Model for Restrictions {
 impl Restrictions {
     /// No restrictions. It takes no memory.
     pub fn empty(alloc: Global) -> Restrictions
-        ensures { result.items ≡ [] }
+        ensures { result ≡ record { items = []; spare = 0 } }
     {
         Restrictions {
             listing: Listing::empty(alloc),
@@ -109,8 +109,10 @@ impl Restrictions {
     pub fn remove(&mut self, id: RestrictionId) -> (usize, Restriction)
         requires { IsSome (find (λ r. r.id.0 == id.0) self.old.items) }
         ensures row { Some result.1 ≡ find (λ r. r.id.0 == id.0) self.old.items }
+        ensures id { result.1.id ≡ id }
         ensures place { Some result.0 ≡ position (λ r. r.id.0 == id.0) self.old.items }
         ensures rest { self.new.items ≡ filter (λ r. not (r.id.0 == id.0)) self.old.items }
+        ensures gone { IsNone (find (λ r. r.id.0 == id.0) self.new.items) }
         ensures back { self.old.items ≡ insert self.new.items result.0 result.1 }
         ensures within { result.0 ≤ length self.new.items }
         ensures spare { self.new.spare ≡ self.old.spare + 1 }

@@ -18,13 +18,14 @@ ghost use Rattle.std.specs.Prelude.{
   IsTrue,
   IsOk,
   OnOk,
+  OnErr,
 };
 ghost use Rattle.std.specs.List.{list_any, position_or_len};
 ghost use Rattle.sect_model.specs.World.{insert_enrolment, is_in};
 ghost use Rattle.sect_model.specs.Kept.{is_ordered};
 ghost use Rattle.sect_roster.specs.Last.{last_of, drop_last_of};
 
-use crate::rank::{keyed, rank};
+use crate::rank::{of_key, rank};
 use crate::room::put_at;
 use sect_base::{CourseId, Memory, StudentId};
 use sect_model::Enrolment;
@@ -55,7 +56,7 @@ impl Model for Roster {
 impl Roster {
     /// No enrolments. It takes no memory.
     pub fn empty(alloc: Global) -> Roster
-        ensures { result.items ≡ [] }
+        ensures { result ≡ record { items = []; spare = 0 } }
     {
         Roster {
             enrolments: Vec::new(alloc),
@@ -74,7 +75,7 @@ impl Roster {
     pub fn of_student(&self, student: StudentId) -> &[Enrolment]
         ensures { result.now ≡ filter (λ e. e.student.0 == student.0) self.now.items }
     {
-        keyed(self.enrolments.as_slice(), student.0)
+        of_key(self.enrolments.as_slice(), student.0)
     }
 
     /// Makes room for `n` enrolments more. Where memory runs out, the room is as before.
@@ -83,6 +84,7 @@ impl Roster {
         ensures room { OnOk result (n ≤ self.new.spare) }
         ensures grows { self.old.spare ≤ self.new.spare }
         ensures enough { n ≤ self.old.spare → IsOk result }
+        ensures err { OnErr result (self.new ≡ self.old) }
     {
         self.enrolments.reserve(n)?;
         Ok(())

@@ -28,7 +28,7 @@ use Rattle.sect_model.proofs.Easy.{sound}
 trans : {a b c : ℕ} → a ≤ b → b ≤ c → a ≤ c
 trans h i = omega (arith, h, i)
 
-part-le : {X : Type 0} (p : X → Bool) (xs : List X) → length (filter p xs) ≤ length xs
+pub part-le : {X : Type 0} (p : X → Bool) (xs : List X) → length (filter p xs) ≤ length xs
 part-le p xs = subst (λ n. n ≤ length xs) (sym (length-filter p xs)) (count_by-le-length p xs)
 
 -- a part of the roster is small

@@ -2,7 +2,11 @@ pub mod Bounds
 pub mod Lengths
 pub mod LimitBack
 pub mod Lists
+pub mod MarkLemmas
+pub mod ReadyLemmas
 pub mod Steps
 pub mod StudentBack
 pub mod Sums
 pub mod TakenBack
+pub mod UndoLemmas
+pub mod WorldLemmas

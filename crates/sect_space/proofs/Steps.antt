@@ -1,6 +1,6 @@
 -- One change more, or one less: what changes lead to, what is kept of them, and what is undone.
 use Rattle.std.specs.Prelude.{◌≡◌, ℕ, ◌+◌, ◌≤◌, List, [], ◌∷◌, ◌++◌, length, take, drop, refl, ◌⊎◌}
-use Rattle.std.proofs.Common.{sym, ◌∙◌, ap, subst, arith, inl, inr, append_assoc}
+use Rattle.std.proofs.Common.{sym, ◌∙◌, ap, subst, arith, inl, inr, append_assoc, length-append}
 use Rattle.std.proofs.lemmas.List.{append-nil}
 use Rattle.std.proofs.Math.Seq.{take-append_seam, drop-append_seam}
 use Rattle.sect_model.specs.declared.change.Change.{Change}
@@ -235,3 +235,6 @@ since-undone w v backs backs_now k s = (
   (λ i. undone (sym s.led i) ((ap (drop (length backs)) s.recorded ∙ drop-append_seam backs (backs_of w s.changes)) i)) ∙ all-taken-back w s.changes k s.fit,
   ap (take (length backs)) s.recorded ∙ take-append_seam backs (backs_of w s.changes),
 )
+
+pub since-longer : (w v : World) (backs backs_now : List Back) → Since w backs v backs_now → length backs ≤ length backs_now
+since-longer w v backs backs_now s = omega (arith, ap length s.recorded ∙ length-append backs (backs_of w s.changes))

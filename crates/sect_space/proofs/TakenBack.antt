@@ -35,8 +35,9 @@ use Rattle.sect_space.specs.Back.{back_of, taken_back, no_change, offering_id, r
 use Rattle.sect_roster.proofs.InsertLemmas.{once}
 use Rattle.sect_roster.proofs.LastLemmas.{drop-put}
 use Rattle.sect_roster.proofs.PlaceLemmas.{put-one-back}
+use Rattle.sect_roster.proofs.UndoneLemmas.{taken-back as gone-again}
 use Rattle.sect_space.proofs.Bounds.{held-once}
-use Rattle.sect_space.proofs.Lists.{but-last, map-back, put-dropped}
+use Rattle.sect_space.proofs.Lists.{but-last, map-back}
 use Rattle.sect_space.proofs.StudentBack.{new-back, row-back, asks-back}
 use Rattle.sect_space.proofs.LimitBack.{limit-back}
 
@@ -115,10 +116,10 @@ pub taken-back : (w : World) (c : Change) → KeptWorld w → Fits w c → taken
 taken-back w (Offering row) k f = λ i. record w { catalogue = record { rows = but-last w.catalogue.rows row i; cancelled = w.catalogue.cancelled } }
 taken-back w (student_change row) k f = student-back w k row (find_student w.students row.id) refl
 taken-back w (Requests student asks) k f = requests-back w k student asks (find_student w.students student) refl (both-left (is_some (find_student w.students student)) _ f)
-taken-back w (Reserve r) k f = λ i. record w { reservations = put-dropped (λ x. x.offering.0) (λ x. x.id.0) r w.reservations (new_id w r f) i }
+taken-back w (Reserve r) k f = λ i. record w { reservations = gone-again (λ x. x.offering.0) (λ x. x.id.0) r w.reservations (new_id w r f) i }
 taken-back w (Unreserve id) k f = unreserve-back w k id (reservation_of w id) refl (both-left (is_some (reservation_of w id)) _ f)
 taken-back w (Expiry id day) k f = expiry-back w k id day (reservation_of w id) refl f
-taken-back w (Restrict r) k f = λ i. record w { restrictions = put-dropped (λ x. x.offering.0) (λ x. x.id.0) r w.restrictions (new_restriction_id w r f) i }
+taken-back w (Restrict r) k f = λ i. record w { restrictions = gone-again (λ x. x.offering.0) (λ x. x.id.0) r w.restrictions (new_restriction_id w r f) i }
 taken-back w (Unrestrict id) k f = unrestrict-back w k id (restriction_of w id) refl f
 taken-back w (new_cap cap limit) k f = cap-back w k cap limit (limit_in w.catalogue.rows cap) refl (known_limit w cap (both-left (is_known_cap w cap) _ f))
 taken-back w (Cancelled id) k f = λ i. record w { catalogue = record { rows = w.catalogue.rows; cancelled = cancel-back w id (not_true (is_cancelled w.catalogue id) (both-right (is_some (find_section w.catalogue.rows id)) _ (both-left _ _ f))) i } }

@@ -2,6 +2,8 @@ pub mod Back
 pub mod Counting
 pub mod Made
 pub mod Parts
+pub mod Recorded
 pub mod Room
 pub mod Roomed
 pub mod Undo
+pub mod Undoing

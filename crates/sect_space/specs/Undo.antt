@@ -1,5 +1,5 @@
 -- What an undo keeps, when it can be taken back, and the world after that.
-use Rattle.std.specs.Prelude.{◌≡◌, ℕ, Bool, true, false, List, [], ◌∷◌, ◌++◌}
+use Rattle.std.specs.Prelude.{◌≡◌, Bool, true, false, List, [], ◌∷◌, ◌++◌}
 use Rattle.sect_model.specs.declared.change.Change.{Change}
 use Rattle.sect_model.specs.declared.change.Change.TheVariants.{Offering, Student, Requests, Reserve, Unreserve, Expiry, Restrict, Unrestrict, Cap as new_cap, Cancelled, Day, Enrol, Leave}
 use Rattle.sect_model.specs.World.{World}
@@ -9,11 +9,6 @@ use Rattle.sect_space.specs.declared.back.Back.{Back}
 use Rattle.sect_space.specs.Back.{back_of, taken_back}
 use Rattle.sect_space.specs.Roomed.{Roomed}
 use Rattle.sect_space.specs.Room.{HasRoom}
-
--- what was kept of changes, the first one first, and how many more fit without asking for memory
-pub record Recorded : Type 0 where
-  pub backs : List Back
-  pub spare : ℕ
 
 -- the world in which all of these are taken back, the last one first
 abbrev pub undone : World → List Back → World

@@ -50,7 +50,12 @@ impl Parts {
     }
 
     /// Puts an enrolment back where it stood. There is room.
-    pub fn put_enrolment_back(&mut self, place: usize, enrolment: Enrolment, offering: Option<OfferingId>)
+    pub fn put_enrolment_back(
+        &mut self,
+        place: usize,
+        enrolment: Enrolment,
+        offering: Option<OfferingId>,
+    )
         requires ready { Ready (roomed_of self.old) (Back.Left place enrolment offering) }
         requires kept { KeptWorld (taken_back (roomed_of self.old).world (Back.Left place enrolment offering)) }
         ensures { Taken (roomed_of self.old) (roomed_of self.new) (Back.Left place enrolment offering) }

@@ -1,6 +1,7 @@
 // The world of the desk: its lists, what is counted in them, and the changes of it with their undoing.
 #![tactic(auto)]
 
+mod apply;
 mod back;
 mod change;
 mod count;
@@ -13,9 +14,11 @@ mod reservation;
 mod restriction;
 mod space;
 mod student;
+mod undo;
 mod world;
 
 pub use back::{Back, Mark};
 pub use sect_model::{Change, Enrolment};
 pub use space::names;
+pub use undo::Undo;
 pub use world::World;

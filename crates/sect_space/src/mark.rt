@@ -54,10 +54,7 @@ impl Parts {
     fn row_with_config(&self, id: ConfigId) -> Option<&OfferingRow>
         ensures { option_copied result ≡ find (λ o. config_is_in o id) self.now.catalogue.rows }
     {
-        self.catalogue
-            .rows()
-            .iter()
-            .find(|row| has_config(row, id))
+        self.catalogue.rows().iter().find(|row| has_config(row, id))
     }
 
     /// The offering in which the section stands.

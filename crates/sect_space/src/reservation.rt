@@ -64,7 +64,12 @@ impl Parts {
     }
 
     /// Puts the old expiry day back. The reservation is there.
-    pub fn restore_expiry(&mut self, id: ReservationId, offering: Option<OfferingId>, expiry: Option<Day>)
+    pub fn restore_expiry(
+        &mut self,
+        id: ReservationId,
+        offering: Option<OfferingId>,
+        expiry: Option<Day>,
+    )
         requires { Ready (roomed_of self.old) (Back.ExpiryReplaced id offering expiry) }
         ensures { Taken (roomed_of self.old) (roomed_of self.new) (Back.ExpiryReplaced id offering expiry) }
     {

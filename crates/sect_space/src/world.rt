@@ -21,7 +21,7 @@ use std::marker::Model;
 /// may not be held together. Contracts see it as its lists, with the room that these have.
 #[derive(Drop)]
 pub struct World {
-    parts: Parts,
+    pub(crate) parts: Parts,
 }
 
 impl Model for World {

@@ -3,6 +3,9 @@ use Rattle.std.proofs.Common.{◌≡◌, ◌∙◌, ◌==◌, ap, sym, arith, tr
 use Rattle.std.specs.List.{filter, find, position_or_len, remove}
 use Rattle.std.specs.Option.{is_some}
 use Rattle.sect_people.specs.Index.{rank}
+use Rattle.std.proofs.lemmas.Bool.{eqb-true}
+use Rattle.sect_model.proofs.ListLemmas.{found-passes}
+use Rattle.sect_roster.proofs.InsertLemmas.{find-dropped}
 use Rattle.sect_roster.proofs.PlaceLemmas.{place-within, read-one}
 use Rattle.sect_roster.proofs.KeepsLemmas.{keeps-as, drop-keeps, found-any, marks-left, marks-within, rows-left}
 use Rattle.sect_roster.proofs.listing.Listing.remove.Goals as goal
@@ -54,3 +57,23 @@ returns-clause-rest g c =
     let some : is_some (find p i.rows.items) ≡ true = ap (λ v. is_some (find p v.items)) c.self.view_is ∙ c.requires in
     let at : c.known_place-place.result ≡ position_or_len p i.rows.items = c.known_place-place.ensures ∙ ap (λ v. position_or_len p v.items) (sym c.self.view_is) in
     c.remove-2.ensures.items ∙ ap (remove i.rows.items) at ∙ rows-left key id i.rows.items i.marks.items c.self.invariant c.args.id some ∙ ap (λ v. filter (λ r. not (p r)) v.items) c.self.view_is
+
+pub returns-clause-id : goal.returns-clause-id
+returns-clause-id g c =
+    let i = c.self.inside in
+    let p = λ (r : g.row.R.Denot). g.R.Filed.id_of r == c.args.id in
+    let some : is_some (find p i.rows.items) ≡ true = ap (λ v. is_some (find p v.items)) c.self.view_is ∙ c.requires in
+    let at : c.known_place-place.result ≡ position_or_len p i.rows.items = c.known_place-place.ensures ∙ ap (λ v. position_or_len p v.items) (sym c.self.view_is) in
+    let read = read-one p i.rows.items c.known_place-place.result c.remove-2.result (found-any p i.rows.items some) at c.remove-2.ensures.value in
+    eqb-true (g.R.Filed.id_of c.remove-2.result) c.args.id (found-passes p i.rows.items c.remove-2.result (sym read))
+
+pub returns-clause-gone : goal.returns-clause-gone
+returns-clause-gone g c =
+    let i = c.self.inside in
+    let key = g.R.Keyed.key_of in
+    let id = g.R.Filed.id_of in
+    let p = λ (r : g.row.R.Denot). id r == c.args.id in
+    let some : is_some (find p i.rows.items) ≡ true = ap (λ v. is_some (find p v.items)) c.self.view_is ∙ c.requires in
+    let at : c.known_place-place.result ≡ position_or_len p i.rows.items = c.known_place-place.ensures ∙ ap (λ v. position_or_len p v.items) (sym c.self.view_is) in
+    ap (λ rs. is_some (find p rs)) (c.remove-2.ensures.items ∙ ap (remove i.rows.items) at ∙ rows-left key id i.rows.items i.marks.items c.self.invariant c.args.id some)
+    ∙ ap is_some (find-dropped p i.rows.items)

@@ -1,5 +1,5 @@
 -- one enrolment more, where there was room or room was made
-use Rattle.std.proofs.Common.{◌≡◌, ◌+◌, ◌≤◌, ◌∙◌, ap, arith, length}
+use Rattle.std.proofs.Common.{◌≡◌, ◌+◌, ◌∙◌, ap, arith, length}
 use Rattle.sect_model.specs.World.{insert_enrolment}
 use Rattle.sect_space.specs.declared.back.Back.TheVariants.{Enrolled}
 use Rattle.sect_space.proofs.Lengths.{length-put}

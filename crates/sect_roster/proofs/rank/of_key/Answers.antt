@@ -3,7 +3,7 @@ use Rattle.std.proofs.Common.{arith, ap, ◌∙◌, ◌-◌, ◌+◌, ◌≡◌,
 use Rattle.sect_people.specs.Index.{rank as rank_of}
 use Rattle.sect_people.proofs.RankLemmas.{rank_le-length}
 use Rattle.sect_roster.proofs.PlaceLemmas.{keyed-range, rank-rises}
-use Rattle.sect_roster.proofs.rank.keyed.Goals as goal
+use Rattle.sect_roster.proofs.rank.of_key.Goals as goal
 
 pub offset_bounds-items-start : goal.offset_bounds-items-start
 offset_bounds-items-start g c = omega (arith, c.rank-start.ensures, rank_le-length g.T.Keyed.key_of c.args.key c.args.items.now)

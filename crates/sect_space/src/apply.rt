@@ -1,0 +1,113 @@
+// Changes of the world, recorded, and undone again.
+
+ghost use Rattle.std.specs.Prelude.{◌≡◌, ◌<◌, ◌≤◌, ◌+◌, ◌++◌, ◌∷◌, [], length, take, drop, IfOk, IsOk, OnOk, OnErr, IsTrue};
+ghost use Rattle.sect_model.specs.Fits.{Fits, changed};
+ghost use Rattle.sect_model.specs.Kept.{KeptWorld};
+ghost use Rattle.sect_space.specs.Back.{back_of, taken_back};
+ghost use Rattle.sect_space.specs.Made.{Made, Unchanged, Taken, Ready};
+ghost use Rattle.sect_space.specs.Room.{KeepsRoom};
+ghost use Rattle.sect_space.specs.Undo.{undone, Undoable, takes_none};
+ghost use Rattle.sect_space.specs.Undoing.{UndoneLast};
+
+use crate::back::Back;
+use crate::undo::Undo;
+use crate::world::World;
+use sect_base::Memory;
+use sect_model::Change;
+
+impl World {
+    /// Makes a change that fits, and records it behind the others. Where memory runs out, the world and what is recorded
+    /// are as before.
+    pub fn apply(&mut self, change: Change, undo: &mut Undo) -> Result<(), Memory>
+        requires { Fits self.old.world change }
+        ensures world { OnOk result (self.new.world ≡ changed self.old.world change) }
+        ensures recorded { OnOk result (undo.new.backs ≡ undo.old.backs ++ back_of self.old.world change ∷ []) }
+        ensures err { OnErr result (self.new.world ≡ self.old.world) }
+        ensures err_recorded { OnErr result (undo.new.backs ≡ undo.old.backs) }
+        ensures room { KeepsRoom self.old self.new }
+        ensures spare { self.old.spare ≤ self.new.spare + 1 }
+        ensures undo_spare { undo.old.spare ≤ undo.new.spare + 1 }
+        ensures enough { IsTrue (takes_none change) → 0 < self.old.spare → 0 < undo.old.spare → IsOk result }
+        ensures undoable { Undoable self.old undo.old.backs → Undoable self.new undo.new.backs }
+    {
+        undo.reserve(1)?;
+        let back = self.change(change)?;
+        undo.push(back);
+        Ok(())
+    }
+
+    /// Makes room for so many changes that enrol a student, take an enrolment away, or set the day. The world and what is
+    /// recorded stay.
+    pub fn reserve(&mut self, undo: &mut Undo, n: usize) -> Result<(), Memory>
+        ensures world { self.new.world ≡ self.old.world }
+        ensures recorded { undo.new.backs ≡ undo.old.backs }
+        ensures spare { OnOk result (n ≤ self.new.spare) }
+        ensures undo_spare { OnOk result (n ≤ undo.new.spare) }
+        ensures room { KeepsRoom self.old self.new }
+        ensures undo_room { undo.old.spare ≤ undo.new.spare }
+        ensures enough { n ≤ self.old.spare → n ≤ undo.old.spare → IsOk result }
+        ensures undoable { Undoable self.old undo.old.backs → Undoable self.new undo.new.backs }
+    {
+        self.reserve_roster(n)?;
+        undo.reserve(n)
+    }
+
+    /// Takes back all that is recorded, the last change first. It takes no memory.
+    pub fn undo(&mut self, undo: Undo)
+        requires { Undoable self.old undo.backs }
+        ensures world { self.new.world ≡ undone self.old.world undo.backs }
+        ensures room { KeepsRoom self.old self.new }
+    {
+        let mut undo = undo;
+        self.undo_to(&mut undo, 0);
+    }
+
+    /// Takes back the changes behind the first `len` that are recorded, the last one first. It takes no memory.
+    pub fn undo_to(&mut self, undo: &mut Undo, len: usize)
+        requires undoable { Undoable self.old undo.old.backs }
+        requires len { len ≤ length undo.old.backs }
+        ensures world { self.new.world ≡ undone self.old.world (drop len undo.old.backs) }
+        ensures recorded { undo.new.backs ≡ take len undo.old.backs }
+        ensures room { KeepsRoom self.old self.new }
+        ensures undo_room { undo.old.spare ≤ undo.new.spare }
+        ensures undoable { Undoable self.new undo.new.backs }
+    {
+        while undo.len() > len {
+            self.undo_last(undo);
+        }
+    }
+
+    fn undo_last(&mut self, undo: &mut Undo)
+        requires some { 0 < length undo.old.backs }
+        requires undoable { Undoable self.old undo.old.backs }
+        ensures { UndoneLast self.old undo.old self.new undo.new }
+    {
+        let back = undo.pop();
+        self.take_back(back);
+    }
+
+    fn change(&mut self, change: Change) -> Result<Back, Memory>
+        requires { Fits self.old.world change }
+        ensures ok { IfOk result (λ back. Made self.old self.new change back) }
+        ensures err { OnErr result (Unchanged self.old self.new) }
+        ensures enough { IsTrue (takes_none change) → 0 < self.old.spare → IsOk result }
+    {
+        self.parts.change(change)
+    }
+
+    fn take_back(&mut self, back: Back)
+        requires ready { Ready self.old back }
+        requires kept { KeptWorld (taken_back self.old.world back) }
+        ensures { Taken self.old self.new back }
+    {
+        self.parts.take_back(back);
+    }
+
+    fn reserve_roster(&mut self, n: usize) -> Result<(), Memory>
+        ensures same { Unchanged self.old self.new }
+        ensures spare { OnOk result (n ≤ self.new.spare) }
+        ensures enough { n ≤ self.old.spare → IsOk result }
+    {
+        self.parts.roster.reserve(n)
+    }
+}
