@@ -1,0 +1,3 @@
+pub mod CourseLemmas
+pub mod HeldLemmas
+pub mod WaitLemmas

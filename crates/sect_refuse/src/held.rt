@@ -1,0 +1,87 @@
+// Courses that a student holds or gives up.
+
+ghost use Rattle.std.specs.Prelude.{◌≡◌, ◌==◌, ◌||◌, not, ◌≤◌, length, sum_by, []};
+ghost use Rattle.std.specs.List.{list_any};
+ghost use Rattle.sect_model.specs.World.{holds as is_held, credits_of};
+ghost use Rattle.sect_model.specs.Allowed.{credits_held as credits_of_student};
+ghost use Rattle.sect_model.specs.Refusals.{not_enrolled as held_fault, not_enrolled_in as given_fault};
+
+use sect_base::{CourseId, StudentId};
+use sect_command::Refusal;
+use sect_model::Enrolment;
+use sect_space::World;
+
+/// Whether the student is enrolled in the course.
+fn holds(world: &World, student: StudentId, course: CourseId) -> bool
+    ensures { result ≡ is_held world.now.world student course }
+{
+    has_course(world.enrolments(student), course)
+}
+
+fn has_course(held: &[Enrolment], course: CourseId) -> bool
+    ensures { result ≡ list_any (λ e. e.choice.course.0 == course.0) held.now }
+{
+    held.iter()
+        .any(|enrolment| enrolment.choice.course == course)
+}
+
+/// The student doesn't hold the course.
+pub fn not_enrolled(world: &World, student: StudentId, course: CourseId) -> Option<Refusal>
+    ensures { result ≡ held_fault world.now.world student course }
+{
+    if holds(world, student, course) {
+        None
+    } else {
+        Some(Refusal::NotEnrolled(course))
+    }
+}
+
+/// The first course given that isn't held or was named before.
+pub fn not_enrolled_in(world: &World, student: StudentId, given: &[CourseId]) -> Option<Refusal>
+    ensures { result ≡ given_fault world.now.world student [] given.now }
+{
+    for place in 0..given.len() {
+        let course = given[place];
+        if is_wrong(world, student, &given[..place], course) {
+            return Some(Refusal::NotEnrolled(course));
+        }
+    }
+    None
+}
+
+/// Whether the course isn't held, or is among the earlier ones.
+fn is_wrong(world: &World, student: StudentId, earlier: &[CourseId], course: CourseId) -> bool
+    ensures { result ≡ not (is_held world.now.world student course) || list_any (λ e. e.0 == course.0) earlier.now }
+{
+    !holds(world, student, course) || earlier.contains(&course)
+}
+
+/// The credits of what the student holds.
+pub fn credits_held(world: &World, student: StudentId) -> usize
+    ensures { result ≡ credits_of_student world.now.world student }
+{
+    world.is_kept();
+    credits_in(world, world.enrolments(student))
+}
+
+/// The credits of these enrolments.
+fn credits_in(world: &World, held: &[Enrolment]) -> usize
+    requires { length held.now ≤ 1000000000 }
+    ensures { result ≡ sum_by (λ e. credits_of world.now.world e.choice.course) held.now }
+{
+    let mut total = 0;
+    for enrolment in held {
+        total += usize::from(credits(world, enrolment.choice.course));
+    }
+    total
+}
+
+/// The credits of a course, 0 where it is unknown.
+fn credits(world: &World, course: CourseId) -> u8
+    ensures { result ≡ credits_of world.now.world course }
+{
+    match world.catalogue().course(course) {
+        Some((_, row)) => row.credits,
+        None => 0,
+    }
+}

@@ -1,0 +1,17 @@
+// Why a command is refused: the first condition that holds, in numbered order.
+#![tactic(auto)]
+
+mod held;
+mod limit;
+mod refuse;
+mod registrar;
+mod requests;
+mod row;
+mod student;
+mod told;
+mod unknown;
+mod waiting;
+mod want;
+mod yours;
+
+pub use refuse::refusal;
