@@ -5,6 +5,7 @@ With `wrong` the last reply is changed, and has to be refused.
 """
 import re
 import sys
+import tempfile
 
 from examples import statement
 from trial import try_examples
@@ -34,7 +35,7 @@ def main():
         total += len(rows)
         names.append(f'Script{k}')
         texts.append(statement(f'Script{k}', f'script {k}', rows))
-    refused, proved, said = try_examples('/tmp/against_oracle', '\n'.join(texts), names)
+    refused, proved, said = try_examples(tempfile.mkdtemp(prefix='against_oracle_'), '\n'.join(texts), names)
     print(f'{count} scripts from {first}, {total} commands, proved {proved}, refused {refused}')
     print(' '.join(f'{kind}:{n}' for kind, n in sorted(kinds.items())))
     if not proved:

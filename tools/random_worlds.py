@@ -4,6 +4,7 @@ python3 tools/random_worlds.py SEED COUNT
 """
 import random
 import sys
+import tempfile
 
 from scripts import numbers, request, terms
 from trial import try_examples
@@ -148,7 +149,7 @@ def main():
                      f'abbrev move{k} : Move\nmove{k} = {move(dice, known, sections)}\n\n'
                      f'abbrev pub World{k} : Type 0\nWorld{k} = agrees run{k} move{k} ≡ all_true\n')
         names.append(f'World{k}')
-    refused, proved, said = try_examples('/tmp/random_worlds', '\n'.join(texts), names, MORE)
+    refused, proved, said = try_examples(tempfile.mkdtemp(prefix='random_worlds_'), '\n'.join(texts), names, MORE)
     print(f'{len(names)} worlds, proved {proved}, refused {refused}')
     if not proved:
         print(said)
