@@ -1,6 +1,6 @@
 -- Trees beside options, place by place.
-use Rattle.std.specs.Prelude.{◌≡◌, ℕ, zero, suc, ◌+◌, ◌<◌, ◌≤◌, Bool, true, false, ◌&&◌, ◌==◌, List, [], ◌∷◌, length, Option, Some, None, slice_get, refl}
-use Rattle.std.proofs.Common.{sym, ◌∙◌, ap, arith, drop}
+use Rattle.std.specs.Prelude.{◌≡◌, ℕ, zero, suc, ◌+◌, ◌<◌, ◌≤◌, Bool, false, ◌&&◌, ◌==◌, List, [], ◌∷◌, length, Some, None, slice_get, refl}
+use Rattle.std.proofs.Common.{◌∙◌, ap, arith, drop}
 use Rattle.std.proofs.lemmas.Bool.Decides.{nat_tests}
 use Rattle.sect_base.specs.Tree.{Tree, trees_of, size_of, sizes_of}
 use Rattle.sect_model.specs.Data.{Move}
@@ -21,7 +21,7 @@ size-got (u ∷ us) (suc i) t h = omega (arith, size-got us i t h)
 
 module _ (w : World) (mv : Move) (p : Path) (options : List Pick) (trees : List Tree) where
   -- from a place on
-  abbrev from : ℕ → Bool
+  abbrev pub from : ℕ → Bool
   from at = cover_each w mv p (drop at options) (trees_of (drop at trees))
 
   pub cover-none : (at : ℕ) (pick : Pick) → slice_get options at ≡ Some pick → slice_get trees at ≡ None → from at ≡ false
@@ -36,8 +36,11 @@ module _ (w : World) (mv : Move) (p : Path) (options : List Pick) (trees : List 
       both-more : (m n : ℕ) → m == n ≡ suc m == suc n
       both-more m n = grind (arith, nat_tests)
 
+      none_is : (n : ℕ) → false ≡ 0 == suc n
+      none_is n = grind (arith, nat_tests)
+
       rest : (ts : List Tree) (at : ℕ) → at ≤ length ts → cover_each w mv p [] (trees_of (drop at ts)) ≡ at == length ts
       rest [] zero k = refl
       rest [] (suc at) k = absurd (omega (arith, k))
-      rest (t ∷ ts) zero k = refl
+      rest (t ∷ ts) zero k = none_is (length ts)
       rest (t ∷ ts) (suc at) k = rest ts at (omega (arith, k)) ∙ both-more at (length ts)

@@ -1,7 +1,7 @@
 -- The options of a path taken in turn, with the trees of those in front.
-use Rattle.std.specs.Prelude.{◌≡◌, ℕ, zero, suc, ◌+◌, ◌-◌, ◌<◌, ◌≤◌, Bool, true, false, List, [], ◌∷◌, ◌++◌, length, Option, Some, None, slice_get, refl}
+use Rattle.std.specs.Prelude.{◌≡◌, ℕ, zero, suc, ◌+◌, ◌-◌, ◌<◌, Bool, true, false, List, [], ◌∷◌, ◌++◌, Option, Some, None, slice_get, refl}
 use Rattle.std.proofs.Common.{sym, ◌∙◌, ap, arith, drop}
-use Rattle.sect_base.specs.Tree.{Tree, broken, split, trees_of}
+use Rattle.sect_base.specs.Tree.{Tree}
 use Rattle.sect_model.specs.Data.{Choice, Move, Rule}
 use Rattle.sect_model.specs.declared.pick.Pick.{Pick}
 use Rattle.sect_model.specs.World.{World}
@@ -67,7 +67,7 @@ search-some w mv (suc n) p left h =
 
 -- the search of a path's options, from a place on, with the trees in front
 module _ (w : World) (mv : Move) (rest : Path → ℕ → Searched) (p : Path) (options : List Pick) where
-  abbrev from : List Tree → ℕ → ℕ → Searched
+  abbrev pub from : List Tree → ℕ → ℕ → Searched
   from trees at left = with_trees trees (search_options w mv rest p (drop at options) left)
 
   -- an option by itself

@@ -1,6 +1,6 @@
 // Whether a tree refutes every choice.
 
-ghost use Rattle.std.specs.Prelude.{◌≡◌, Contains, IsTrue};
+ghost use Rattle.std.specs.Prelude.{◌≡◌, Contains, IsTrue, slice_get, option_copied};
 ghost use Rattle.sect_base.specs.TreeOf.{tree_of};
 ghost use Rattle.sect_base.specs.Tree.{trees_of};
 ghost use Rattle.sect_model.specs.Covers.{covers, covers_with, cover_each, is_leaf};
@@ -22,11 +22,25 @@ pub fn verify(world: &World, mv: &Move, tree: &Block) -> bool
     ensures refutes { IsTrue result → NoMove world.now.world mv.now }
 {
     world.is_kept();
+    covers_all(world, mv, tree)
+}
+
+/// Whether the tree covers the path with no decision.
+fn covers_all(world: &World, mv: &Move, tree: &Block) -> bool
+    requires { MoveFits world.now.world mv.now }
+    ensures { result ≡ covers world.now.world mv.now tree.now }
+{
     let start = Path::start();
     match tree.node() {
         Node::Broken(_, _) => false,
         Node::Split(trees) => !start.is_complete(mv) && cover(world, mv, &start, trees),
     }
+}
+
+fn tree_at(trees: &[Block], at: usize) -> Option<&Block>
+    ensures { option_copied result ≡ slice_get trees.now at }
+{
+    trees.get(at)
 }
 
 /// Whether the leaf is this rule with this number.
@@ -67,7 +81,7 @@ fn cover(world: &World, mv: &Move, path: &Path, trees: &[Block]) -> bool
 {
     let mut at = 0;
     'options: while let Some(pick) = option(world, mv, path, at) {
-        match trees.get(at) {
+        match tree_at(trees, at) {
             Some(tree) if covers_pick(world, mv, path, pick, tree) => at += 1,
             _ => return false,
         }

@@ -28,6 +28,7 @@ pub fn below(
     ensures found { IfOk result (λ r. told r left.new ≡ search_from world.now.world mv.now decisions path.now left.old) }
     ensures less { left.new ≤ left.old }
 {
+    let budget = *left;
     let mut trees = Vec::new(alloc);
     if decisions == 0 {
         return Ok(Walked::Refuted(trees));
