@@ -1,2 +1,11 @@
-pub mod DayLaws
-pub mod Sentences
+pub mod ArgumentLaws
+pub mod Bytes
+pub mod Dates
+pub mod Numbers
+pub mod PartLaws
+pub mod Pieces
+pub mod RowLaws
+pub mod Rows
+pub mod Steps
+pub mod ValueLaws
+pub mod WordLaws

@@ -1,6 +1,10 @@
-pub mod Commands
-pub mod Days
+pub mod Faults
+pub mod Fits
+pub mod Lines
 pub mod Parts
-pub mod Replies
-pub mod Rows
-pub mod Words
+pub mod Reading
+pub mod ReadingCommands
+pub mod ReadingLines
+pub mod ReadingReplies
+pub mod ReadingRows
+pub mod ReadingWords

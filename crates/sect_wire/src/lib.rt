@@ -1,13 +1,24 @@
 // Lines, commands, replies and entry rows as texts, both ways.
 #![tactic(auto)]
 
-mod command_text;
-mod phrase;
-mod reply_text;
-mod row_text;
-mod row_words;
-mod word;
+mod fault;
+mod line;
+mod parts;
+mod read_command;
+mod read_parts;
+mod read_phrase;
+mod read_word;
+mod reply;
+mod request;
+mod row;
+mod take;
+mod verb;
 
-pub use command_text::print_command;
-pub use reply_text::print_reply;
-pub use row_text::print_row;
+pub use fault::WireFault;
+pub use line::{LineAsk, read_line};
+pub use reply::read_reply;
+pub use row::read_row;
+pub use sect_text::{print_command, print_reply, print_row};
+
+#[cfg(test)]
+mod tests;
