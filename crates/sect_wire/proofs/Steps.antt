@@ -17,6 +17,18 @@ pub record Exact {X : Type 0} (of : List ℕ → Option X) (text : X → List �
   pub found : (word : List ℕ) (x : X) → of word ≡ Some x → Fits x × (word ≡ text x)
   pub again : (x : X) → Fits x → of (text x) ≡ Some x
 
+-- the value whose text was told
+pub by_found : {X : Type 0} {of : List ℕ → Option X} {text : X → List ℕ} {Fits : X → Type 0} → Exact of text Fits → (word : List ℕ) (x : X) → Fits x → word ≡ text x → of word ≡ Some x
+by_found {of = of} exact word x fits is = ap of is ∙ exact.again x fits
+
+-- no value has the text
+pub by_none : {X : Type 0} {of : List ℕ → Option X} {text : X → List ℕ} {Fits : X → Type 0} → Exact of text Fits → (word : List ℕ) → ((x : X) → Fits x → word ≡ text x → ⊥) → of word ≡ None
+by_none {X = X} {of = of} exact word none = by (of word) refl
+  where
+    by : (o : Option X) → of word ≡ o → o ≡ None
+    by None e = refl
+    by (Some x) e = let p = exact.found word x e in absurd (none x p.0 p.1)
+
 -- the words are those of the value
 abbrev pub Spelled : {X : Type 0} → (X → Type 0) → (X → List (List ℕ)) → X → List (List ℕ) → Type 0
 Spelled Fits words x t = Fits x × (t ≡ words x)
@@ -64,7 +76,8 @@ pub key_step : {B : Type 0} (word : List ℕ) (ws : List (List ℕ)) (f : List (
     → ((rest : List (List ℕ)) → ws ≡ word ∷ rest → f rest ≡ Some y → G) → G
 key_step word ws f y e k = bind_found (key_at word ws) f y e (λ rest is. k rest (key_found word ws rest is))
 
-rest_found : {X : Type 0} (rest : List (List ℕ)) (o : Option X) (x : X) (r : List (List ℕ)) → with_rest rest o ≡ Some (x, r) → (o ≡ Some x) × (rest ≡ r)
+-- what was read of a part, and what is left behind it
+pub rest_found : {X : Type 0} (rest : List (List ℕ)) (o : Option X) (x : X) (r : List (List ℕ)) → with_rest rest o ≡ Some (x, r) → (o ≡ Some x) × (rest ≡ r)
 rest_found rest None x r e = absurd (cc)
 rest_found rest (Some y) x r e = (ap (λ (p : _). Some p.0) (some_is (y, rest) (x, r) e), ap (λ (p : _). p.1) (some_is (y, rest) (x, r) e))
 

@@ -71,7 +71,8 @@ use Rattle.sect_wire.proofs.Bytes.{NoDash, lacks_decimal, no_dash_decimal, each_
 decimal_apart : (bound : ℕ) → bound ≤ 2 ^ 64 → Apart decimal bound
 decimal_apart bound small m n a b same = decimal_injective m n (omega (arith, a, small)) (omega (arith, b, small)) same
 
-exact_upto : (most : ℕ) → most < 2 ^ 64 → Exact (number_of most) decimal (λ n. n ≤ most)
+-- a number of at most `most` is read exactly
+pub exact_upto : (most : ℕ) → most < 2 ^ 64 → Exact (number_of most) decimal (λ n. n ≤ most)
 unfolding number_of
 exact_upto most small =
     let exact = exact_number decimal (most + 1) (decimal_apart (most + 1) (omega (arith, small))) in

@@ -1,5 +1,6 @@
 pub mod Faults
 pub mod Fits
+pub mod Laws
 pub mod Lines
 pub mod Parts
 pub mod Reading

@@ -6,7 +6,7 @@ use Rattle.sect_command.specs.declared.reply.Reply.{Reply}
 use Rattle.sect_once.specs.declared.entry.Entry.{Entry}
 use Rattle.sect_text.specs.Parts.{pieces}
 use Rattle.sect_text.specs.Rows.{is_marked}
-use Rattle.sect_wire.specs.Reading.{◌>>=◌, word_at, key_at, mark_at, later_parts, whole}
+use Rattle.sect_wire.specs.Reading.{◌>>=◌, word_at, key_at, mark_at, with_rest, later_parts, whole}
 use Rattle.sect_wire.specs.ReadingWords.{u64_of, day_of, caller_of}
 use Rattle.sect_wire.specs.declared.verb.Verb.{Verb}
 use Rattle.sect_wire.specs.declared.line.LineAsk.{LineAsk}
@@ -79,8 +79,8 @@ agrees true false = false
 agrees false true = false
 
 -- the entry, where it has the mark that its command has
-abbrev pub entry_if : Bool → Entry Command Reply → List (List ℕ) → Option (Entry Command Reply × List (List ℕ))
-entry_if good e rest = if good then Some (e, rest) else None
+abbrev pub entry_if : Bool → Entry Command Reply → Option (Entry Command Reply)
+entry_if good e = if good then Some e else None
 
 unfoldable pub row_at : List (List ℕ) → Option (Entry Command Reply × List (List ℕ))
 row_at parts = do
@@ -90,7 +90,7 @@ row_at parts = do
   command ← command_at false id.1
   key ← key_at (codes "=") command.1
   reply ← reply_at key
-  entry_if (agrees mark.0 (is_marked command.0)) (record { id = id.0; day = day.0; command = command.0; reply = reply.0 }) reply.1
+  with_rest reply.1 (entry_if (agrees mark.0 (is_marked command.0)) (record { id = id.0; day = day.0; command = command.0; reply = reply.0 }))
 
 -- the entry of a row
 abbrev pub row_of : List ℕ → Option (Entry Command Reply)

@@ -1,9 +1,11 @@
 // Reading script lines.
 
-ghost use Rattle.std.specs.Prelude.{◌≡◌, codes, true};
+ghost use Rattle.std.specs.Prelude.{◌≡◌, IfOk, Ok, Err};
 ghost use Rattle.sect_text.specs.Parts.{pieces};
 ghost use Rattle.sect_wire.specs.Reading.{Reads};
 ghost use Rattle.sect_wire.specs.ReadingLines.{line_day_at, front_at, line_of, Says};
+ghost use Rattle.sect_wire.specs.Lines.{IsLine, HasUnknownVerb};
+ghost use Rattle.sect_wire.specs.declared.line.LineAsk.{LineAsk};
 
 use crate::fault::{Fault, WireFault};
 use crate::parts::Parts;
@@ -66,7 +68,10 @@ fn read_ask(alloc: Global, line: &[u8]) -> Result<LineAsk, WireFault>
 /// The request that a line asks. `UnknownVerb` exactly where the caller and the number are there and the next word is
 /// no verb, `BadLine` where the line asks nothing for another cause. It takes memory.
 pub fn read_line(alloc: Global, line: &[u8]) -> Result<LineAsk, WireFault>
-    ensures { Says result (line_of line.now) }
+    ensures found { IfOk result (λ ask. IsLine line.now ask) }
+    ensures only { (ask : LineAsk) → IsLine line.now ask → Says result (Ok ask) }
+    ensures unknown { HasUnknownVerb line.now → Says result (Err WireFault.UnknownVerb) }
+    ensures told { result ≡ Err WireFault.UnknownVerb → HasUnknownVerb line.now }
 {
     read_ask(alloc, line)
 }

@@ -1,6 +1,6 @@
 // The parts of a text between marks, from the first to the last.
 
-ghost use Rattle.std.specs.Prelude.{◌≡◌, ℕ, ◌==◌, ◌≤◌, length, List, [], position, if◌then◌else◌};
+ghost use Rattle.std.specs.Prelude.{◌≡◌, ℕ, ◌==◌, ◌≤◌, ◌<◌, ◌+◌, drop, length, List, [], position, if◌then◌else◌};
 ghost use Rattle.std.specs.Option.{option_map};
 ghost use Rattle.std.specs.Str.{bytes_eq};
 ghost use Rattle.sect_text.specs.Parts.{pieces};
@@ -42,6 +42,14 @@ fn mark_in(text: &[u8], mark: u8) -> Option<usize>
     text.iter().position(|byte| *byte == mark)
 }
 
+// What stands behind the byte at a place.
+fn behind(text: &[u8], at: usize) -> &[u8]
+    requires { at < length text.now }
+    ensures { result.now ≡ drop (at + 1) text.now }
+{
+    &text[at + 1..]
+}
+
 impl<'a> Parts<'a> {
     // The parts of a text.
     pub(crate) fn new(text: &'a [u8], mark: u8) -> Parts<'a>
@@ -75,7 +83,7 @@ impl<'a> Parts<'a> {
             return;
         }
         match mark_in(self.text, self.mark) {
-            Some(at) => self.text = &self.text[at + 1..],
+            Some(at) => self.text = behind(self.text, at),
             None => self.done = true,
         }
     }

@@ -1,6 +1,6 @@
 // Reading what stands in several words, one value behind another.
 
-ghost use Rattle.std.specs.Prelude.{◌≡◌, ◌<◌, ℕ, Bool, List, Option, IfOk, length, codes, if◌then◌else◌};
+ghost use Rattle.std.specs.Prelude.{◌≡◌, ◌<◌, ◌≤◌, ℕ, Bool, List, Option, IfOk, length, codes, if◌then◌else◌};
 ghost use Rattle.sect_wire.specs.Reading.{Reads, each_at, begins, mark_at};
 ghost use Rattle.sect_wire.specs.ReadingWords.{choice_of};
 ghost use Rattle.sect_wire.specs.ReadingRows.{
@@ -55,7 +55,8 @@ pub(crate) fn read_each<T: ReadPhrase>(
     shown: bool,
     words: &mut Parts,
 ) -> Result<Items<T>, Fault>
-    ensures { Reads result words.new (each_at T.starts (T.at shown) words.old) }
+    ensures reads { Reads result words.new (each_at T.starts (T.at shown) words.old) }
+    ensures longest { IfOk result (λ _. length words.new ≤ length words.old) }
 {
     let mut items = Vec::new(alloc);
     while T::starts(words) {

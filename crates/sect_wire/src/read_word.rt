@@ -217,7 +217,10 @@ impl ReadWord for Day {
 
     fn read(_alloc: Global, word: &[u8]) -> Result<Day, Fault> {
         match read_day(word) {
-            Ok(day) => Ok(day),
+            Ok(day) => {
+                prove!(day.get() >= 0);
+                Ok(day)
+            }
             Err(_) => Err(Fault::Bad),
         }
     }
@@ -228,7 +231,10 @@ impl ReadWord for Meeting {
 
     fn read(_alloc: Global, word: &[u8]) -> Result<Meeting, Fault> {
         match read_meeting(word) {
-            Ok(meeting) => Ok(meeting),
+            Ok(meeting) => {
+                prove!(meeting.slots() > 0);
+                Ok(meeting)
+            }
             Err(_) => Err(Fault::Bad),
         }
     }

@@ -1,7 +1,10 @@
 // Reading replies.
 
-ghost use Rattle.std.specs.Prelude.{◌≡◌, ◌<◌, ℕ, List, IfOk, IfSome, length, codes, Some, not};
+ghost use Rattle.std.specs.Prelude.{◌≡◌, ◌<◌, ◌≤◌, ℕ, List, IfOk, IfSome, length, codes, Some, not};
+ghost use Rattle.sect_command.specs.declared.reply.Reply.{Reply};
 ghost use Rattle.sect_text.specs.Parts.{pieces};
+ghost use Rattle.sect_text.specs.Replies.{reply_text};
+ghost use Rattle.sect_wire.specs.Fits.{FitsReply};
 ghost use Rattle.sect_wire.specs.Reading.{Reads, ReadsAs, Means, Finds, whole, word_at};
 ghost use Rattle.sect_wire.specs.ReadingWords.{choice_of};
 ghost use Rattle.sect_wire.specs.ReadingReplies.{
@@ -212,7 +215,8 @@ fn read_refusal(alloc: Global, words: &mut Parts) -> Result<Refusal, Fault>
 // How many decisions were visited, and the tree.
 #[tactic(auto, unfolding(crate::specs::ReadingReplies::blocked_at))]
 fn read_blocked(alloc: Global, words: &mut Parts) -> Result<(u32, Block), Fault>
-    ensures { Reads result words.new (blocked_at words.old) }
+    ensures reads { Reads result words.new (blocked_at words.old) }
+    ensures longest { IfOk result (λ _. length words.new ≤ length words.old) }
 {
     let visits = words.word(alloc)?;
     let tree = words.word(alloc)?;
@@ -221,7 +225,8 @@ fn read_blocked(alloc: Global, words: &mut Parts) -> Result<(u32, Block), Fault>
 
 #[tactic(auto, unfolding(crate::specs::ReadingReplies::blocked_result_at))]
 fn read_blocked_result(alloc: Global, words: &mut Parts) -> Result<LineResult, Fault>
-    ensures { Reads result words.new (blocked_result_at words.old) }
+    ensures reads { Reads result words.new (blocked_result_at words.old) }
+    ensures longest { IfOk result (λ _. length words.new ≤ length words.old) }
 {
     let (visits, tree) = read_blocked(alloc, words)?;
     Ok(LineResult::Blocked(visits, tree))
@@ -229,7 +234,8 @@ fn read_blocked_result(alloc: Global, words: &mut Parts) -> Result<LineResult, F
 
 #[tactic(auto, unfolding(crate::specs::ReadingReplies::result_named))]
 fn read_named_result(alloc: Global, name: &[u8], words: &mut Parts) -> Result<LineResult, Fault>
-    ensures { Reads result words.new (result_named name.now words.old) }
+    ensures reads { Reads result words.new (result_named name.now words.old) }
+    ensures longest { IfOk result (λ _. length words.new ≤ length words.old) }
 {
     if same(name, b"met") {
         return Ok(LineResult::Met(words.word(alloc)?));
@@ -255,6 +261,7 @@ fn read_named_result(alloc: Global, name: &[u8], words: &mut Parts) -> Result<Li
 #[tactic(auto, unfolding(crate::specs::ReadingReplies::result_at))]
 fn read_result(alloc: Global, words: &mut Parts) -> Result<LineResult, Fault>
     ensures reads { Reads result words.new (result_at words.old) }
+    ensures longest { IfOk result (λ _. length words.new ≤ length words.old) }
 {
     let name = take_name(words)?;
     read_named_result(alloc, name, words)
@@ -389,8 +396,8 @@ fn read_whole_reply(alloc: Global, text: &[u8]) -> Result<Reply, Fault>
     Ok(reply)
 }
 
-/// The reply of a text. None exactly where the text is not that of a reply. It takes memory.
-pub fn read_reply(alloc: Global, text: &[u8]) -> Result<Option<Reply>, Memory>
+// The reply of a text, where it has one.
+fn find_reply(alloc: Global, text: &[u8]) -> Result<Option<Reply>, Memory>
     ensures { Finds result (reply_of text.now) }
 {
     match read_whole_reply(alloc, text) {
@@ -398,4 +405,12 @@ pub fn read_reply(alloc: Global, text: &[u8]) -> Result<Option<Reply>, Memory>
         Err(Fault::Bad) => Ok(None),
         Err(Fault::Memory) => Err(Memory),
     }
+}
+
+/// The reply of a text. None exactly where the text is not that of a reply. It takes memory.
+pub fn read_reply(alloc: Global, text: &[u8]) -> Result<Option<Reply>, Memory>
+    ensures found { IfOk result (λ found. IfSome found (λ r. FitsReply r × (text.now ≡ reply_text r))) }
+    ensures only { (r : Reply) → FitsReply r → text.now ≡ reply_text r → IfOk result (λ found. found ≡ Some r) }
+{
+    find_reply(alloc, text)
 }

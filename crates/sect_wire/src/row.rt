@@ -1,9 +1,14 @@
 // Reading entry rows.
 
-ghost use Rattle.std.specs.Prelude.{◌≡◌, codes, Bool};
+ghost use Rattle.std.specs.Prelude.{◌≡◌, codes, IfOk, IfSome, Some};
+ghost use Rattle.sect_command.specs.declared.command.Command.{Command};
+ghost use Rattle.sect_command.specs.declared.reply.Reply.{Reply};
+ghost use Rattle.sect_once.specs.declared.entry.Entry.{Entry};
+ghost use Rattle.sect_wire.specs.Laws.{IsRow};
 ghost use Rattle.sect_text.specs.Parts.{pieces};
 ghost use Rattle.sect_wire.specs.Reading.{Reads, Means, whole, Finds};
-ghost use Rattle.sect_wire.specs.ReadingLines.{id_at, row_at, row_of, agrees};
+ghost use Rattle.sect_wire.specs.ReadingLines.{id_at, row_at, row_of, agrees, entry_if};
+ghost use Rattle.sect_text.specs.Rows.{is_marked as has_mark};
 
 use crate::fault::Fault;
 use crate::parts::Parts;
@@ -42,15 +47,25 @@ fn read_entry(alloc: Global, words: &mut Parts) -> Result<Entry<Command, Reply>,
     let command = read_command(alloc, false, words)?;
     words.key(b"=")?;
     let reply = read_reply_words(alloc, words)?;
-    if !agree(marked, is_marked(&command)) {
-        return Err(Fault::Bad);
-    }
-    Ok(Entry {
+    let entry = Entry {
         id,
         day,
         command,
         reply,
-    })
+    };
+    let entry = checked(marked, entry)?;
+    Ok(entry)
+}
+
+// The entry, where it has the mark that its command has.
+fn checked(marked: bool, entry: Entry<Command, Reply>) -> Result<Entry<Command, Reply>, Fault>
+    ensures { Means result (entry_if (agrees marked (has_mark entry.command)) entry) }
+{
+    if agree(marked, is_marked(&entry.command)) {
+        Ok(entry)
+    } else {
+        Err(Fault::Bad)
+    }
 }
 
 // The entry of a row.
@@ -63,8 +78,8 @@ fn read_whole_row(alloc: Global, row: &[u8]) -> Result<Entry<Command, Reply>, Fa
     Ok(entry)
 }
 
-/// The entry of which this is the row. None exactly where there is none. It takes memory.
-pub fn read_row(alloc: Global, row: &[u8]) -> Result<Option<Entry<Command, Reply>>, Memory>
+// The entry of a row, where it has one.
+fn find_entry(alloc: Global, row: &[u8]) -> Result<Option<Entry<Command, Reply>>, Memory>
     ensures { Finds result (row_of row.now) }
 {
     match read_whole_row(alloc, row) {
@@ -72,4 +87,12 @@ pub fn read_row(alloc: Global, row: &[u8]) -> Result<Option<Entry<Command, Reply
         Err(Fault::Bad) => Ok(None),
         Err(Fault::Memory) => Err(Memory),
     }
+}
+
+/// The entry of which this is the row. None exactly where there is none. It takes memory.
+pub fn read_row(alloc: Global, row: &[u8]) -> Result<Option<Entry<Command, Reply>>, Memory>
+    ensures found { IfOk result (λ found. IfSome found (λ e. IsRow e row.now)) }
+    ensures only { (e : Entry Command Reply) → IsRow e row.now → IfOk result (λ found. found ≡ Some e) }
+{
+    find_entry(alloc, row)
 }
