@@ -1,5 +1,5 @@
 -- What stands behind verbs is read exactly: reservations, restrictions, levels, wants and what has a default.
-use Rattle.std.proofs.Common.{◌≡◌, ℕ, suc, ◌==◌, ◌+◌, ◌<◌, ◌≤◌, ◌^◌, Bool, true, false, List, [], ◌∷◌, ◌++◌, length, Option, None, Some, refl, ap, sym, ◌∙◌, subst, append_assoc, append-nil, arith, decimal, lit≤, lit<}
+use Rattle.std.proofs.Common.{◌≡◌, ℕ, ◌==◌, ◌+◌, ◌<◌, ◌^◌, Bool, true, false, List, [], ◌∷◌, ◌++◌, length, Option, None, Some, refl, ap, sym, ◌∙◌, subst, append_assoc, arith, decimal, lit≤, lit<}
 use Rattle.std.specs.Prelude.{codes, flat_map, ◌||◌, not, if◌then◌else◌}
 use Rattle.std.specs.Str.{bytes_eq}
 use Rattle.std.proofs.lemmas.Option.{cond_some}
@@ -14,7 +14,7 @@ use Rattle.sect_command.specs.declared.command.ReserveRow.{ReserveRow}
 use Rattle.sect_command.specs.declared.command.RestrictRow.{RestrictRow}
 use Rattle.sect_text.specs.Days.{day_text}
 use Rattle.sect_text.specs.Words.{list_text, optional_text, limit_text, course_text, section_text, audience_text}
-use Rattle.sect_text.specs.Commands.{mark_words, config_id_words, section_id_words, from_words, cap_words, stated_words, only_words, want_words, give_words, optional_give_words}
+use Rattle.sect_text.specs.Commands.{mark_words, config_id_words, section_id_words, from_words, cap_words, stated_words, only_words, want_words, optional_give_words}
 use Rattle.sect_wire.specs.Fits.{FitsDay, FitsList, FitsOptional, FitsReserveRow, FitsRestrictRow, FitsCap, FitsStated, FitsSection, FitsWant, FitsCourse}
 use Rattle.sect_wire.specs.Lines.{May, IsTake, AreEach}
 use Rattle.sect_wire.specs.Reading.{◌>>=◌, word_at, each_at, begins, later_parts, mark_at}
@@ -22,7 +22,7 @@ use Rattle.sect_wire.specs.ReadingWords.{between_of, day_of, list_of, section_of
 use Rattle.sect_wire.specs.ReadingRows.{give_starts, give_at}
 use Rattle.sect_wire.specs.ReadingCommands.{from_at, reserve_at, restrict_at, course_cap_at, config_cap_at, section_cap_at, cap_at, shown_if, stated_at, is_empty, only_at, want_at, take_starts, take_at, optional_give_at}
 use Rattle.sect_wire.proofs.Steps.{Takes, Any, Quiet, key_step, word_step, words_step, begins_step, bind_found, if_found, end_step, word_then, words_then, word_back, words_back, word_same, mark_found, mark_again, not_first, not_mark}
-use Rattle.sect_wire.proofs.Rows.{StopEach, some_found, some_again}
+use Rattle.sect_wire.proofs.Rows.{some_found, some_again}
 use Rattle.sect_wire.proofs.WordLaws.{exact_between}
 use Rattle.sect_wire.proofs.ValueLaws.{exact_day, exact_optional_day, exact_reservation, exact_restriction, exact_offering, exact_limit, exact_course, exact_config, exact_section, exact_courses, exact_sections_of}
 use Rattle.sect_wire.proofs.PartLaws.{exact_audience}

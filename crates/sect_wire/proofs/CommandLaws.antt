@@ -1,6 +1,6 @@
 -- Commands are read exactly.
-use Rattle.std.proofs.Common.{◌≡◌, ℕ, ◌+◌, ◌<◌, ◌≤◌, ◌^◌, Bool, true, false, List, [], ◌∷◌, ◌++◌, length, Option, None, Some, refl, ap, sym, ◌∙◌, subst, append_assoc, append-nil, arith, decimal, lit≤, lit<}
-use Rattle.std.specs.Prelude.{codes, flat_map, if◌then◌else◌}
+use Rattle.std.proofs.Common.{◌≡◌, ℕ, Bool, false, List, [], ◌∷◌, ◌++◌, Option, None, Some, refl, ap, sym, ◌∙◌, append_assoc, arith, decimal, lit≤, lit<}
+use Rattle.std.specs.Prelude.{codes, flat_map}
 use Rattle.std.specs.Str.{bytes_eq}
 use Rattle.sect_base.specs.declared.ids.CourseId.{CourseId}
 use Rattle.sect_base.specs.declared.ids.SectionId.{SectionId}
@@ -19,8 +19,8 @@ use Rattle.sect_command.specs.declared.command.Command.{Command}
 use Rattle.sect_command.specs.declared.command.Command.TheVariants as commands
 use Rattle.sect_text.specs.Days.{day_text}
 use Rattle.sect_text.specs.Words.{list_text, optional_text, limit_text, student_text}
-use Rattle.sect_text.specs.Commands.{ask_words, cap_words, want_words, stated_words, only_words, give_words, optional_give_words, budget_words, class_words, command_words}
-use Rattle.sect_wire.specs.Fits.{FitsCommand, FitsStated, FitsList, FitsWant, FitsOptional, FitsDay, FitsStudent, FitsCourse, FitsSection, FitsReservation, FitsRestriction, FitsCap, FitsLimit, FitsAsk, Fits64, FitsOfferingRow, FitsStudentRow, FitsReserveRow, FitsRestrictRow}
+use Rattle.sect_text.specs.Commands.{ask_words, cap_words, want_words, give_words, optional_give_words, budget_words, class_words}
+use Rattle.sect_wire.specs.Fits.{FitsStated, FitsList, FitsWant, FitsOptional, FitsDay, FitsStudent, FitsCourse, FitsSection, FitsReservation, FitsRestriction, FitsCap, FitsLimit, FitsAsk, Fits64, FitsOfferingRow, FitsStudentRow, FitsReserveRow, FitsRestrictRow}
 use Rattle.sect_wire.specs.Lines.{May, IsTake, AreEach, IsCommand}
 use Rattle.sect_wire.specs.declared.verb.Verb.{Verb}
 use Rattle.sect_wire.specs.declared.verb.Verb.TheVariants as verbs
@@ -55,11 +55,11 @@ use Rattle.sect_wire.specs.ReadingCommands.{
   arguments_at,
   command_at,
 }
-use Rattle.sect_wire.proofs.Steps.{Exact, Takes, Any, Quiet, word_found, word_step, words_step, bind_found, if_found, end_step, word_then, words_then, word_back, words_back, not_first, same_word}
+use Rattle.sect_wire.proofs.Steps.{Exact, Quiet, word_found, word_step, words_step, bind_found, if_found, end_step, word_then, words_then, word_back, words_back, same_word}
 use Rattle.sect_wire.proofs.WordLaws.{exact_u64}
 use Rattle.sect_wire.proofs.ValueLaws.{exact_student, exact_reservation, exact_restriction, exact_optional_day, exact_limit, exact_section, exact_course, exact_students}
 use Rattle.sect_wire.proofs.RowLaws.{takes_offering, offering_args, takes_student, student_args, takes_asks, stop_asks, takes_gives}
-use Rattle.sect_wire.proofs.ArgumentLaws.{takes_reserve, reserve_args, takes_restrict, restrict_args, takes_cap, stated_found, stated_again, stated_stop, StopWant, IsWant, want_found, want_again, takes_found, takes_again, takes_stop, takes_optional_give}
+use Rattle.sect_wire.proofs.ArgumentLaws.{takes_reserve, reserve_args, takes_restrict, restrict_args, takes_cap, stated_found, stated_again, stated_stop, want_found, want_again, takes_found, takes_again, takes_stop, takes_optional_give}
 
 -- what was read behind a verb is spelled so
 abbrev Spells : Bool → Verb → List (List ℕ) → Command → List (List ℕ) → Type 0

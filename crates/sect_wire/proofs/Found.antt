@@ -1,5 +1,5 @@
 -- What a reader that is exact says of a text.
-use Rattle.std.proofs.Common.{◌≡◌, ℕ, List, Option, None, Some, refl, ap, sym, ◌∙◌, subst}
+use Rattle.std.proofs.Common.{◌≡◌, ℕ, List, Option, None, Some, ap, sym, ◌∙◌, subst}
 use Rattle.std.specs.Prelude.{Result, Ok, Err, IfOk, IfSome}
 use Rattle.sect_base.specs.declared.duplicate.Memory.{Memory}
 use Rattle.sect_wire.specs.declared.line.LineAsk.{LineAsk}

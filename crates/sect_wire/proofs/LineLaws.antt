@@ -1,6 +1,6 @@
 -- Lines and entry rows are read exactly.
-use Rattle.std.proofs.Common.{◌≡◌, ℕ, ◌==◌, ◌+◌, ◌/◌, ◌<◌, ◌≤◌, ◌^◌, Bool, true, false, List, [], ◌∷◌, ◌++◌, length, Option, None, Some, refl, ap, sym, ◌∙◌, subst, append_assoc, append-nil, arith, decimal, lit≤, lit<}
-use Rattle.std.specs.Prelude.{codes, flat_map, if◌then◌else◌, Result, Ok, Err}
+use Rattle.std.proofs.Common.{◌≡◌, ℕ, ◌==◌, ◌+◌, ◌/◌, Bool, true, false, List, [], ◌∷◌, ◌++◌, Option, None, Some, refl, ap, sym, ◌∙◌, subst, append_assoc, append-nil, decimal}
+use Rattle.std.specs.Prelude.{codes, flat_map, Result, Ok, Err}
 use Rattle.std.proofs.lemmas.Option.{cond_some}
 use Rattle.std.proofs.lemmas.Bool.{eqb-true, and_right}
 use Rattle.sect_base.specs.declared.limit.Caller.{Caller}
@@ -11,24 +11,24 @@ use Rattle.sect_command.specs.declared.command.Command.TheVariants as commands
 use Rattle.sect_command.specs.declared.reply.Reply.{Reply}
 use Rattle.sect_base.specs.declared.choice.Want.{Want}
 use Rattle.sect_once.specs.declared.entry.Entry.{Entry}
-use Rattle.sect_text.specs.Parts.{pieces, joined}
+use Rattle.sect_text.specs.Parts.{pieces}
 use Rattle.sect_text.specs.Days.{day_text}
 use Rattle.sect_text.specs.Words.{caller_text}
 use Rattle.sect_text.specs.Commands.{mark_words, command_words, want_words, give_words, take_words, optional_give_words, budget_words, class_words}
 use Rattle.sect_text.specs.Replies.{reply_words}
-use Rattle.sect_text.specs.Rows.{is_marked, id_words, row_front, row_rest, row_words, row_text}
+use Rattle.sect_text.specs.Rows.{is_marked, id_words, row_front, row_rest, row_words}
 use Rattle.sect_wire.specs.declared.line.LineAsk.{LineAsk}
 use Rattle.sect_wire.specs.declared.verb.Verb.{Verb}
 use Rattle.sect_wire.specs.declared.fault.WireFault.{WireFault}
 use Rattle.sect_wire.specs.declared.fault.WireFault.TheVariants as wire
-use Rattle.sect_wire.specs.Fits.{FitsDay, FitsOptional, FitsId, FitsCommand, FitsReply, FitsEntry, FitsList, FitsWant}
+use Rattle.sect_wire.specs.Fits.{FitsDay, FitsOptional, FitsId, FitsCommand, FitsEntry, FitsList, FitsWant}
 use Rattle.sect_wire.specs.Lines.{May, IsTake, AreEach, IsCommand, IsLine, HasUnknownVerb, day_words}
 use Rattle.sect_wire.specs.Reading.{◌>>=◌, word_at, key_at, mark_at, with_rest, later_parts, whole, begins}
-use Rattle.sect_wire.specs.ReadingWords.{day_of, caller_of}
+use Rattle.sect_wire.specs.ReadingWords.{day_of}
 use Rattle.sect_wire.specs.ReadingCommands.{verb_text, verb_of, arguments_at, command_at}
 use Rattle.sect_wire.specs.ReadingReplies.{reply_at}
-use Rattle.sect_wire.specs.ReadingLines.{at_of, day_behind, line_day_at, id_at, front_at, asked, asked_by, asked_behind, line_at, line_of, agrees, entry_if, row_at, row_of}
-use Rattle.sect_wire.proofs.Steps.{Exact, Takes, Any, Quiet, quiet_end, quiet_equals, word_step, words_step, key_step, bind_found, if_found, end_step, word_then, words_then, word_back, words_back, whole_found, rest_found, mark_found, mark_again}
+use Rattle.sect_wire.specs.ReadingLines.{at_of, day_behind, line_day_at, id_at, front_at, asked, asked_by, asked_behind, line_at, line_of, agrees, entry_if, row_at}
+use Rattle.sect_wire.proofs.Steps.{Takes, Any, quiet_end, quiet_equals, word_step, words_step, key_step, bind_found, if_found, end_step, word_then, words_then, word_back, words_back, whole_found, rest_found, mark_found, mark_again}
 use Rattle.sect_wire.proofs.WordLaws.{exact_u64}
 use Rattle.sect_wire.proofs.ValueLaws.{exact_day, exact_caller}
 use Rattle.sect_wire.proofs.CommandLaws.{regroup, arguments_found, command_back, verb_found, verb_again, command_found, command_again}

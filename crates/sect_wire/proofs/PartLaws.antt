@@ -1,17 +1,15 @@
 -- Words that have parts of their own are read exactly.
-use Rattle.std.proofs.Common.{◌≡◌, ℕ, ◌==◌, ◌<◌, ◌≤◌, ◌^◌, Bool, true, false, List, [], ◌∷◌, ◌++◌, map, length, append-nil, Option, None, Some, refl, ap, sym, ◌∙◌, subst, arith, decimal, lit<, ◌⊎◌, inl, inr}
+use Rattle.std.proofs.Common.{◌≡◌, ℕ, ◌==◌, false, List, [], ◌∷◌, ◌++◌, map, append-nil, Option, None, Some, refl, ap, sym, ◌∙◌, arith, decimal, lit<, inl, inr}
 use Rattle.std.specs.Prelude.{codes}
-use Rattle.std.specs.List.{AllByRecursion}
-use Rattle.sect_base.specs.declared.ids.AreaId.{AreaId}
 use Rattle.sect_base.specs.declared.choice.Choice.{Choice}
 use Rattle.sect_base.specs.declared.choice.Curriculum.{Curriculum}
 use Rattle.sect_reserve.specs.declared.row.Audience.{Audience}
 use Rattle.sect_reserve.specs.declared.row.Audience.TheVariants as audiences
 use Rattle.sect_text.specs.Parts.{joined, pieces}
-use Rattle.sect_text.specs.Words.{dash, list_text, optional_text, major_text, class_text, student_text, reservation_text, section_text, sections_text, curriculum_text, audience_parts, audience_text, choice_text}
+use Rattle.sect_text.specs.Words.{list_text, optional_text, major_text, class_text, student_text, reservation_text, section_text, sections_text, curriculum_text, audience_parts, audience_text, choice_text}
 use Rattle.sect_wire.specs.declared.request.Request.{Request}
-use Rattle.sect_wire.specs.Fits.{Fits8, Fits32, FitsList, FitsOptional, FitsCurriculum, FitsAudience, FitsChoice, FitsSections, FitsReservation}
-use Rattle.sect_wire.specs.Reading.{◌>>=◌, whole, begins, later_parts}
+use Rattle.sect_wire.specs.Fits.{Fits8, Fits32, FitsList, FitsOptional, FitsCurriculum, FitsAudience, FitsChoice}
+use Rattle.sect_wire.specs.Reading.{whole, later_parts}
 use Rattle.sect_wire.specs.ReadingWords.{curriculum_at, curriculum_of, students_at, group_audience_at, study_at, course_audience_at, audience_at, audience_of, choice_at, choice_of}
 use Rattle.sect_wire.specs.ReadingReplies.{request_at, request_of}
 use Rattle.sect_wire.proofs.Steps.{Exact, Takes, Any, whole_found, word_step, begins_step, end_step, word_then, word_back}

@@ -1,10 +1,10 @@
 -- Parts that were joined come apart again, and parts that came apart join again.
-use Rattle.std.proofs.Common.{◌≡◌, ℕ, ◌==◌, Bool, true, false, List, [], ◌∷◌, ◌++◌, refl, ap, sym, ◌∙◌, append-nil, arith, length}
-use Rattle.std.specs.List.{slice_split, join_with_byte, AllByRecursion}
+use Rattle.std.proofs.Common.{◌≡◌, ℕ, ◌==◌, false, List, [], ◌∷◌, ◌++◌, refl, ap, ◌∙◌, append-nil, arith, length}
+use Rattle.std.specs.List.{join_with_byte, AllByRecursion}
 use Rattle.std.proofs.lemmas.List.Splits.{slice_split_at, slice_split_none, length-slice_split, join_with_byte-slice_split}
 use Rattle.std.proofs.lemmas.List.Elements.{All-from_recursion}
 use Rattle.std.proofs.lemmas.Bool.{eq-eqb}
-use Rattle.sect_text.specs.Parts.{behind, joined, pieces}
+use Rattle.sect_text.specs.Parts.{joined, pieces}
 
 -- the mark isn't in the text
 abbrev pub Lacks : ℕ → List ℕ → Type 0

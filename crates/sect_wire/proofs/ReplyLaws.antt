@@ -1,9 +1,7 @@
 -- Replies are read exactly.
-use Rattle.std.proofs.Common.{◌≡◌, ℕ, ◌+◌, ◌<◌, ◌≤◌, Bool, true, false, List, [], ◌∷◌, ◌++◌, length, Option, None, Some, refl, ap, sym, ◌∙◌, subst, append_assoc, append-nil, arith, decimal}
-use Rattle.std.specs.Prelude.{codes, flat_map, if◌then◌else◌, not}
+use Rattle.std.proofs.Common.{◌≡◌, ℕ, false, List, [], ◌∷◌, ◌++◌, Option, None, Some, refl, ap, ◌∙◌, arith, decimal}
+use Rattle.std.specs.Prelude.{codes, flat_map, if◌then◌else◌}
 use Rattle.std.specs.Str.{bytes_eq}
-use Rattle.std.specs.List.{AllByRecursion}
-use Rattle.sect_base.specs.declared.choice.Choice.{Choice}
 use Rattle.sect_base.specs.Tree.{Tree}
 use Rattle.sect_catalog.specs.declared.row.CatalogFault.{CatalogFault}
 use Rattle.sect_catalog.specs.declared.row.CatalogFault.TheVariants as catalog
@@ -21,18 +19,17 @@ use Rattle.sect_command.specs.declared.reply.Refusal.{Refusal}
 use Rattle.sect_command.specs.declared.reply.Refusal.TheVariants as refusals
 use Rattle.sect_command.specs.declared.reply.RowFault.{RowFault}
 use Rattle.sect_command.specs.declared.reply.RowFault.TheVariants as faults
-use Rattle.sect_text.specs.Words.{choice_text}
 use Rattle.sect_text.specs.Replies.{catalog_fault_words, request_fault_words, reserve_fault_words, row_fault_words, refusal_words, result_words, line_words, choice_words, reply_words}
 use Rattle.sect_wire.specs.declared.request.Request.{Request}
-use Rattle.sect_wire.specs.Fits.{Fits32, Fits64, FitsCatalogFault, FitsRequestFault, FitsReserveFault, FitsRowFault, FitsRefusal, FitsResult, FitsLine, FitsReply, FitsChoice, FitsList, FitsTree}
-use Rattle.sect_wire.specs.Reading.{◌>>=◌, word_at, each_at, begins, later_parts, with_rest}
+use Rattle.sect_wire.specs.Fits.{Fits32, FitsCatalogFault, FitsRequestFault, FitsReserveFault, FitsRowFault, FitsRefusal, FitsResult, FitsLine, FitsReply, FitsChoice, FitsList, FitsTree}
+use Rattle.sect_wire.specs.Reading.{◌>>=◌, word_at, each_at, later_parts, with_rest}
 use Rattle.sect_wire.specs.ReadingWords.{choice_of}
 use Rattle.sect_wire.specs.ReadingReplies.{made_at, any_word, catalog_fault_named, request_fault_named, reserve_fault_named, offering_fault_at, asked_fault_at, reserved_fault_at, row_fault_at, row_refusal_at, refusal_named, refusal_at, blocked_at, blocked_result_at, result_named, result_at, any_starts, line_at, swapped_at, placed_at, batched_at, blocked_reply_at, refused_at, reply_named, reply_at}
-use Rattle.sect_wire.proofs.Steps.{Exact, Takes, Any, word_step, words_step, begins_step, bind_found, if_found, end_step, word_then, words_then, word_back, words_back, word_found, same_word}
+use Rattle.sect_wire.proofs.Steps.{Exact, Takes, Any, word_step, words_step, begins_step, bind_found, if_found, end_step, word_then, word_back, words_back, word_found, same_word}
 use Rattle.sect_wire.proofs.Rows.{StopEach, takes_each}
 use Rattle.sect_wire.proofs.WordLaws.{exact_u32, exact_u64}
 use Rattle.sect_wire.proofs.ValueLaws.{exact_course, exact_tree}
-use Rattle.sect_wire.proofs.PartLaws.{exact_choice, exact_request, request_text}
+use Rattle.sect_wire.proofs.PartLaws.{exact_choice, exact_request}
 
 -- a word as it is
 exact_any : Exact any_word (λ word. word) (λ word. Unit {0})

@@ -1,5 +1,5 @@
 -- Rows that commands carry are read exactly.
-use Rattle.std.proofs.Common.{◌≡◌, ℕ, ◌+◌, ◌<◌, ◌≤◌, Bool, true, false, List, [], ◌∷◌, ◌++◌, length, Option, None, Some, refl, ap, sym, ◌∙◌, subst, append_assoc, append-nil, arith, decimal, lit≤, lit<}
+use Rattle.std.proofs.Common.{◌≡◌, ℕ, ◌<◌, Bool, true, false, List, ◌∷◌, ◌++◌, length, Some, refl, ap, sym, ◌∙◌, append_assoc, arith, decimal, lit≤, lit<}
 use Rattle.std.specs.Prelude.{codes, flat_map, ◌||◌}
 use Rattle.sect_base.specs.declared.ids.CourseId.{CourseId}
 use Rattle.sect_base.specs.declared.ids.ConfigId.{ConfigId}
@@ -18,11 +18,11 @@ use Rattle.sect_people.specs.declared.row.Ask.TheVariants as asks
 use Rattle.sect_time.specs.Pattern.{Pattern}
 use Rattle.sect_time.specs.MeetingText.{meeting_text}
 use Rattle.sect_text.specs.Words.{list_text, course_text}
-use Rattle.sect_text.specs.Commands.{section_words, subpart_words, config_words, course_words, group_words, curriculum_words, mark_words, course_ask_words, ask_words, config_id_words, section_id_words, give_words}
+use Rattle.sect_text.specs.Commands.{section_words, subpart_words, config_words, course_words, group_words, curriculum_words, mark_words, ask_words, config_id_words, section_id_words, give_words}
 use Rattle.sect_wire.specs.Fits.{FitsSectionRow, FitsSubpartRow, FitsConfigRow, FitsCourseRow, FitsOfferingRow, FitsStudentRow, FitsAsk, FitsList, FitsGroup, FitsCurriculum, FitsConfig, FitsSection, FitsCourse}
-use Rattle.sect_wire.specs.Reading.{◌>>=◌, each_at, begins, later_parts, mark_at, with_rest}
+use Rattle.sect_wire.specs.Reading.{each_at, begins, later_parts, mark_at, with_rest}
 use Rattle.sect_wire.specs.ReadingRows.{section_starts, section_row_at, subpart_starts, subpart_at, config_starts, config_row_at, course_starts, course_row_at, offering_at, group_starts, group_at, curriculum_starts, curriculum_word_at, student_row_at, course_ask_at, free_ask_at, ask_starts, ask_at, config_id_at, section_id_at, give_starts, give_at}
-use Rattle.sect_wire.proofs.Steps.{Takes, Any, Quiet, key_step, word_step, words_step, begins_step, end_step, word_then, words_then, word_back, words_back, mark_found, mark_again, not_first, not_mark, word_found, key_found, bind_found}
+use Rattle.sect_wire.proofs.Steps.{Takes, Any, Quiet, key_step, word_step, words_step, begins_step, end_step, word_then, words_then, word_back, words_back, mark_found, mark_again, not_first, not_mark, word_found}
 use Rattle.sect_wire.proofs.Rows.{StopEach, takes_each}
 use Rattle.sect_wire.proofs.WordLaws.{exact_u16, exact_between}
 use Rattle.sect_wire.proofs.ValueLaws.{exact_section, exact_subpart, exact_config, exact_course, exact_group, exact_student, exact_offering, exact_limit, exact_optional_section, exact_meetings, exact_meeting, exact_courses}

@@ -1,5 +1,5 @@
 -- The steps of reading a row, one after another.
-use Rattle.std.proofs.Common.{◌≡◌, ℕ, Bool, true, false, List, [], ◌∷◌, Option, None, Some, refl, ap, sym, ◌∙◌}
+use Rattle.std.proofs.Common.{◌≡◌, ℕ, Bool, true, false, List, Option, Some, refl, ap, sym, ◌∙◌}
 use Rattle.std.specs.Prelude.{codes}
 use Rattle.sect_base.specs.declared.limit.Id.{Id}
 use Rattle.sect_command.specs.declared.command.Command.{Command}

@@ -2,7 +2,7 @@
 use Rattle.std.proofs.Common.{◌≡◌, ℕ, zero, suc, ◌+◌, ◌<◌, Bool, true, false, List, [], ◌∷◌, ◌++◌, length, length-append, Option, None, Some, refl, ap, sym, ◌∙◌, subst, append_assoc, arith}
 use Rattle.std.specs.Prelude.{if◌then◌else◌, flat_map}
 use Rattle.std.specs.List.{AllByRecursion}
-use Rattle.sect_wire.specs.Reading.{◌>>=◌, some_of, each_at, in_front, begins}
+use Rattle.sect_wire.specs.Reading.{◌>>=◌, some_of, each_at, in_front}
 use Rattle.sect_wire.specs.Lines.{AreEach}
 use Rattle.sect_wire.proofs.Steps.{bind_found, if_found, end_step, Takes, Spelled}
 

@@ -1,12 +1,11 @@
 -- No word of a command, a reply or a row has a space, so the words of their texts are these words.
-use Rattle.std.proofs.Common.{◌≡◌, ℕ, suc, zero, ◌==◌, ◌+◌, ◌<◌, ◌≤◌, ◌^◌, Bool, true, false, List, [], ◌∷◌, ◌++◌, map, Option, None, Some, refl, ap, sym, ◌∙◌, arith, decimal, lit<, lit≤, inl, inr, ◌⊎◌}
+use Rattle.std.proofs.Common.{◌≡◌, ℕ, suc, zero, ◌==◌, Bool, true, false, List, [], ◌∷◌, ◌++◌, map, Option, None, Some, refl, arith, decimal, lit<, lit≤, inl}
 use Rattle.std.specs.Prelude.{codes, flat_map, ◌&&◌, not, if◌then◌else◌}
 use Rattle.std.specs.List.{AllByRecursion}
 use Rattle.std.proofs.lemmas.Bool.{and_parts, not-true}
 use Rattle.sect_base.specs.declared.ids.CourseId.{CourseId}
 use Rattle.sect_base.specs.declared.ids.ConfigId.{ConfigId}
 use Rattle.sect_base.specs.declared.ids.SectionId.{SectionId}
-use Rattle.sect_base.specs.declared.ids.GroupId.{GroupId}
 use Rattle.sect_base.specs.declared.choice.Choice.{Choice}
 use Rattle.sect_base.specs.declared.choice.Curriculum.{Curriculum}
 use Rattle.sect_base.specs.declared.choice.Want.{Want}
@@ -20,7 +19,7 @@ use Rattle.sect_base.specs.declared.limit.Id.{Id}
 use Rattle.sect_base.specs.declared.rule.Rule.{Rule}
 use Rattle.sect_base.specs.declared.rule.Rule.TheVariants as rules
 use Rattle.sect_base.specs.Tree.{Tree, Trees, broken, split, none, more, rule_number}
-use Rattle.sect_time.specs.Pattern.{Pattern, IsPattern}
+use Rattle.sect_time.specs.Pattern.{Pattern}
 use Rattle.sect_time.specs.MeetingText.{meeting_text}
 use Rattle.sect_catalog.specs.declared.row.OfferingRow.{OfferingRow}
 use Rattle.sect_catalog.specs.declared.row.CourseRow.{CourseRow}
@@ -30,7 +29,6 @@ use Rattle.sect_catalog.specs.declared.row.SectionRow.{SectionRow}
 use Rattle.sect_catalog.specs.declared.row.CatalogFault.{CatalogFault}
 use Rattle.sect_catalog.specs.declared.row.CatalogFault.TheVariants as catalog
 use Rattle.sect_people.specs.declared.row.StudentRow.{StudentRow}
-use Rattle.sect_people.specs.declared.row.CourseAsk.{CourseAsk}
 use Rattle.sect_people.specs.declared.row.Ask.{Ask}
 use Rattle.sect_people.specs.declared.row.Ask.TheVariants as asks
 use Rattle.sect_people.specs.declared.row.RequestFault.{RequestFault}
@@ -39,7 +37,7 @@ use Rattle.sect_reserve.specs.declared.row.Audience.{Audience}
 use Rattle.sect_reserve.specs.declared.row.Audience.TheVariants as audiences
 use Rattle.sect_reserve.specs.declared.row.ReserveFault.{ReserveFault}
 use Rattle.sect_reserve.specs.declared.row.ReserveFault.TheVariants as reserve
-use Rattle.sect_command.specs.TreeText.{tree_text, inside_text, others_text, HasText, HaveTexts}
+use Rattle.sect_command.specs.TreeText.{tree_text, others_text, HasText, HaveTexts}
 use Rattle.sect_command.specs.declared.command.ReserveRow.{ReserveRow}
 use Rattle.sect_command.specs.declared.command.RestrictRow.{RestrictRow}
 use Rattle.sect_command.specs.declared.command.Command.{Command}
@@ -54,13 +52,12 @@ use Rattle.sect_command.specs.declared.reply.Refusal.TheVariants as refusals
 use Rattle.sect_command.specs.declared.reply.RowFault.{RowFault}
 use Rattle.sect_command.specs.declared.reply.RowFault.TheVariants as faults
 use Rattle.sect_once.specs.declared.entry.Entry.{Entry}
-use Rattle.sect_text.specs.Parts.{joined, pieces}
 use Rattle.sect_text.specs.Days.{day_text}
 use Rattle.sect_text.specs.Words.{list_text, optional_text, limit_text, course_text, section_text, reservation_text, student_text, class_text, major_text, caller_text, curriculum_text, audience_parts, audience_text, sections_text, choice_text}
-use Rattle.sect_text.specs.Commands.{section_words, subpart_words, config_words, course_words, offering_words, group_words, curriculum_words, student_words, mark_words, course_ask_words, ask_words, config_id_words, section_id_words, from_words, reserve_words, restrict_words, cap_words, stated_words, only_words, printed_want, give_words, optional_give_words, take_words, budget_words, class_words, command_words}
+use Rattle.sect_text.specs.Commands.{section_words, subpart_words, config_words, course_words, offering_words, group_words, curriculum_words, student_words, mark_words, ask_words, config_id_words, section_id_words, from_words, reserve_words, restrict_words, cap_words, stated_words, only_words, printed_want, give_words, optional_give_words, take_words, budget_words, class_words, command_words}
 use Rattle.sect_text.specs.Replies.{catalog_fault_words, request_fault_words, reserve_fault_words, row_fault_words, refusal_words, result_words, line_words, choice_words, reply_words}
 use Rattle.sect_text.specs.Rows.{row_front, id_words, row_words, is_marked}
-use Rattle.sect_wire.specs.Fits.{Fits8, Fits16, Fits32, Fits64, FitsDay, FitsList, FitsOptional, FitsLimit, FitsCaller, FitsCurriculum, FitsAudience, FitsSections, FitsChoice, FitsTree, FitsSectionRow, FitsSubpartRow, FitsConfigRow, FitsCourseRow, FitsOfferingRow, FitsStudentRow, FitsCourseAsk, FitsAsk, FitsReserveRow, FitsRestrictRow, FitsCap, FitsStated, FitsWant, FitsCommand, FitsCatalogFault, FitsRequestFault, FitsReserveFault, FitsRowFault, FitsRefusal, FitsResult, FitsLine, FitsReply, FitsEntry, FitsId, FitsCourse, FitsConfig, FitsSection, FitsGroup}
+use Rattle.sect_wire.specs.Fits.{Fits32, Fits64, FitsDay, FitsList, FitsOptional, FitsLimit, FitsCaller, FitsCurriculum, FitsAudience, FitsChoice, FitsSectionRow, FitsSubpartRow, FitsConfigRow, FitsCourseRow, FitsOfferingRow, FitsStudentRow, FitsAsk, FitsReserveRow, FitsRestrictRow, FitsCap, FitsStated, FitsWant, FitsCommand, FitsCatalogFault, FitsRequestFault, FitsReserveFault, FitsRowFault, FitsRefusal, FitsResult, FitsLine, FitsReply, FitsEntry, FitsId, FitsCourse, FitsConfig, FitsSection}
 use Rattle.sect_wire.specs.Lines.{day_words}
 use Rattle.sect_wire.proofs.Pieces.{Lacks, pieces_joined}
 use Rattle.sect_wire.proofs.Bytes.{lacks_decimal, lacks_low, meeting_all, day_all, all_append, all_joined, each_text}

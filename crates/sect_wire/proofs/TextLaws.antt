@@ -1,10 +1,8 @@
 -- Replies, rows and lines: each text has at most one value, and each printed value is read again.
-use Rattle.std.proofs.Common.{◌≡◌, ℕ, true, false, List, [], ◌++◌, Option, Some, None, refl, ap, sym, ◌∙◌, append-nil}
-use Rattle.std.specs.Prelude.{Result, Ok, Err}
+use Rattle.std.proofs.Common.{◌≡◌, ℕ, true, false, List, [], Option, Some, refl, ap, sym, ◌∙◌, append-nil}
+use Rattle.std.specs.Prelude.{Result, Ok}
 use Rattle.sect_command.specs.declared.command.Command.{Command}
-use Rattle.sect_command.specs.declared.reply.Reply.{Reply}
-use Rattle.sect_once.specs.declared.entry.Entry.{Entry}
-use Rattle.sect_text.specs.Parts.{pieces, joined}
+use Rattle.sect_text.specs.Parts.{pieces}
 use Rattle.sect_text.specs.Commands.{command_words, command_text}
 use Rattle.sect_text.specs.Replies.{reply_text}
 use Rattle.sect_text.specs.Rows.{row_text}
@@ -12,7 +10,7 @@ use Rattle.sect_wire.specs.Fits.{FitsCommand, FitsReply, FitsEntry}
 use Rattle.sect_wire.specs.Reading.{whole}
 use Rattle.sect_wire.specs.ReadingCommands.{command_at}
 use Rattle.sect_wire.specs.ReadingReplies.{reply_of}
-use Rattle.sect_wire.specs.ReadingLines.{row_of, line_of}
+use Rattle.sect_wire.specs.ReadingLines.{row_of}
 use Rattle.sect_wire.specs.Laws.{PrintedIsLine, OneRequest, OneReply, OneCommand, OneRow, OneEntry}
 use Rattle.sect_wire.specs.declared.line.LineAsk.{LineAsk}
 use Rattle.sect_wire.specs.declared.fault.WireFault.{WireFault}

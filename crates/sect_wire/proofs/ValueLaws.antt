@@ -1,23 +1,12 @@
 -- Ids, days, meetings and the other words are read exactly.
-use Rattle.std.proofs.Common.{◌≡◌, ℕ, zero, suc, ◌==◌, ◌+◌, ◌-◌, ◌<◌, ◌≤◌, ◌^◌, Bool, true, false, List, [], ◌∷◌, ◌++◌, map, length, append-nil, Option, None, Some, refl, ap, sym, ◌∙◌, subst, arith, decimal, nat_lt, nat_le, lit<, ◌⊎◌, inl, inr}
+use Rattle.std.proofs.Common.{◌≡◌, ℕ, zero, suc, ◌==◌, ◌+◌, ◌<◌, ◌≤◌, ◌^◌, true, false, List, [], ◌∷◌, map, length, append-nil, Option, None, Some, refl, ap, sym, ◌∙◌, subst, arith, decimal, nat_lt, nat_le, lit<, inl}
 use Rattle.std.specs.Prelude.{if◌then◌else◌, ◌&&◌}
 use Rattle.std.specs.Str.{bytes_eq}
 use Rattle.std.specs.Option.{option_map}
 use Rattle.std.specs.List.{AllByRecursion}
 use Rattle.std.proofs.lemmas.Option.{cond_some}
 use Rattle.std.proofs.lemmas.Bool.{leb-true, le-leb, and_parts, and_from, ltb-true, lt-ltb, eqb-true}
-use Rattle.sect_base.specs.declared.ids.CourseId.{CourseId}
-use Rattle.sect_base.specs.declared.ids.ConfigId.{ConfigId}
-use Rattle.sect_base.specs.declared.ids.SubpartId.{SubpartId}
 use Rattle.sect_base.specs.declared.ids.SectionId.{SectionId}
-use Rattle.sect_base.specs.declared.ids.OfferingId.{OfferingId}
-use Rattle.sect_base.specs.declared.ids.ReservationId.{ReservationId}
-use Rattle.sect_base.specs.declared.ids.RestrictionId.{RestrictionId}
-use Rattle.sect_base.specs.declared.ids.StudentId.{StudentId}
-use Rattle.sect_base.specs.declared.ids.GroupId.{GroupId}
-use Rattle.sect_base.specs.declared.ids.AreaId.{AreaId}
-use Rattle.sect_base.specs.declared.ids.ClassId.{ClassId}
-use Rattle.sect_base.specs.declared.ids.MajorId.{MajorId}
 use Rattle.sect_base.specs.declared.limit.Limit.{Limit}
 use Rattle.sect_base.specs.declared.limit.Limit.TheVariants.{Unlimited, Places}
 use Rattle.sect_base.specs.declared.limit.Caller.{Caller}
@@ -25,20 +14,19 @@ use Rattle.sect_base.specs.declared.limit.Caller.TheVariants as callers
 use Rattle.sect_base.specs.Tree.{Tree}
 use Rattle.sect_time.specs.Pattern.{Pattern, IsPattern}
 use Rattle.sect_time.specs.MeetingText.{meeting_text}
-use Rattle.sect_time.specs.Day.{LAST_DAY}
 use Rattle.sect_time.proofs.MeetingTexts.{says_days, says_time, says_weeks, read_is}
 use Rattle.sect_time.specs.DayText.{IsDayText}
 use Rattle.sect_time.proofs.DayTexts.{one_day}
 use Rattle.sect_command.specs.Reading.{tree_in}
-use Rattle.sect_command.specs.TreeText.{tree_text, HasText}
+use Rattle.sect_command.specs.TreeText.{tree_text}
 use Rattle.sect_command.proofs.TreeLaws.{found_whole, again_tree}
 use Rattle.sect_text.specs.Days.{found_below, day_text}
 use Rattle.sect_text.specs.Parts.{joined, pieces}
 use Rattle.sect_text.specs.Words.{dash, list_text, optional_text, limit_text, caller_text, sections_text, section_text, course_text, reservation_text, student_text, class_text, major_text}
 use Rattle.sect_text.proofs.DayLaws.{found_at, some_found}
 use Rattle.sect_wire.proofs.Dates.{has_day}
-use Rattle.sect_wire.specs.Fits.{Fits8, Fits16, Fits32, Fits64, FitsDay, FitsList, FitsOptional, FitsLimit, FitsCaller, FitsSections, FitsTree, FitsCourse, FitsConfig, FitsSubpart, FitsSection, FitsOffering, FitsReservation, FitsRestriction, FitsStudent, FitsGroup, FitsArea, FitsClass, FitsMajor}
-use Rattle.sect_wire.specs.Reading.{◌>>=◌, all_of, number_with}
+use Rattle.sect_wire.specs.Fits.{Fits32, FitsDay, FitsList, FitsOptional, FitsLimit, FitsCaller, FitsSections, FitsTree, FitsCourse, FitsConfig, FitsSubpart, FitsSection, FitsOffering, FitsReservation, FitsRestriction, FitsStudent, FitsGroup, FitsArea, FitsClass, FitsMajor}
+use Rattle.sect_wire.specs.Reading.{◌>>=◌}
 use Rattle.sect_wire.specs.ReadingWords.{
   u32_of,
   day_of,
@@ -84,7 +72,7 @@ use Rattle.sect_wire.specs.ReadingWords.{
 use Rattle.sect_wire.proofs.Steps.{Exact, bind_found, if_found, same_word, word_same}
 use Rattle.sect_wire.proofs.Numbers.{Apart, exact_number, exact_map}
 use Rattle.sect_wire.proofs.Pieces.{Lacks, joined_pieces, pieces_joined, some_pieces}
-use Rattle.sect_wire.proofs.Bytes.{NoDash, lacks_decimal, lacks_low, no_dash_decimal, no_dash_meeting, no_dash_date, meeting_all, day_all, each_text}
+use Rattle.sect_wire.proofs.Bytes.{NoDash, lacks_decimal, lacks_low, no_dash_decimal, no_dash_meeting, no_dash_date, meeting_all, each_text}
 use Rattle.sect_wire.proofs.WordLaws.{exact_u32, small32, exact_list, exact_optional}
 
 pub exact_course : Exact course_of (λ id. decimal id.0) FitsCourse

@@ -1,72 +1,21 @@
 -- Words that stand for one value are read exactly.
-use Rattle.std.proofs.Common.{◌≡◌, ℕ, zero, suc, ◌==◌, ◌+◌, ◌-◌, ◌<◌, ◌≤◌, ◌^◌, Bool, true, false, List, [], ◌∷◌, ◌++◌, map, length, Option, None, Some, refl, ap, sym, ◌∙◌, subst, arith, decimal, nat_lt, nat_le, lit<, ◌⊎◌, inl, inr}
-use Rattle.std.specs.Prelude.{if◌then◌else◌, ◌&&◌}
+use Rattle.std.proofs.Common.{◌≡◌, ℕ, ◌==◌, ◌+◌, ◌<◌, ◌≤◌, ◌^◌, false, List, [], ◌∷◌, map, Option, None, Some, refl, ap, sym, ◌∙◌, subst, arith, decimal, nat_le, lit<}
+use Rattle.std.specs.Prelude.{if◌then◌else◌}
 use Rattle.std.specs.Str.{bytes_eq}
 use Rattle.std.specs.Option.{option_map}
 use Rattle.std.specs.List.{AllByRecursion}
 use Rattle.std.proofs.lemmas.Fmt.{decimal_injective}
 use Rattle.std.proofs.lemmas.Option.{cond_some}
-use Rattle.std.proofs.lemmas.Bool.{leb-true, le-leb, and_parts, and_from, ltb-true, lt-ltb, eqb-true, eq-eqb}
-use Rattle.sect_base.specs.declared.limit.Limit.{Limit}
-use Rattle.sect_base.specs.declared.limit.Limit.TheVariants.{Unlimited, Places}
-use Rattle.sect_base.specs.declared.limit.Caller.{Caller}
-use Rattle.sect_base.specs.declared.limit.Caller.TheVariants as callers
-use Rattle.sect_base.specs.declared.ids.CourseId.{CourseId}
-use Rattle.sect_base.specs.declared.ids.SectionId.{SectionId}
-use Rattle.sect_base.specs.Tree.{Tree}
-use Rattle.sect_time.specs.Pattern.{Pattern, IsPattern}
-use Rattle.sect_time.specs.MeetingText.{meeting_text}
-use Rattle.sect_time.specs.Day.{LAST_DAY}
-use Rattle.sect_command.specs.Reading.{tree_in}
-use Rattle.sect_command.specs.TreeText.{tree_text, HasText}
-use Rattle.sect_text.specs.Days.{found_below, day_text}
+use Rattle.std.proofs.lemmas.Bool.{leb-true, le-leb}
 use Rattle.sect_text.specs.Parts.{joined, pieces}
-use Rattle.sect_text.specs.Words.{dash, list_text, optional_text, limit_text, caller_text, sections_text, section_text}
-use Rattle.sect_text.proofs.DayLaws.{found_at, some_found, says_day}
-use Rattle.sect_wire.specs.Fits.{
-  Fits8,
-  Fits16,
-  Fits32,
-  Fits64,
-  FitsDay,
-  FitsList,
-  FitsOptional,
-  FitsLimit,
-  FitsCaller,
-  FitsSections,
-  FitsTree,
-  FitsSection,
-}
-use Rattle.sect_wire.specs.Reading.{◌>>=◌, all_of, number_with}
-use Rattle.sect_wire.specs.ReadingWords.{
-  number_of,
-  between_of,
-  u8_of,
-  u16_of,
-  u32_of,
-  u64_of,
-  day_of,
-  pattern_with,
-  is_text_of,
-  pattern_if,
-  meeting_of,
-  list_of,
-  optional_of,
-  limit_of,
-  caller_of,
-  few_sections,
-  sections_of,
-  tree_of_word,
-  whole_tree,
-  registrar,
-  student_caller,
-  section_of,
-  section_id,
-}
-use Rattle.sect_wire.proofs.Steps.{Exact, bind_found, if_found, same_word, word_same}
-use Rattle.sect_wire.proofs.Numbers.{Apart, exact_number, exact_map}
+use Rattle.sect_text.specs.Words.{dash, list_text, optional_text}
+use Rattle.sect_wire.specs.Fits.{Fits8, Fits16, Fits32, Fits64, FitsList, FitsOptional}
+use Rattle.sect_wire.specs.Reading.{◌>>=◌, all_of}
+use Rattle.sect_wire.specs.ReadingWords.{number_of, between_of, u8_of, u16_of, u32_of, u64_of, list_of, optional_of}
+use Rattle.sect_wire.proofs.Steps.{Exact, bind_found, if_found, same_word}
+use Rattle.sect_wire.proofs.Numbers.{Apart, exact_number}
 use Rattle.sect_wire.proofs.Pieces.{Lacks, joined_pieces, pieces_joined, some_pieces}
-use Rattle.sect_wire.proofs.Bytes.{NoDash, lacks_decimal, no_dash_decimal, each_text}
+use Rattle.sect_wire.proofs.Bytes.{NoDash, each_text}
 
 decimal_apart : (bound : ℕ) → bound ≤ 2 ^ 64 → Apart decimal bound
 decimal_apart bound small m n a b same = decimal_injective m n (omega (arith, a, small)) (omega (arith, b, small)) same

@@ -1,5 +1,5 @@
 -- Script lines: `[@DAY] CALLER NUMBER COMMAND`, where what has a default may be written though it is the default.
-use Rattle.std.specs.Prelude.{◌≡◌, ℕ, Bool, true, false, List, [], ◌∷◌, ◌++◌, flat_map, Option, Some, None, codes, decimal}
+use Rattle.std.specs.Prelude.{◌≡◌, ℕ, Bool, true, List, [], ◌∷◌, ◌++◌, flat_map, Option, Some, None, codes, decimal}
 use Rattle.sect_base.specs.declared.choice.Want.{Want}
 use Rattle.sect_base.specs.declared.limit.Id.{Id}
 use Rattle.sect_command.specs.declared.command.Command.{Command}

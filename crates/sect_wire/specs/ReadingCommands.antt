@@ -1,21 +1,18 @@
 -- Reading a command from its words.
 use Rattle.std.specs.Prelude.{ℕ, Bool, true, false, ◌||◌, not, ◌==◌, List, [], ◌∷◌, if◌then◌else◌, Option, None, Some, codes}
-use Rattle.std.specs.Option.{option_map, is_some}
 use Rattle.std.specs.Str.{bytes_eq}
 use Rattle.sect_base.specs.declared.ids.CourseId.{CourseId}
 use Rattle.sect_base.specs.declared.ids.SectionId.{SectionId}
 use Rattle.sect_base.specs.declared.choice.Want.{Want}
 use Rattle.sect_base.specs.declared.limit.Cap.{Cap}
 use Rattle.sect_base.specs.declared.limit.Cap.TheVariants as caps
-use Rattle.sect_reserve.specs.declared.row.Audience.{Audience}
-use Rattle.sect_base.specs.declared.ids.OfferingId.{OfferingId}
 use Rattle.sect_command.specs.declared.command.ReserveRow.{ReserveRow}
 use Rattle.sect_command.specs.declared.command.RestrictRow.{RestrictRow}
 use Rattle.sect_command.specs.declared.command.Command.{Command}
 use Rattle.sect_command.specs.declared.command.Command.TheVariants as commands
 use Rattle.sect_wire.specs.declared.verb.Verb.{Verb}
 use Rattle.sect_wire.specs.declared.verb.Verb.TheVariants as verbs
-use Rattle.sect_wire.specs.Reading.{◌>>=◌, word_at, key_at, mark_at, each_at, begins, later_parts, with_rest}
+use Rattle.sect_wire.specs.Reading.{◌>>=◌, word_at, key_at, mark_at, each_at, begins, later_parts}
 use Rattle.sect_wire.specs.ReadingWords.{
   between_of,
   u64_of,

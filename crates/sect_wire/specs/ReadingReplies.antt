@@ -1,8 +1,6 @@
 -- Reading a reply from its words.
-use Rattle.std.specs.Prelude.{ℕ, Bool, List, [], ◌∷◌, if◌then◌else◌, Option, None, Some, codes, not}
+use Rattle.std.specs.Prelude.{ℕ, Bool, List, if◌then◌else◌, Option, None, Some, codes, not}
 use Rattle.std.specs.Str.{bytes_eq}
-use Rattle.sect_base.specs.declared.ids.CourseId.{CourseId}
-use Rattle.sect_base.specs.declared.choice.Choice.{Choice}
 use Rattle.sect_base.specs.Tree.{Tree}
 use Rattle.sect_catalog.specs.declared.row.CatalogFault.{CatalogFault}
 use Rattle.sect_catalog.specs.declared.row.CatalogFault.TheVariants as catalog

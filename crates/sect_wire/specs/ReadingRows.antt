@@ -1,18 +1,16 @@
 -- Reading the rows that commands carry, from their words.
-use Rattle.std.specs.Prelude.{ℕ, Bool, List, ◌∷◌, if◌then◌else◌, Option, None, Some, codes, ◌||◌}
+use Rattle.std.specs.Prelude.{ℕ, Bool, List, if◌then◌else◌, Option, None, Some, codes, ◌||◌}
 use Rattle.sect_base.specs.declared.ids.CourseId.{CourseId}
 use Rattle.sect_base.specs.declared.ids.ConfigId.{ConfigId}
 use Rattle.sect_base.specs.declared.ids.SectionId.{SectionId}
 use Rattle.sect_base.specs.declared.ids.GroupId.{GroupId}
 use Rattle.sect_base.specs.declared.choice.Curriculum.{Curriculum}
-use Rattle.sect_base.specs.declared.choice.Want.{Want}
 use Rattle.sect_catalog.specs.declared.row.OfferingRow.{OfferingRow}
 use Rattle.sect_catalog.specs.declared.row.CourseRow.{CourseRow}
 use Rattle.sect_catalog.specs.declared.row.ConfigRow.{ConfigRow}
 use Rattle.sect_catalog.specs.declared.row.SubpartRow.{SubpartRow}
 use Rattle.sect_catalog.specs.declared.row.SectionRow.{SectionRow}
 use Rattle.sect_people.specs.declared.row.StudentRow.{StudentRow}
-use Rattle.sect_people.specs.declared.row.CourseAsk.{CourseAsk}
 use Rattle.sect_people.specs.declared.row.Ask.{Ask}
 use Rattle.sect_people.specs.declared.row.Ask.TheVariants as asks
 use Rattle.sect_wire.specs.Reading.{◌>>=◌, word_at, key_at, mark_at, each_at, begins, later_parts}

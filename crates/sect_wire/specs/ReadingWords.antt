@@ -1,5 +1,5 @@
 -- Reading what stands in one word.
-use Rattle.std.specs.Prelude.{ℕ, zero, suc, ◌+◌, ◌-◌, ◌^◌, ◌==◌, ◌&&◌, nat_lt, nat_le, Bool, List, [], ◌∷◌, length, if◌then◌else◌, Option, None, Some, decimal, codes}
+use Rattle.std.specs.Prelude.{ℕ, zero, suc, ◌+◌, ◌^◌, ◌==◌, ◌&&◌, nat_lt, nat_le, Bool, List, [], ◌∷◌, if◌then◌else◌, Option, None, Some, decimal, codes}
 use Rattle.std.specs.Option.{option_map}
 use Rattle.std.specs.Str.{bytes_eq}
 use Rattle.sect_base.specs.declared.ids.CourseId.{CourseId}
@@ -29,7 +29,7 @@ use Rattle.sect_reserve.specs.declared.row.Audience.TheVariants as audiences
 use Rattle.sect_text.specs.Parts.{pieces}
 use Rattle.sect_text.specs.Days.{found_below, day_text}
 use Rattle.sect_text.specs.Words.{dash}
-use Rattle.sect_wire.specs.Reading.{◌>>=◌, word_at, key_at, whole, all_of, number_with, begins, later_parts}
+use Rattle.sect_wire.specs.Reading.{◌>>=◌, word_at, whole, all_of, number_with, begins, later_parts}
 
 -- the number of at most `most` that is written in digits
 unfoldable pub number_of : ℕ → List ℕ → Option ℕ

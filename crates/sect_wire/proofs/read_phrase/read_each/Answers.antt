@@ -1,5 +1,5 @@
 -- Each turn reads one more value, and the loop ends where none starts.
-use Rattle.std.proofs.Common.{◌≡◌, ◌<◌, ◌≤◌, ◌∙◌, sym, ap, Some, arith}
+use Rattle.std.proofs.Common.{◌∙◌, sym, arith}
 use Rattle.sect_wire.proofs.Loops.{reach_step_to, reach_end}
 use Rattle.sect_wire.proofs.read_phrase.read_each.Goals as goal
 

@@ -1,5 +1,5 @@
 -- The values so far and those that the words left begin with are those that all words begin with.
-use Rattle.std.proofs.Common.{◌≡◌, ◌≤◌, length}
+use Rattle.std.proofs.Common.{◌≤◌, length}
 use Rattle.sect_wire.specs.Reading.{each_at}
 use Rattle.sect_wire.proofs.Loops.{Reaches}
 use Rattle.sect_wire.proofs.read_phrase.read_each.Given as goal

@@ -1,5 +1,5 @@
 -- The number of a word is the one whose text it is.
-use Rattle.std.proofs.Common.{◌≡◌, ◌<◌, ◌^◌, sym, arith}
+use Rattle.std.proofs.Common.{◌<◌, ◌^◌, sym, arith}
 use Rattle.sect_wire.proofs.Steps.{by_found, by_none}
 use Rattle.sect_wire.proofs.WordLaws.{exact_upto}
 use Rattle.sect_wire.proofs.read_word.read_number.Goals as goal

@@ -1,5 +1,4 @@
 -- A mark ends the first part, or the text does.
-use Rattle.std.proofs.Common.{◌≡◌}
 use Rattle.sect_wire.proofs.Cuts.{first_some, first_all}
 use Rattle.sect_wire.proofs.parts.Parts.first.Goals as goal
 

@@ -1,5 +1,4 @@
 -- Nothing is left exactly where the last part was taken.
-use Rattle.std.proofs.Common.{◌≡◌}
 use Rattle.sect_wire.proofs.Loops.{done_is}
 use Rattle.sect_wire.proofs.parts.Parts.is_empty.Goals as goal
 

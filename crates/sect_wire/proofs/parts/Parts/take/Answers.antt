@@ -1,5 +1,4 @@
 -- What is left behind the first part.
-use Rattle.std.proofs.Common.{◌≡◌}
 use Rattle.sect_wire.proofs.Cuts.{rest_some, rest_none}
 use Rattle.sect_wire.proofs.parts.Parts.take.Goals as goal
 

@@ -1,5 +1,4 @@
 -- The tree of a word is the one whose text it is.
-use Rattle.std.proofs.Common.{◌≡◌, Some, None}
 use Rattle.sect_wire.proofs.Steps.{by_found, by_none}
 use Rattle.sect_wire.proofs.ValueLaws.{exact_tree}
 use Rattle.sect_wire.proofs.read_word.BlockReadWord.read.Goals as goal

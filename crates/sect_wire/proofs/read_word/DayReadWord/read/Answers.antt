@@ -1,5 +1,5 @@
 -- The day of a word is the one whose text it is.
-use Rattle.std.proofs.Common.{◌≡◌, subst, sym}
+use Rattle.std.proofs.Common.{subst, sym}
 use Rattle.sect_time.specs.DayText.{IsDayText}
 use Rattle.sect_text.proofs.DayLaws.{text_of_day}
 use Rattle.sect_wire.proofs.Dates.{has_day}

@@ -1,5 +1,4 @@
 -- The meeting of a word is the one whose text it is.
-use Rattle.std.proofs.Common.{◌≡◌}
 use Rattle.sect_wire.proofs.Steps.{by_found, by_none}
 use Rattle.sect_wire.proofs.ValueLaws.{exact_meeting}
 use Rattle.sect_wire.proofs.read_word.MeetingReadWord.read.Goals as goal
