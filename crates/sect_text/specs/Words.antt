@@ -1,0 +1,83 @@
+-- The texts of what stands in one word.
+use Rattle.std.specs.Prelude.{ℕ, List, [], ◌∷◌, map, Option, Some, None, codes, decimal}
+use Rattle.sect_base.specs.declared.ids.CourseId.{CourseId}
+use Rattle.sect_base.specs.declared.ids.SectionId.{SectionId}
+use Rattle.sect_base.specs.declared.ids.ReservationId.{ReservationId}
+use Rattle.sect_base.specs.declared.ids.StudentId.{StudentId}
+use Rattle.sect_base.specs.declared.ids.MajorId.{MajorId}
+use Rattle.sect_base.specs.declared.ids.ClassId.{ClassId}
+use Rattle.sect_base.specs.declared.choice.Choice.{Choice}
+use Rattle.sect_base.specs.declared.choice.Curriculum.{Curriculum}
+use Rattle.sect_base.specs.declared.limit.Limit.{Limit}
+use Rattle.sect_base.specs.declared.limit.Limit.TheVariants.{Unlimited, Places}
+use Rattle.sect_base.specs.declared.limit.Caller.{Caller}
+use Rattle.sect_base.specs.declared.limit.Caller.TheVariants as callers
+use Rattle.sect_reserve.specs.declared.row.Audience.{Audience}
+use Rattle.sect_reserve.specs.declared.row.Audience.TheVariants as audiences
+use Rattle.sect_text.specs.Parts.{joined}
+
+-- `-`, which stands for nothing
+abbrev pub dash : List ℕ
+dash = 45 ∷ []
+
+-- the elements joined by `+`, or `-` where there is none
+abbrev pub list_text : {X : Type 0} → (X → List ℕ) → List X → List ℕ
+list_text text [] = dash
+list_text text (x ∷ xs) = joined 43 (map text (x ∷ xs))
+
+-- the value, or `-` for none
+abbrev pub optional_text : {X : Type 0} → (X → List ℕ) → Option X → List ℕ
+optional_text text None = dash
+optional_text text (Some x) = text x
+
+-- the number of places, or `-` for unlimited
+abbrev pub limit_text : Limit → List ℕ
+limit_text Unlimited = dash
+limit_text (Places n) = decimal n
+
+abbrev pub course_text : CourseId → List ℕ
+course_text id = decimal id.0
+
+abbrev pub section_text : SectionId → List ℕ
+section_text id = decimal id.0
+
+abbrev pub reservation_text : ReservationId → List ℕ
+reservation_text id = decimal id.0
+
+abbrev pub student_text : StudentId → List ℕ
+student_text id = decimal id.0
+
+abbrev pub class_text : ClassId → List ℕ
+class_text id = decimal id.0
+
+abbrev pub major_text : MajorId → List ℕ
+major_text id = decimal id.0
+
+-- `r` and an id for a registrar, `s` and an id for a student
+abbrev pub caller_text : Caller → List ℕ
+caller_text (callers.Registrar n) = 114 ∷ decimal n
+caller_text (callers.Student s) = 115 ∷ decimal s.0
+
+-- `AREA:CLASS:MAJORS`
+abbrev pub curriculum_text : Curriculum → List ℕ
+curriculum_text c = joined 58 (decimal c.area.0 ∷ decimal c.class.0 ∷ list_text major_text c.majors ∷ [])
+
+-- the parts of an audience
+abbrev pub audience_parts : Audience → List (List ℕ)
+audience_parts (audiences.Students ids) = codes "students" ∷ list_text student_text ids ∷ []
+audience_parts (audiences.Group id) = codes "group" ∷ decimal id.0 ∷ []
+audience_parts (audiences.Curriculum area classes majors) =
+    codes "curriculum" ∷ decimal area.0 ∷ list_text class_text classes ∷ list_text major_text majors ∷ []
+audience_parts (audiences.Course id) = codes "course" ∷ decimal id.0 ∷ []
+
+-- `students:IDS`, `group:ID`, `curriculum:AREA:CLASSES:MAJORS` or `course:ID`
+abbrev pub audience_text : Audience → List ℕ
+audience_text a = joined 58 (audience_parts a)
+
+-- the sections of a choice, joined by `+`
+abbrev pub sections_text : List SectionId → List ℕ
+sections_text ids = joined 43 (map section_text ids)
+
+-- `COURSE/RESERVATION/CONFIG/SECTIONS`
+abbrev pub choice_text : Choice → List ℕ
+choice_text c = joined 47 (decimal c.course.0 ∷ optional_text reservation_text c.reservation ∷ decimal c.config.0 ∷ sections_text c.sections ∷ [])

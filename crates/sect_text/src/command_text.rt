@@ -1,0 +1,320 @@
+// Printing commands.
+
+ghost use Rattle.std.specs.Prelude.{◌≡◌, ℕ, ◌++◌, ◌∷◌, [], OnOk, OnErr, length, take, codes, flat_map, false, decimal};
+ghost use Rattle.sect_text.specs.Parts.{behind, sentence};
+ghost use Rattle.sect_text.specs.Words.{limit_text, audience_text};
+ghost use Rattle.sect_text.specs.Commands.{
+  offering_words,
+  student_words,
+  ask_words,
+  reserve_words,
+  restrict_words,
+  from_words,
+  config_id_words,
+  section_id_words,
+  mark_words,
+  cap_words,
+  stated_words,
+  only_words,
+  printed_want,
+  give_words,
+  take_words,
+  optional_give_words,
+  budget_words,
+  class_words,
+  command_text,
+  command_words,
+};
+
+use crate::phrase::{
+    Phrase, print_each, print_key, print_mark, print_named, print_pair, print_three, print_word,
+};
+use crate::word::{Word, print_bytes};
+use sect_base::{
+    Budget, Cap, CourseId, Items, Limit, Memory, OfferingId, SectionId, StudentId, Want,
+};
+use sect_catalog::OfferingRow;
+use sect_command::{Command, ReserveRow, RestrictRow};
+use sect_people::StudentRow;
+use sect_reserve::Audience;
+use sect_time::Day;
+
+fn print_offering(row: &OfferingRow, into: &mut Vec<u8>) -> Result<(), Memory>
+    ensures text { OnOk result (into.new.items ≡ into.old.items ++ sentence (offering_words row.now)) }
+    ensures front { take (length into.old.items) into.new.items ≡ into.old.items }
+{
+    print_bytes(b"offering", into)?;
+    print_word(&row.id.0, into)?;
+    print_each(row.courses.as_slice(), into)?;
+    print_each(row.configs.as_slice(), into)
+}
+
+fn print_student(row: &StudentRow, into: &mut Vec<u8>) -> Result<(), Memory>
+    ensures text { OnOk result (into.new.items ≡ into.old.items ++ sentence (student_words row.now)) }
+    ensures front { take (length into.old.items) into.new.items ≡ into.old.items }
+{
+    print_bytes(b"student", into)?;
+    print_word(&row.id, into)?;
+    print_key(b"max", into)?;
+    print_word(&row.max_credits, into)?;
+    print_each(row.groups.as_slice(), into)?;
+    print_each(row.curricula.as_slice(), into)
+}
+
+// The first day, where there is one.
+fn print_from(first: Option<Day>, into: &mut Vec<u8>) -> Result<(), Memory>
+    ensures text { OnOk result (into.new.items ≡ into.old.items ++ behind 32 (from_words first)) }
+    ensures front { take (length into.old.items) into.new.items ≡ into.old.items }
+{
+    match first {
+        Some(day) => print_named(b"from", &day, into),
+        None => Ok(()),
+    }
+}
+
+// What is allowed beyond the limits, and whether it must be used.
+fn print_permissions(row: &ReserveRow, into: &mut Vec<u8>) -> Result<(), Memory>
+    ensures text { OnOk result (into.new.items ≡ into.old.items ++ behind 32 (mark_words (codes "over") row.now.over ++ (mark_words (codes "overlap") row.now.overlap ++ mark_words (codes "must") row.now.must))) }
+    ensures front { take (length into.old.items) into.new.items ≡ into.old.items }
+{
+    print_mark(b"over", row.over, into)?;
+    print_mark(b"overlap", row.overlap, into)?;
+    print_mark(b"must", row.must, into)
+}
+
+// The first day, what the reservation lists and what it permits.
+fn print_terms(row: &ReserveRow, into: &mut Vec<u8>) -> Result<(), Memory>
+    ensures text { OnOk result (into.new.items ≡ into.old.items ++ behind 32 (from_words row.now.first ++ (flat_map config_id_words row.now.configs ++ (flat_map section_id_words row.now.sections
+        ++ (mark_words (codes "over") row.now.over ++ (mark_words (codes "overlap") row.now.overlap ++ mark_words (codes "must") row.now.must)))))) }
+    ensures front { take (length into.old.items) into.new.items ≡ into.old.items }
+{
+    print_from(row.first, into)?;
+    print_each(row.configs.as_slice(), into)?;
+    print_each(row.sections.as_slice(), into)?;
+    print_permissions(row, into)
+}
+
+// The id of a reservation or a restriction, its offering and its audience.
+fn print_subject(
+    id: u32,
+    offering: OfferingId,
+    audience: &Audience,
+    into: &mut Vec<u8>,
+) -> Result<(), Memory>
+    ensures text { OnOk result (into.new.items ≡ into.old.items ++ behind 32 (decimal id ∷ decimal offering.0 ∷ audience_text audience.now ∷ [])) }
+    ensures front { take (length into.old.items) into.new.items ≡ into.old.items }
+{
+    print_word(&id, into)?;
+    print_word(&offering.0, into)?;
+    print_word(audience, into)
+}
+
+fn print_reserve(row: &ReserveRow, into: &mut Vec<u8>) -> Result<(), Memory>
+    ensures text { OnOk result (into.new.items ≡ into.old.items ++ sentence (reserve_words row.now)) }
+    ensures front { take (length into.old.items) into.new.items ≡ into.old.items }
+{
+    print_bytes(b"reserve", into)?;
+    print_subject(row.id.0, row.offering, &row.audience, into)?;
+    print_word(&row.limit, into)?;
+    print_word(&row.expiry, into)?;
+    print_terms(row, into)
+}
+
+fn print_restrict(row: &RestrictRow, into: &mut Vec<u8>) -> Result<(), Memory>
+    ensures text { OnOk result (into.new.items ≡ into.old.items ++ sentence (restrict_words row.now)) }
+    ensures front { take (length into.old.items) into.new.items ≡ into.old.items }
+{
+    print_bytes(b"restrict", into)?;
+    print_subject(row.id.0, row.offering, &row.audience, into)?;
+    print_each(row.configs.as_slice(), into)?;
+    print_each(row.sections.as_slice(), into)
+}
+
+fn print_cap(cap: &Cap, into: &mut Vec<u8>) -> Result<(), Memory>
+    ensures text { OnOk result (into.new.items ≡ into.old.items ++ behind 32 (cap_words cap.now)) }
+    ensures front { take (length into.old.items) into.new.items ≡ into.old.items }
+{
+    match cap {
+        Cap::Course(id) => print_named(b"course", &id.0, into),
+        Cap::Config(id) => print_named(b"config", &id.0, into),
+        Cap::Section(id) => print_named(b"section", &id.0, into),
+    }
+}
+
+// A key and a number, where it is not the default.
+fn print_stated(key: &[u8], default: u32, number: u32, into: &mut Vec<u8>) -> Result<(), Memory>
+    ensures text { OnOk result (into.new.items ≡ into.old.items ++ behind 32 (stated_words key.now default false number)) }
+    ensures front { take (length into.old.items) into.new.items ≡ into.old.items }
+{
+    if number == default {
+        return Ok(());
+    }
+    print_key(key, into)?;
+    print_word(&number, into)
+}
+
+// The only sections that are wanted, where there are some.
+fn print_only(sections: &Items<SectionId>, into: &mut Vec<u8>) -> Result<(), Memory>
+    ensures text { OnOk result (into.new.items ≡ into.old.items ++ behind 32 (only_words false sections.now)) }
+    ensures front { take (length into.old.items) into.new.items ≡ into.old.items }
+{
+    if sections.is_empty() {
+        return Ok(());
+    }
+    print_key(b"only", into)?;
+    print_word(sections, into)
+}
+
+fn print_want(want: &Want, into: &mut Vec<u8>) -> Result<(), Memory>
+    ensures text { OnOk result (into.new.items ≡ into.old.items ++ behind 32 (printed_want want.now)) }
+    ensures front { take (length into.old.items) into.new.items ≡ into.old.items }
+{
+    print_word(&want.courses, into)?;
+    print_only(&want.only, into)?;
+    print_stated(b"rank", 21, u32::from(want.rank), into)
+}
+
+impl Phrase for Want {
+    ghost words = { take_words };
+
+    fn print_words(&self, into: &mut Vec<u8>) -> Result<(), Memory> {
+        print_key(b"take", into)?;
+        print_want(self, into)
+    }
+}
+
+fn print_budget(budget: Budget, into: &mut Vec<u8>) -> Result<(), Memory>
+    ensures text { OnOk result (into.new.items ≡ into.old.items ++ behind 32 (budget_words false budget)) }
+    ensures front { take (length into.old.items) into.new.items ≡ into.old.items }
+{
+    print_stated(b"budget", 2000, budget.get(), into)
+}
+
+fn print_enrol(
+    student: StudentId,
+    want: &Want,
+    budget: Budget,
+    into: &mut Vec<u8>,
+) -> Result<(), Memory>
+    ensures text { OnOk result (into.new.items ≡ into.old.items ++ sentence (codes "enrol" ∷ decimal student.0 ∷ printed_want want.now ++ budget_words false budget)) }
+    ensures front { take (length into.old.items) into.new.items ≡ into.old.items }
+{
+    print_bytes(b"enrol", into)?;
+    print_word(&student, into)?;
+    print_want(want, into)?;
+    print_budget(budget, into)
+}
+
+fn print_swap(
+    student: StudentId,
+    given: &[CourseId],
+    taken: &[Want],
+    budget: Budget,
+    into: &mut Vec<u8>,
+) -> Result<(), Memory>
+    ensures text { OnOk result (into.new.items ≡ into.old.items ++ sentence (codes "swap" ∷ decimal student.0 ∷ flat_map give_words given.now ++ (flat_map take_words taken.now ++ budget_words false budget))) }
+    ensures front { take (length into.old.items) into.new.items ≡ into.old.items }
+{
+    print_bytes(b"swap", into)?;
+    print_word(&student, into)?;
+    print_each(given, into)?;
+    print_each(taken, into)?;
+    print_budget(budget, into)
+}
+
+fn print_wait(
+    student: StudentId,
+    want: &Want,
+    give: Option<CourseId>,
+    class: u8,
+    into: &mut Vec<u8>,
+) -> Result<(), Memory>
+    ensures text { OnOk result (into.new.items ≡ into.old.items ++ sentence (codes "wait" ∷ decimal student.0 ∷ printed_want want.now ++ (optional_give_words give ++ class_words false class))) }
+    ensures front { take (length into.old.items) into.new.items ≡ into.old.items }
+{
+    print_bytes(b"wait", into)?;
+    print_word(&student, into)?;
+    print_want(want, into)?;
+    print_give(give, into)?;
+    print_stated(b"class", 5, u32::from(class), into)
+}
+
+// The course that is given up, where there is one.
+fn print_give(give: Option<CourseId>, into: &mut Vec<u8>) -> Result<(), Memory>
+    ensures text { OnOk result (into.new.items ≡ into.old.items ++ behind 32 (optional_give_words give)) }
+    ensures front { take (length into.old.items) into.new.items ≡ into.old.items }
+{
+    match give {
+        Some(course) => course.print_words(into),
+        None => Ok(()),
+    }
+}
+
+fn print_limit(cap: &Cap, limit: Limit, into: &mut Vec<u8>) -> Result<(), Memory>
+    ensures text { OnOk result (into.new.items ≡ into.old.items ++ sentence (codes "limit" ∷ cap_words cap.now ++ (limit_text limit ∷ []))) }
+    ensures front { take (length into.old.items) into.new.items ≡ into.old.items }
+{
+    print_bytes(b"limit", into)?;
+    print_cap(cap, into)?;
+    print_word(&limit, into)
+}
+
+// Appends the text of a command. After `Memory` a part of it may stand at the end.
+pub(crate) fn print_verb(command: &Command, into: &mut Vec<u8>) -> Result<(), Memory>
+    ensures text { OnOk result (into.new.items ≡ into.old.items ++ command_text command.now) }
+    ensures front { take (length into.old.items) into.new.items ≡ into.old.items }
+{
+    match command {
+        Command::Offering(row) => print_offering(row, into),
+        Command::Student(row) => print_student(row, into),
+        Command::Requests { student, asks } => {
+            print_bytes(b"requests", into)?;
+            print_word(student, into)?;
+            print_each(asks.as_slice(), into)
+        }
+        Command::Reserve(row) => print_reserve(row, into),
+        Command::Unreserve(id) => print_pair(b"unreserve", id, into),
+        Command::Expire {
+            reservation,
+            expiry,
+        } => print_three(b"expire", reservation, expiry, into),
+        Command::Restrict(row) => print_restrict(row, into),
+        Command::Unrestrict(id) => print_pair(b"unrestrict", &id.0, into),
+        Command::SetLimit { cap, limit } => print_limit(cap, *limit, into),
+        Command::Cancel(id) => print_pair(b"cancel", id, into),
+        Command::Enrol {
+            student,
+            want,
+            budget,
+        } => print_enrol(*student, want, *budget, into),
+        Command::Drop { student, course } => print_three(b"drop", student, course, into),
+        Command::Swap {
+            student,
+            give,
+            take,
+            budget,
+        } => print_swap(*student, give.as_slice(), take.as_slice(), *budget, into),
+        Command::Wait {
+            student,
+            want,
+            give,
+            class,
+        } => print_wait(*student, want, *give, *class, into),
+        Command::Unwait { student, ticket } => print_three(b"unwait", student, ticket, into),
+        Command::Batch { students } => print_pair(b"batch", students, into),
+    }
+}
+
+/// Appends the text of a command. What has a default is left out where it is the default. It takes memory.
+/// After `Memory` the bytes are as before.
+pub fn print_command(command: &Command, into: &mut Vec<u8>) -> Result<(), Memory>
+    ensures text { OnOk result (into.new.items ≡ into.old.items ++ command_text command.now) }
+    ensures memory { OnErr result (into.new.items ≡ into.old.items) }
+{
+    let before = into.len();
+    let printed = print_verb(command, into);
+    if printed.is_err() {
+        into.truncate(before);
+    }
+    printed
+}

@@ -1,0 +1,11 @@
+pub mod Faults
+pub mod Fits
+pub mod Laws
+pub mod Lines
+pub mod Parts
+pub mod Reading
+pub mod ReadingCommands
+pub mod ReadingLines
+pub mod ReadingReplies
+pub mod ReadingRows
+pub mod ReadingWords

@@ -1,0 +1,77 @@
+// Reading script lines.
+
+ghost use Rattle.std.specs.Prelude.{◌≡◌, IfOk, Ok, Err};
+ghost use Rattle.sect_text.specs.Parts.{pieces};
+ghost use Rattle.sect_wire.specs.Reading.{Reads};
+ghost use Rattle.sect_wire.specs.ReadingLines.{line_day_at, front_at, line_of, Says};
+ghost use Rattle.sect_wire.specs.Lines.{IsLine, HasUnknownVerb};
+ghost use Rattle.sect_wire.specs.declared.line.LineAsk.{LineAsk};
+
+use crate::fault::{Fault, WireFault};
+use crate::parts::Parts;
+use crate::read_command::read_arguments;
+use crate::read_word::ReadWord;
+use crate::row::read_id;
+use crate::verb::verb_of;
+use sect_base::Id;
+use sect_command::Command;
+use sect_time::Day;
+use std::alloc::Global;
+
+/// A request as a script line asks it. Where the line names no day, it is asked on the clock's.
+#[derive(Drop)]
+pub struct LineAsk {
+    pub day: Option<Day>,
+    pub id: Id,
+    pub command: Command,
+}
+
+// `@` and a day, where the line names one.
+#[tactic(auto, unfolding(crate::specs::ReadingLines::line_day_at))]
+fn read_line_day(alloc: Global, words: &mut Parts) -> Result<Option<Day>, Fault>
+    ensures { Reads result words.new (line_day_at words.old) }
+{
+    let Some(text) = words.behind_at() else {
+        return Ok(None);
+    };
+    words.take();
+    Ok(Some(Day::read(alloc, text)?))
+}
+
+// What stands before the verb.
+#[tactic(auto, unfolding(crate::specs::ReadingLines::front_at))]
+fn read_front(alloc: Global, words: &mut Parts) -> Result<(Option<Day>, Id), Fault>
+    ensures { Reads result words.new (front_at words.old) }
+{
+    let day = read_line_day(alloc, words)?;
+    let id = read_id(alloc, words)?;
+    Ok((day, id))
+}
+
+// What the line asks.
+fn read_ask(alloc: Global, line: &[u8]) -> Result<LineAsk, WireFault>
+    ensures { Says result (line_of line.now) }
+{
+    let mut words = Parts::new(line, b' ');
+    let (day, id) = read_front(alloc, &mut words)?;
+    let Some(verb) = words.next() else {
+        return Err(WireFault::BadLine);
+    };
+    let Some(verb) = verb_of(verb) else {
+        return Err(WireFault::UnknownVerb);
+    };
+    let command = read_arguments(alloc, true, verb, &mut words)?;
+    words.end()?;
+    Ok(LineAsk { day, id, command })
+}
+
+/// The request that a line asks. `UnknownVerb` exactly where the caller and the number are there and the next word is
+/// no verb, `BadLine` where the line asks nothing for another cause. It takes memory.
+pub fn read_line(alloc: Global, line: &[u8]) -> Result<LineAsk, WireFault>
+    ensures found { IfOk result (λ ask. IsLine line.now ask) }
+    ensures only { (ask : LineAsk) → IsLine line.now ask → Says result (Ok ask) }
+    ensures unknown { HasUnknownVerb line.now → Says result (Err WireFault.UnknownVerb) }
+    ensures told { result ≡ Err WireFault.UnknownVerb → HasUnknownVerb line.now }
+{
+    read_ask(alloc, line)
+}
