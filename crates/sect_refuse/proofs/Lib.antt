@@ -1,3 +1,4 @@
 pub mod CourseLemmas
 pub mod HeldLemmas
+pub mod SampleLemmas
 pub mod WaitLemmas
