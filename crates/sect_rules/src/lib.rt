@@ -4,6 +4,7 @@
 mod config;
 mod course;
 mod held;
+pub mod laws;
 mod moment;
 mod nth;
 mod options;

@@ -82,9 +82,14 @@ fn cover(world: &World, mv: &Move, path: &Path, trees: &[Block]) -> bool
     let mut at = 0;
     'options: while let Some(pick) = option(world, mv, path, at) {
         match tree_at(trees, at) {
-            Some(tree) if covers_pick(world, mv, path, pick, tree) => at += 1,
-            _ => return false,
+            Some(tree) => {
+                if !covers_pick(world, mv, path, pick, tree) {
+                    return false;
+                }
+            }
+            None => return false,
         }
+        at += 1;
     }
     at == trees.len()
 }

@@ -17,28 +17,28 @@ cover-options-preserved t c =
     let within : c.options.at < length trees = slice_get_within trees c.options.at c.in-Some-tree_at.tree.now (sym c.in-Some-tree_at.ensures) in record {
       same = c.options.invariant.same
           ∙ cover-one w mv p (options_at w mv p) trees c.options.at c.in-Some.pick c.in-Some-tree_at.tree.now (sym c.in-Some.ensures.value) (sym c.in-Some-tree_at.ensures)
-          ∙ (λ i. (sym c.covers_pick.ensures ∙ c.if-covers_pick.true) i && from w mv p (options_at w mv p) trees (c.options.at + 1));
+          ∙ (λ i. (sym c.covers_pick.ensures ∙ c.if-not-covers_pick.false) i && from w mv p (options_at w mv p) trees (c.options.at + 1));
       within = omega (arith, within);
     }
 
-pub cover-returns-in_default-tree_at : goal.cover-returns-in_default-tree_at
-cover-returns-in_default-tree_at t c =
+pub cover-returns-then-not-covers_pick : goal.cover-returns-then-not-covers_pick
+cover-returns-then-not-covers_pick t c =
     let w = c.args.world.now.world in
     let mv = c.args.mv.now in
     let p = c.args.path.now in
     let trees = c.args.trees.now in
     sym (c.options.invariant.same
     ∙ cover-one w mv p (options_at w mv p) trees c.options.at c.in-Some.pick c.in-Some-tree_at.tree.now (sym c.in-Some.ensures.value) (sym c.in-Some-tree_at.ensures)
-    ∙ (λ i. (sym c.covers_pick.ensures ∙ c.if-covers_pick.false) i && from w mv p (options_at w mv p) trees (c.options.at + 1)))
+    ∙ (λ i. (sym c.covers_pick.ensures ∙ c.if-not-covers_pick.true) i && from w mv p (options_at w mv p) trees (c.options.at + 1)))
 
-pub cover-returns-in_default-tree_at-2 : goal.cover-returns-in_default-tree_at-2
-cover-returns-in_default-tree_at-2 t c =
+pub cover-returns-in-None : goal.cover-returns-in-None
+cover-returns-in-None t c =
     let w = c.args.world.now.world in
     let mv = c.args.mv.now in
     let p = c.args.path.now in
     let trees = c.args.trees.now in
     sym (c.options.invariant.same
-    ∙ cover-none w mv p (options_at w mv p) trees c.options.at c.in-Some.pick (sym c.in-Some.ensures.value) (sym c.tree_at.ensures ∙ ap option_copied c.in_default-tree_at.is))
+    ∙ cover-none w mv p (options_at w mv p) trees c.options.at c.in-Some.pick (sym c.in-Some.ensures.value) (sym c.tree_at.ensures ∙ ap option_copied c.in-None.is))
 
 pub cover-returns : goal.cover-returns
 cover-returns t c =
