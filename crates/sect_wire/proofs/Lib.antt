@@ -1,6 +1,7 @@
 pub mod ArgumentLaws
 pub mod Bytes
 pub mod CommandLaws
+pub mod CommandSpaces
 pub mod Cuts
 pub mod Dates
 pub mod Found
@@ -19,3 +20,4 @@ pub mod Steps
 pub mod TextLaws
 pub mod ValueLaws
 pub mod WordLaws
+pub mod WordSpaces

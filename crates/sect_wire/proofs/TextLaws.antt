@@ -19,7 +19,8 @@ use Rattle.sect_wire.proofs.PartLaws.{exact_whole}
 use Rattle.sect_wire.proofs.CommandLaws.{command_again}
 use Rattle.sect_wire.proofs.ReplyLaws.{takes_reply}
 use Rattle.sect_wire.proofs.LineLaws.{takes_row, line_again, words_printed}
-use Rattle.sect_wire.proofs.Spaces.{reply_apart, row_apart, command_apart, line_apart}
+use Rattle.sect_wire.proofs.CommandSpaces.{command_apart}
+use Rattle.sect_wire.proofs.Spaces.{reply_apart, row_apart, line_apart}
 
 -- a reply is read exactly
 pub exact_reply : Exact reply_of reply_text FitsReply

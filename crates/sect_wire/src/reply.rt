@@ -5,20 +5,10 @@ ghost use Rattle.sect_command.specs.declared.reply.Reply.{Reply};
 ghost use Rattle.sect_text.specs.Parts.{pieces};
 ghost use Rattle.sect_text.specs.Replies.{reply_text};
 ghost use Rattle.sect_wire.specs.Fits.{FitsReply};
-ghost use Rattle.sect_wire.specs.Reading.{Reads, ReadsAs, Means, Finds, whole, word_at};
+ghost use Rattle.sect_wire.specs.Reading.{Reads, Means, Finds, whole, word_at};
 ghost use Rattle.sect_wire.specs.ReadingWords.{choice_of};
 ghost use Rattle.sect_wire.specs.ReadingReplies.{
   any_word,
-  catalog_fault_named,
-  request_fault_named,
-  reserve_fault_named,
-  offering_fault_at,
-  asked_fault_at,
-  reserved_fault_at,
-  row_fault_at,
-  row_refusal_at,
-  refusal_named,
-  refusal_at,
   blocked_at,
   blocked_result_at,
   result_named,
@@ -38,179 +28,11 @@ ghost use Rattle.sect_wire.specs.ReadingReplies.{
 use crate::fault::Fault;
 use crate::parts::{Parts, same};
 use crate::read_phrase::{ReadPhrase, read_each};
+use crate::refusal::{read_refusal, take_name};
 use crate::request::Request;
 use sect_base::{Block, Choice, Memory, StudentId};
-use sect_catalog::CatalogFault;
-use sect_command::{Line, LineResult, Refusal, Reply, RowFault};
-use sect_people::RequestFault;
-use sect_reserve::ReserveFault;
+use sect_command::{Line, LineResult, Reply};
 use std::alloc::Global;
-
-// The next word, which is taken.
-fn take_name<'a>(words: &mut Parts<'a>) -> Result<&'a [u8], Fault>
-    ensures reads { ReadsAs (λ name. name.now) result words.new (word_at any_word words.old) }
-    ensures shorter { IfOk result (λ _. length words.new < length words.old) }
-{
-    match words.next() {
-        Some(name) => Ok(name),
-        None => Err(Fault::Bad),
-    }
-}
-
-#[tactic(auto, unfolding(crate::specs::ReadingReplies::catalog_fault_named))]
-fn read_catalog_fault(alloc: Global, name: &[u8], words: &mut Parts) -> Result<CatalogFault, Fault>
-    ensures { Reads result words.new (catalog_fault_named name.now words.old) }
-{
-    if same(name, b"Known") {
-        return Ok(CatalogFault::Known(words.word(alloc)?));
-    }
-    if same(name, b"NoCourse") {
-        return Ok(CatalogFault::NoCourse);
-    }
-    if same(name, b"NoConfig") {
-        return Ok(CatalogFault::NoConfig);
-    }
-    if same(name, b"NoSubpart") {
-        return Ok(CatalogFault::NoSubpart(words.word(alloc)?));
-    }
-    if same(name, b"NoSection") {
-        return Ok(CatalogFault::NoSection(words.word(alloc)?));
-    }
-    if same(name, b"BadParent") {
-        return Ok(CatalogFault::BadParent(words.word(alloc)?));
-    }
-    if same(name, b"TooMany") {
-        return Ok(CatalogFault::TooMany(words.word(alloc)?));
-    }
-    Err(Fault::Bad)
-}
-
-#[tactic(auto, unfolding(crate::specs::ReadingReplies::request_fault_named))]
-fn read_request_fault(alloc: Global, name: &[u8], words: &mut Parts) -> Result<RequestFault, Fault>
-    ensures { Reads result words.new (request_fault_named name.now words.old) }
-{
-    if same(name, b"UnknownCourse") {
-        return Ok(RequestFault::UnknownCourse(words.word(alloc)?));
-    }
-    if same(name, b"Twice") {
-        return Ok(RequestFault::Twice(words.word(alloc)?));
-    }
-    if same(name, b"TooMany") {
-        return Ok(RequestFault::TooMany(words.word(alloc)?));
-    }
-    Err(Fault::Bad)
-}
-
-#[tactic(auto, unfolding(crate::specs::ReadingReplies::reserve_fault_named))]
-fn read_reserve_fault(alloc: Global, name: &[u8], words: &mut Parts) -> Result<ReserveFault, Fault>
-    ensures { Reads result words.new (reserve_fault_named name.now words.old) }
-{
-    if same(name, b"Known") {
-        return Ok(ReserveFault::Known(words.word(alloc)?));
-    }
-    if same(name, b"Foreign") {
-        return Ok(ReserveFault::Foreign(words.word(alloc)?));
-    }
-    if same(name, b"NoGroup") {
-        return Ok(ReserveFault::NoGroup);
-    }
-    if same(name, b"TooMany") {
-        return Ok(ReserveFault::TooMany(words.word(alloc)?));
-    }
-    Err(Fault::Bad)
-}
-
-#[tactic(auto, unfolding(crate::specs::ReadingReplies::offering_fault_at))]
-fn read_offering_fault(alloc: Global, words: &mut Parts) -> Result<RowFault, Fault>
-    ensures { Reads result words.new (offering_fault_at words.old) }
-{
-    let name = take_name(words)?;
-    Ok(RowFault::Offering(read_catalog_fault(alloc, name, words)?))
-}
-
-#[tactic(auto, unfolding(crate::specs::ReadingReplies::asked_fault_at))]
-fn read_asked_fault(alloc: Global, words: &mut Parts) -> Result<RowFault, Fault>
-    ensures { Reads result words.new (asked_fault_at words.old) }
-{
-    let name = take_name(words)?;
-    Ok(RowFault::Request(read_request_fault(alloc, name, words)?))
-}
-
-#[tactic(auto, unfolding(crate::specs::ReadingReplies::reserved_fault_at))]
-fn read_reserved_fault(alloc: Global, words: &mut Parts) -> Result<RowFault, Fault>
-    ensures { Reads result words.new (reserved_fault_at words.old) }
-{
-    let name = take_name(words)?;
-    Ok(RowFault::Reserve(read_reserve_fault(alloc, name, words)?))
-}
-
-#[tactic(auto, unfolding(crate::specs::ReadingReplies::row_fault_at))]
-fn read_row_fault(alloc: Global, words: &mut Parts) -> Result<RowFault, Fault>
-    ensures { Reads result words.new (row_fault_at words.old) }
-{
-    if words.takes(b"offering") {
-        return read_offering_fault(alloc, words);
-    }
-    if words.takes(b"request") {
-        return read_asked_fault(alloc, words);
-    }
-    if words.takes(b"reserve") {
-        return read_reserved_fault(alloc, words);
-    }
-    Err(Fault::Bad)
-}
-
-#[tactic(auto, unfolding(crate::specs::ReadingReplies::row_refusal_at))]
-fn read_row_refusal(alloc: Global, words: &mut Parts) -> Result<Refusal, Fault>
-    ensures { Reads result words.new (row_refusal_at words.old) }
-{
-    Ok(Refusal::Row(read_row_fault(alloc, words)?))
-}
-
-#[tactic(auto, unfolding(crate::specs::ReadingReplies::refusal_named))]
-fn read_named_refusal(alloc: Global, name: &[u8], words: &mut Parts) -> Result<Refusal, Fault>
-    ensures { Reads result words.new (refusal_named name.now words.old) }
-{
-    if same(name, b"NotYours") {
-        return Ok(Refusal::NotYours);
-    }
-    if same(name, b"Unknown") {
-        return Ok(Refusal::Unknown(words.word(alloc)?));
-    }
-    if same(name, b"EmptyWant") {
-        return Ok(Refusal::EmptyWant);
-    }
-    if same(name, b"TooMany") {
-        return Ok(Refusal::TooMany(words.word(alloc)?));
-    }
-    if same(name, b"NotEnrolled") {
-        return Ok(Refusal::NotEnrolled(words.word(alloc)?));
-    }
-    if same(name, b"WaitingAlready") {
-        return Ok(Refusal::WaitingAlready(words.word(alloc)?));
-    }
-    if same(name, b"NotWaiting") {
-        return Ok(Refusal::NotWaiting);
-    }
-    if same(name, b"LimitBelow") {
-        return Ok(Refusal::LimitBelow(words.word(alloc)?));
-    }
-    if same(name, b"InUse") {
-        return Ok(Refusal::InUse(words.word(alloc)?));
-    }
-    if same(name, b"Row") {
-        return read_row_refusal(alloc, words);
-    }
-    Err(Fault::Bad)
-}
-
-#[tactic(auto, unfolding(crate::specs::ReadingReplies::refusal_at))]
-fn read_refusal(alloc: Global, words: &mut Parts) -> Result<Refusal, Fault>
-    ensures { Reads result words.new (refusal_at words.old) }
-{
-    let name = take_name(words)?;
-    read_named_refusal(alloc, name, words)
-}
 
 // How many decisions were visited, and the tree.
 #[tactic(auto, unfolding(crate::specs::ReadingReplies::blocked_at))]
