@@ -1,0 +1,21 @@
+-- the first free time has the least position
+use Rattle.std.proofs.Common.{sym, ◌∙◌, ◌∷◌, []}
+use Rattle.std.specs.Prelude.{map, filter}
+use Rattle.std.specs.Option.{option_map}
+use Rattle.sect_people.specs.Student.{find_student}
+use Rattle.sect_time.specs.Pattern.{lists_overlap}
+use Rattle.sect_model.specs.World.{meetings_of}
+use Rattle.sect_model.specs.Rules.{least}
+use Rattle.sect_rules.specs.FreeTimes.{first_free}
+use Rattle.sect_rules.proofs.LeastLemmas.{least-free, asks-free}
+use Rattle.sect_rules.proofs.moment.Moment.least_free.Goals as goal
+
+pub returns : goal.returns
+returns c =
+    let v = c.args.self.now.at in
+    let asks = c.in_ok-asks.asks.now in
+    let e = c.in_ok-asks.ensures ∙ (λ i. option_map (λ s. s.asks) (find_student (c.people.ensures i) (c.student.ensures i))) in
+    c.first_free.ensures
+    ∙ (λ i. first_free (c.meetings.ensures i) (c.from.ensures i) 1 asks)
+    ∙ sym (least-free (meetings_of v c.args.section) c.args.rank 1 asks)
+    ∙ (λ i. least (map (λ f. f.0) (filter (λ f. lists_overlap (meetings_of v c.args.section) (f.1 ∷ [])) (asks-free c.args.rank (find_student v.students c.args.self.now.student) asks e i))))

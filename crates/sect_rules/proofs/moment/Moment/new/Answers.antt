@@ -1,0 +1,11 @@
+-- only the roster differs
+use Rattle.std.proofs.Common.{sym, ◌∙◌}
+use Rattle.sect_rules.specs.Moment.{moved}
+use Rattle.sect_rules.proofs.MomentLemmas.{world-moved}
+use Rattle.sect_rules.proofs.moment.Moment.new.Goals as goal
+
+pub returns : goal.returns
+returns c =
+    let w = c.args.world.now.world in
+    let mv = c.args.mv.now in
+    λ i. record { at = ((λ j. moved w mv.student (c.as_slice.ensures j) (c.done.ensures.value j)) ∙ sym (world-moved w mv c.args.path.now)) i; student = mv.student }

@@ -1,0 +1,67 @@
+-- the section is the offering's own, and its table is in three parts
+use Rattle.std.proofs.Common.{◌≡◌, ◌++◌, sym, ◌∙◌, Option, Some, None, []}
+use Rattle.std.specs.Prelude.{ℕ, List, option_copied}
+use Rattle.std.specs.Option.{option_map_or}
+use Rattle.sect_model.specs.Data.{StudentId, CourseId, ConfigId, SectionId, OfferingRow, Want, Reservation, Rule}
+use Rattle.sect_model.specs.World.{World}
+use Rattle.sect_model.specs.Rules.{first_broken, section_rules}
+use Rattle.sect_rules.specs.Tables.{standing_rules, space_rules, time_rules}
+use Rattle.sect_rules.proofs.OwnLemmas.{section-own, sections-few}
+use Rattle.sect_rules.proofs.LeastLemmas.{first-found, first-next}
+use Rattle.sect_rules.proofs.moment.Moment.section_rule.Goals as goal
+
+module _ (v : World) (st : StudentId) (want : Want) (course : CourseId) (config : ConfigId) (sections : List SectionId) (section : SectionId) where
+  -- the table of an offering and a reservation
+  abbrev table : OfferingRow → Option Reservation → List (Rule × Option ℕ)
+  table o r = section_rules v st want o course r config sections section
+
+  -- that of what is found
+  named : (o : OfferingRow) (x : Option OfferingRow) (r s : Option Reservation) → Some o ≡ x → r ≡ s → first_broken (table o r) ≡ first_broken (option_map_or (λ o. table o s) x [])
+  named o x r s e f = (λ i. first_broken (table o (f i))) ∙ (λ i. first_broken (option_map_or (λ o. table o s) (e i) []))
+
+  abbrev standing : OfferingRow → Option Reservation → List (Rule × Option ℕ)
+  standing o r = standing_rules v st o course r config sections section
+
+  in-standing : (o : OfferingRow) (r : Option Reservation) (l : Rule × ℕ) → Some l ≡ first_broken (standing o r) → Some l ≡ first_broken (table o r)
+  in-standing o r l h = first-found (standing o r) (space_rules v r section ++ time_rules v st want r sections section) l h
+
+  in-space : (o : OfferingRow) (r : Option Reservation) (l : Rule × ℕ) → None ≡ first_broken (standing o r) → Some l ≡ first_broken (space_rules v r section) → Some l ≡ first_broken (table o r)
+  in-space o r l n h =
+      first-found (space_rules v r section) (time_rules v st want r sections section) l h
+      ∙ first-next (standing o r) (space_rules v r section ++ time_rules v st want r sections section) n
+
+  in-time : (o : OfferingRow) (r : Option Reservation) → None ≡ first_broken (standing o r) → None ≡ first_broken (space_rules v r section)
+      → first_broken (time_rules v st want r sections section) ≡ first_broken (table o r)
+  in-time o r n m =
+      first-next (space_rules v r section) (time_rules v st want r sections section) m
+      ∙ first-next (standing o r) (space_rules v r section ++ time_rules v st want r sections section) n
+
+pub standing_rule-requires : goal.standing_rule-requires
+standing_rule-requires c = sections-few c.args.self.now.at c.keeps.ensures.checked c.args.course c.args.config c.args.sections c.args.section c.requires
+
+pub space_rule-requires : goal.space_rule-requires
+space_rule-requires c =
+    section-own c.args.self.now.at c.keeps.ensures.checked c.args.course c.args.config c.args.sections c.args.section c.in_ok-offering.offering.now c.keeps.ensures.fit
+    (sym c.in_ok-offering.ensures) c.requires
+
+pub returns-in-Some : goal.returns-in-Some
+returns-in-Some c =
+    let a = c.args in
+    in-standing a.self.now.at a.self.now.student a.want.now a.course a.config a.sections a.section c.in_ok-offering.offering.now (option_copied c.named-r.result) c.in-Some.rule c.in-Some.ensures
+    ∙ named a.self.now.at a.self.now.student a.want.now a.course a.config a.sections a.section c.in_ok-offering.offering.now _ (option_copied c.named-r.result) _ c.in_ok-offering.ensures c.named-r.ensures
+
+pub returns-in-Some-space_rule : goal.returns-in-Some-space_rule
+returns-in-Some-space_rule c =
+    let a = c.args in
+    in-space a.self.now.at a.self.now.student a.want.now a.course a.config a.sections a.section c.in_ok-offering.offering.now (option_copied c.named-r.result) c.in-Some-space_rule.rule
+    (sym c.in_default.is ∙ c.standing_rule.ensures) c.in-Some-space_rule.ensures
+    ∙ named a.self.now.at a.self.now.student a.want.now a.course a.config a.sections a.section c.in_ok-offering.offering.now _ (option_copied c.named-r.result) _ c.in_ok-offering.ensures c.named-r.ensures
+
+pub returns : goal.returns
+returns c =
+    let a = c.args in
+    c.time_rule.ensures
+    ∙ (λ i. first_broken (time_rules a.self.now.at a.self.now.student a.want.now (option_copied c.named-r.result) (c.as_slice.ensures i) a.section))
+    ∙ in-time a.self.now.at a.self.now.student a.want.now a.course a.config a.sections a.section c.in_ok-offering.offering.now (option_copied c.named-r.result)
+    (sym c.in_default.is ∙ c.standing_rule.ensures) (sym c.in_default-space_rule.is ∙ c.space_rule.ensures)
+    ∙ named a.self.now.at a.self.now.student a.want.now a.course a.config a.sections a.section c.in_ok-offering.offering.now _ (option_copied c.named-r.result) _ c.in_ok-offering.ensures c.named-r.ensures

@@ -1,0 +1,45 @@
+-- an option stands in what was decided, and only the roster differs
+use Rattle.std.proofs.Common.{◌≡◌, ◌∙◌, ap, None, List}
+use Rattle.std.specs.Prelude.{refl}
+use Rattle.std.specs.Option.{option_map_or}
+use Rattle.sect_model.specs.Data.{StudentId, CourseId, Choice}
+use Rattle.sect_model.specs.declared.pick.Pick.{Pick}
+use Rattle.sect_model.specs.declared.pick.Pick.TheVariants.{Course, Reservation, Config, Section}
+use Rattle.sect_model.specs.World.{World}
+use Rattle.sect_model.specs.Path.{Path}
+use Rattle.sect_model.specs.Rules.{leaf_of, world_at, rules_on, first_broken}
+use Rattle.sect_rules.specs.Moment.{moved}
+use Rattle.sect_rules.specs.Standing.{stands}
+use Rattle.sect_rules.proofs.MomentLemmas.{world-moved}
+use Rattle.sect_rules.proofs.OwnLemmas.{option-stands}
+use Rattle.sect_rules.proofs.rules.broken.Goals as goal
+
+stands-moved : (w : World) (st : StudentId) (give : List CourseId) (done : List Choice) (p : Path) (pick : Pick) → stands (moved w st give done) p pick ≡ stands w p pick
+stands-moved w st give done p (Course id) = refl
+stands-moved w st give done p (Reservation id) = refl
+stands-moved w st give done p (Config id) = refl
+stands-moved w st give done p (Section id) = refl
+
+pub first_rule-requires : goal.first_rule-requires
+first_rule-requires c =
+    let w = c.args.world.now.world in
+    let mv = c.args.mv.now in
+    let p = c.args.path.now in
+    ap (λ m. stands m.at p c.args.pick) c.new.ensures
+    ∙ ap (λ v. stands v p c.args.pick) (world-moved w mv p)
+    ∙ stands-moved w mv.student mv.give p.done p c.args.pick
+    ∙ option-stands w mv p c.args.pick c.requires.option
+
+pub returns-in-Some : goal.returns-in-Some
+unfolding leaf_of
+returns-in-Some c =
+    let p = c.args.path.now in
+    c.first_rule.ensures
+    ∙ ap (λ m. first_broken (rules_on m.at m.student c.in-Some.want.now p c.args.pick)) c.new.ensures
+    ∙ ap (λ x. option_map_or (λ want. first_broken (rules_on (world_at c.args.world.now.world c.args.mv.now p) c.args.mv.now.student want p c.args.pick)) x None) c.in-Some.ensures
+
+pub returns-in-None : goal.returns-in-None
+unfolding leaf_of
+returns-in-None c =
+    let p = c.args.path.now in
+    ap (λ x. option_map_or (λ want. first_broken (rules_on (world_at c.args.world.now.world c.args.mv.now p) c.args.mv.now.student want p c.args.pick)) x None) c.in-None.ensures

@@ -1,0 +1,122 @@
+// The rules on a configuration.
+
+ghost use Rattle.std.specs.Prelude.{◌≡◌, ◌&&◌, [], not, false, zip, option_copied, IsTrue};
+ghost use Rattle.std.specs.List.{list_any, list_all};
+ghost use Rattle.std.specs.Option.{option_map_or, option_and_then};
+ghost use Rattle.sect_reserve.specs.Audience.{admits_config as has_config, admits_section as has_section};
+ghost use Rattle.sect_model.specs.World.{offering_of, reservation_of};
+ghost use Rattle.sect_model.specs.Choice.{subparts_of};
+ghost use Rattle.sect_model.specs.Allowed.{applies_to, restrictions_for};
+ghost use Rattle.sect_model.specs.Rules.{first_broken, config_rules, is_restricted as restricted_by};
+ghost use Rattle.sect_rules.specs.Standing.{admits_all as admits_places, own_config};
+
+use crate::moment::Moment;
+use crate::reserved::is_over;
+use sect_base::{ConfigId, CourseId, Level, OfferingId, ReservationId, Rule, SectionId};
+use sect_catalog::SubpartRow;
+use sect_reserve::{Includes, Reservation, Restriction, admits_config, admits_section};
+
+/// Whether each section is admitted in its subpart.
+fn admits_all(includes: &Includes, subparts: &[SubpartRow], sections: &[SectionId]) -> bool
+    ensures { result ≡ list_all (λ p. has_section includes.now p.0.id p.1) (zip subparts.now sections.now) }
+{
+    match subparts {
+        [] => true,
+        [subpart, others @ ..] => match sections {
+            [] => true,
+            [section, rest @ ..] => {
+                admits_section(includes, subpart.id, *section) && admits_all(includes, others, rest)
+            }
+        },
+    }
+}
+
+/// Whether the configuration and each section is admitted.
+fn admits(
+    includes: &Includes,
+    config: ConfigId,
+    subparts: &[SubpartRow],
+    sections: &[SectionId],
+) -> bool
+    ensures { result ≡ admits_places subparts.now config sections.now includes.now }
+{
+    admits_config(includes, config) && admits_all(includes, subparts, sections)
+}
+
+impl Moment<'_> {
+    /// Whether one of the restrictions is for the student by the course.
+    fn any_applies(&self, course: CourseId, rows: &[Restriction]) -> bool
+        ensures { result ≡ list_any (λ r. applies_to self.now.at self.now.student course r.audience) rows.now }
+    {
+        rows.iter().any(|r| self.applies(course, &r.audience))
+    }
+
+    /// Whether one of the restrictions is for the student and admits the sections.
+    fn any_admits(
+        &self,
+        course: CourseId,
+        config: ConfigId,
+        sections: &[SectionId],
+        rows: &[Restriction],
+    ) -> bool
+        ensures { result ≡ list_any (λ r. applies_to self.now.at self.now.student course r.audience && admits_places (subparts_of self.now.at course config) config sections.now r.includes) rows.now }
+    {
+        let subparts = self.subparts(course, config);
+        rows.iter().any(|r| {
+            self.applies(course, &r.audience) && admits(&r.includes, config, subparts, sections)
+        })
+    }
+
+    /// Whether restrictions apply, and none of them admits the configuration and the sections.
+    pub fn is_restricted(
+        &self,
+        offering: OfferingId,
+        course: CourseId,
+        config: ConfigId,
+        sections: &[SectionId],
+    ) -> bool
+        ensures { result ≡ restricted_by (subparts_of self.now.at course config) config sections.now (restrictions_for self.now.at self.now.student course offering) }
+    {
+        let rows = self.restrictions(offering);
+        self.any_applies(course, rows) && !self.any_admits(course, config, sections, rows)
+    }
+
+    /// The first rule that the choice of a configuration breaks, with its number.
+    pub fn config_rule(
+        &self,
+        course: CourseId,
+        id: Option<ReservationId>,
+        config: ConfigId,
+    ) -> Option<(Rule, u32)>
+        requires { IsTrue (own_config self.now.at course config) }
+        ensures { result ≡ first_broken (option_map_or (λ o. config_rules self.now.at self.now.student o course (option_and_then (reservation_of self.now.at) id) config) (offering_of self.now.at course) []) }
+    {
+        self.keeps();
+        let offering = self.offering(course)?.id;
+        let r = self.named(id);
+        let level = Level::Config(config);
+        if !is_over(r) && self.is_full(level) {
+            return Some((Rule::ConfigFull, config.0));
+        }
+        if !is_over(r) && self.is_kept(offering, r, level) {
+            return Some((Rule::ConfigReserved, config.0));
+        }
+        if excludes_config(r, config) {
+            return Some((Rule::NotIncluded, config.0));
+        }
+        if self.is_restricted(offering, course, config, &[]) {
+            return Some((Rule::Restricted, config.0));
+        }
+        None
+    }
+}
+
+/// Whether there is a reservation, and it doesn't admit the configuration.
+fn excludes_config(r: Option<&Reservation>, config: ConfigId) -> bool
+    ensures { result ≡ option_map_or (λ r. not (has_config r.includes config)) (option_copied r.entry) false }
+{
+    match r {
+        Some(r) => !admits_config(&r.includes, config),
+        None => false,
+    }
+}

@@ -1,0 +1,136 @@
+// The enrolments of a student that leave and that stay, and the choices made.
+
+ghost use Rattle.std.specs.Prelude.{◌≡◌, ◌<◌, ◌≤◌, ◌^◌, ◌&&◌, ◌==◌, not, cond, length, filter, count_by, sum_by};
+ghost use Rattle.std.specs.List.{list_any};
+ghost use Rattle.std.specs.Option.{option_map_or};
+ghost use Rattle.sect_model.specs.World.{is_of as course_is_of, credits_of};
+ghost use Rattle.sect_model.specs.Allowed.{max_credits as most_credits};
+ghost use Rattle.sect_rules.specs.Moment.{is_given as given_up, counts_at as choice_counts, uses};
+
+use sect_base::{Choice, CourseId, Level, OfferingId, ReservationId, StudentId};
+use sect_model::Enrolment;
+use sect_space::World;
+
+/// Whether the course is given up.
+pub fn is_given(give: &[CourseId], course: CourseId) -> bool
+    ensures { result ≡ given_up give.now course }
+{
+    give.iter().any(|other| course == *other)
+}
+
+/// Whether a choice counts at the level.
+fn counts_at(world: &World, level: Level, choice: &Choice) -> bool
+    ensures { result ≡ choice_counts world.now.world level choice.now }
+{
+    match level {
+        Level::Course(id) => choice.course == id,
+        Level::Offering(id) => world.is_of(id, choice.course),
+        Level::Config(id) => choice.config == id,
+        Level::Section(id) => choice.sections.as_slice().contains(&id),
+    }
+}
+
+/// How many of the enrolments that leave count at the level.
+pub fn counts_given(world: &World, level: Level, give: &[CourseId], held: &[Enrolment]) -> usize
+    ensures { result ≡ count_by (λ e. given_up give.now e.choice.course && choice_counts world.now.world level e.choice) held.now }
+{
+    held.iter()
+        .filter(|e| is_given(give, e.choice.course) && counts_at(world, level, &e.choice))
+        .count()
+}
+
+/// How many of the choices count at the level.
+pub fn counts_made(world: &World, level: Level, done: &[Choice]) -> usize
+    ensures { result ≡ count_by (choice_counts world.now.world level) done.now }
+{
+    done.iter()
+        .filter(|choice| counts_at(world, level, choice))
+        .count()
+}
+
+/// Whether the choice is by the reservation.
+fn is_by(id: ReservationId, choice: &Choice) -> bool
+    ensures { result ≡ uses id choice.now }
+{
+    match choice.reservation {
+        Some(used) => used == id,
+        None => false,
+    }
+}
+
+/// How many of the enrolments that leave are by the reservation.
+pub fn given_by(id: ReservationId, give: &[CourseId], held: &[Enrolment]) -> usize
+    ensures { result ≡ count_by (λ e. given_up give.now e.choice.course && uses id e.choice) held.now }
+{
+    held.iter()
+        .filter(|e| is_given(give, e.choice.course) && is_by(id, &e.choice))
+        .count()
+}
+
+/// How many of the choices are by the reservation.
+pub fn made_by(id: ReservationId, done: &[Choice]) -> usize
+    ensures { result ≡ count_by (uses id) done.now }
+{
+    done.iter().filter(|choice| is_by(id, choice)).count()
+}
+
+/// Whether an enrolment that stays is in the offering.
+pub fn holds_kept(world: &World, id: OfferingId, give: &[CourseId], held: &[Enrolment]) -> bool
+    ensures { result ≡ list_any (λ e. not (given_up give.now e.choice.course) && course_is_of world.now.world id e.choice.course) held.now }
+{
+    held.iter().any(|e| !is_given(give, e.choice.course) && world.is_of(id, e.choice.course))
+}
+
+/// Whether a choice is in the offering.
+pub fn holds_made(world: &World, id: OfferingId, done: &[Choice]) -> bool
+    ensures { result ≡ list_any (λ c. course_is_of world.now.world id c.course) done.now }
+{
+    done.iter().any(|choice| world.is_of(id, choice.course))
+}
+
+/// The credits of a course, 0 where it is unknown.
+pub fn credits(world: &World, course: CourseId) -> u8
+    ensures { result ≡ credits_of world.now.world course }
+{
+    match world.catalogue().course(course) {
+        Some((_, row)) => row.credits,
+        None => 0,
+    }
+}
+
+/// The credits of the enrolments that stay.
+pub fn credits_kept(world: &World, give: &[CourseId], held: &[Enrolment]) -> u32
+    requires { sum_by (λ e. cond (given_up give.now e.choice.course) 0 (credits_of world.now.world e.choice.course)) held.now < 2 ^ 32 }
+    ensures { result ≡ sum_by (λ e. cond (given_up give.now e.choice.course) 0 (credits_of world.now.world e.choice.course)) held.now }
+{
+    let mut total = 0;
+    for e in held {
+        if !is_given(give, e.choice.course) {
+            total += u32::from(credits(world, e.choice.course));
+        }
+    }
+    total
+}
+
+/// The credits of at most four choices.
+pub fn credits_made(world: &World, done: &[Choice]) -> u32
+    requires { length done.now ≤ 4 }
+    ensures value { result ≡ sum_by (λ c. credits_of world.now.world c.course) done.now }
+    ensures few { result ≤ 1020 }
+{
+    let mut total = 0;
+    for choice in done {
+        total += u32::from(credits(world, choice.course));
+    }
+    total
+}
+
+/// A student's maximum of credits, 0 where unknown.
+pub fn max_credits(world: &World, student: StudentId) -> u16
+    ensures { result ≡ most_credits world.now.world student }
+{
+    match world.people().row(student) {
+        Some(row) => row.max_credits,
+        None => 0,
+    }
+}

@@ -1,0 +1,22 @@
+// The options of a path of decisions, and the first rule that a decision breaks.
+#![tactic(auto)]
+
+mod config;
+mod course;
+mod held;
+pub mod laws;
+mod moment;
+mod nth;
+mod options;
+mod overlap;
+mod path;
+mod place;
+mod reservation;
+mod reserved;
+mod rules;
+mod section;
+
+pub use options::option;
+pub use path::Path;
+pub use rules::broken;
+pub use sect_model::Pick;

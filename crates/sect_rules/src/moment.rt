@@ -1,0 +1,212 @@
+// The world at a path, without a copy of it.
+
+ghost use Rattle.std.specs.Prelude.{◌≡◌, ◌≤◌, option_copied, flat_map, IsTrue};
+ghost use Rattle.std.specs.List.{list_all};
+ghost use Rattle.sect_catalog.specs.Fault.{are_checked};
+ghost use Rattle.sect_model.specs.Kept.{includes_fit};
+ghost use Rattle.sect_model.specs.Rules.{least};
+ghost use Rattle.sect_rules.specs.Overlapped.{overlapped};
+ghost use Rattle.sect_model.specs.World.{reservation_of, offering_of, credits_of, held_by};
+ghost use Rattle.sect_model.specs.Choice.{subparts_of};
+ghost use Rattle.sect_model.specs.Counts.{count_of, used_of};
+ghost use Rattle.sect_model.specs.Allowed.{reservations_of, restrictions_of, holds_offering as has_offering, max_credits as most_credits, credits_held as credits_of_student};
+ghost use Rattle.sect_model.specs.Space.{places_at};
+ghost use Rattle.sect_model.specs.Premises.{MoveFits};
+ghost use Rattle.sect_model.specs.Rules.{world_at};
+
+use crate::held::{
+    counts_given, counts_made, credits, credits_kept, credits_made, given_by, holds_kept,
+    holds_made, made_by, max_credits,
+};
+use crate::overlap::lesser_of;
+use crate::path::Path;
+use crate::place::{offering, subparts};
+use sect_base::{
+    Choice, ConfigId, CourseId, Level, Move, OfferingId, ReservationId, SectionId, StudentId,
+};
+use sect_catalog::{Catalogue, OfferingRow, SubpartRow};
+use sect_model::Enrolment;
+use sect_people::People;
+use sect_reserve::{Reservation, Restriction};
+use sect_space::World;
+use sect_time::Day;
+use std::marker::Model;
+
+/// The world after the courses given up have left and the choices made so far were added, as the
+/// student of a move meets it. Only the enrolments of this student are read.
+#[derive(Drop)]
+pub struct Moment<'a> {
+    world: &'a World,
+    student: StudentId,
+    give: &'a [CourseId],
+    done: &'a [Choice],
+}
+
+impl<'a> Model for Moment<'a> {
+    ghost use Rattle.std.specs.Prelude.{◌≤◌, length, IsTrue};
+    ghost use Rattle.std.specs.Option.{is_some};
+    ghost use Rattle.sect_people.specs.Student.{find_student};
+    ghost use Rattle.sect_model.specs.Kept.{KeptWorld};
+    ghost use Rattle.sect_rules.specs.Moment.{Moment as Value_of, moved};
+
+    ghost Value = { Value_of };
+
+    ghost view = { λ m. record { at = moved m.world.now.world m.student m.give.now m.done.now; student = m.student } };
+
+    ghost invariant = { λ m. KeptWorld m.world.now.world × IsTrue (is_some (find_student m.world.now.world.students m.student)) × (length m.done.now ≤ 4) };
+}
+
+impl<'a> Moment<'a> {
+    /// The world at the path of the move.
+    pub fn new(world: &'a World, mv: &'a Move, path: &'a Path) -> Moment<'a>
+        requires { MoveFits world.now.world mv.now }
+        ensures { result ≡ record { at = world_at world.now.world mv.now path.now; student = mv.now.student } }
+    {
+        world.is_kept();
+        Moment {
+            world,
+            student: mv.student,
+            give: mv.give.as_slice(),
+            done: path.done(),
+        }
+    }
+
+    pub fn student(&self) -> StudentId
+        ensures { result ≡ self.now.student }
+    {
+        self.student
+    }
+
+    pub fn catalogue(&self) -> &Catalogue
+        ensures { result.now ≡ self.now.at.catalogue }
+    {
+        self.world.catalogue()
+    }
+
+    pub fn people(&self) -> &People
+        ensures { result.now ≡ self.now.at.students }
+    {
+        self.world.people()
+    }
+
+    pub fn reservation(&self, id: ReservationId) -> Option<&Reservation>
+        ensures { option_copied result ≡ reservation_of self.now.at id }
+    {
+        self.world.reservation(id)
+    }
+
+    pub fn reservations(&self, offering: OfferingId) -> &[Reservation]
+        ensures { result.now ≡ reservations_of self.now.at offering }
+    {
+        self.world.reservations(offering)
+    }
+
+    pub fn restrictions(&self, offering: OfferingId) -> &[Restriction]
+        ensures { result.now ≡ restrictions_of self.now.at offering }
+    {
+        self.world.restrictions(offering)
+    }
+
+    pub fn day(&self) -> Day
+        ensures { result ≡ self.now.at.day }
+    {
+        self.world.day()
+    }
+
+    /// The number of places at the level, None where it has no limit.
+    pub fn places(&self, level: Level) -> Option<u64>
+        ensures { result ≡ places_at self.now.at level }
+    {
+        self.world.places(level)
+    }
+
+    /// The number of enrolments at the level.
+    pub fn count(&self, level: Level) -> u64
+        ensures { result ≡ count_of self.now.at level }
+    {
+        let held = self.world.enrolments(self.student);
+        let left = counts_given(self.world, level, self.give, held);
+        let made = counts_made(self.world, level, self.done);
+        u64::from(self.world.count(level)) - left as u64 + made as u64
+    }
+
+    /// The number of enrolments by the reservation.
+    pub fn used(&self, id: ReservationId) -> u64
+        ensures { result ≡ used_of self.now.at id }
+    {
+        let held = self.world.enrolments(self.student);
+        let left = given_by(id, self.give, held);
+        let made = made_by(id, self.done);
+        u64::from(self.world.used(id)) - left as u64 + made as u64
+    }
+
+    /// Whether the student holds a course of the offering.
+    pub fn holds_offering(&self, offering: OfferingId) -> bool
+        ensures { result ≡ has_offering self.now.at self.now.student offering }
+    {
+        let held = self.world.enrolments(self.student);
+        let kept = holds_kept(self.world, offering, self.give, held);
+        kept || holds_made(self.world, offering, self.done)
+    }
+
+    /// The student's maximum of credits.
+    pub fn max_credits(&self) -> u16
+        ensures { result ≡ most_credits self.now.at self.now.student }
+    {
+        max_credits(self.world, self.student)
+    }
+
+    /// The credits of the student's enrolments. Those held before are at most the maximum.
+    pub fn credits_held(&self) -> u32
+        ensures value { result ≡ credits_of_student self.now.at self.now.student }
+        ensures few { result ≤ 70000 }
+    {
+        let most = max_credits(self.world, self.student);
+        let held = self.world.enrolments(self.student);
+        let kept = credits_kept(self.world, self.give, held);
+        prove!(kept <= u32::from(most));
+        kept + credits_made(self.world, self.done)
+    }
+
+    /// The offering of a course.
+    pub fn offering(&self, course: CourseId) -> Option<&OfferingRow>
+        ensures { option_copied result ≡ offering_of self.now.at course }
+    {
+        offering(self.world, course)
+    }
+
+    /// The subparts of a configuration of the course's offering.
+    pub fn subparts(&self, course: CourseId, config: ConfigId) -> &[SubpartRow]
+        ensures { result.now ≡ subparts_of self.now.at course config }
+    {
+        subparts(self.world, course, config)
+    }
+
+    /// The credits of a course, 0 where it is unknown.
+    pub fn credits(&self, course: CourseId) -> u8
+        ensures { result ≡ credits_of self.now.at course }
+    {
+        credits(self.world, course)
+    }
+
+    /// What the world keeps of its rows. It does nothing.
+    pub fn keeps(&self)
+        ensures checked { IsTrue (are_checked self.now.at.catalogue.rows) }
+        ensures fit { IsTrue (list_all (λ r. includes_fit self.now.at r.offering r.includes) self.now.at.reservations) }
+    {
+        let _ = &self.world;
+    }
+
+    /// The least section of the student's other choices that this one overlaps, where neither
+    /// permits it.
+    pub fn least_held(&self, permitted: bool, section: SectionId) -> Option<u32>
+        ensures { result ≡ least (flat_map (λ e. overlapped self.now.at permitted section e.choice) (held_by self.now.at self.now.student)) }
+    {
+        let held = self.world.enrolments(self.student);
+        let (give, done) = (self.give, self.done);
+        lesser_of(
+            self.least_kept(permitted, section, give, held),
+            self.least_made(permitted, section, done),
+        )
+    }
+}

@@ -1,0 +1,203 @@
+// The least section that overlaps another one.
+
+ghost use Rattle.std.specs.Prelude.{◌≡◌, ◌++◌, map, filter, cond, flat_map, option_copied};
+ghost use Rattle.std.specs.Prelude.{[], ◌||◌, false};
+ghost use Rattle.std.specs.List.{list_any};
+ghost use Rattle.std.specs.Option.{option_map_or};
+ghost use Rattle.sect_time.specs.Pattern.{meetings_overlap, lists_overlap};
+ghost use Rattle.sect_model.specs.World.{meetings_of};
+ghost use Rattle.sect_model.specs.Overlap.{sections_overlap};
+ghost use Rattle.sect_model.specs.Allowed.{permits_overlap as choice_permits};
+ghost use Rattle.sect_model.specs.Rules.{least, held_overlaps, own_overlaps};
+ghost use Rattle.sect_rules.specs.Moment.{is_given as given_up};
+ghost use Rattle.sect_rules.specs.Overlapped.{lesser_of as lesser_option, overlapped};
+
+use crate::held::is_given;
+use crate::moment::Moment;
+use sect_base::{Choice, CourseId, SectionId};
+use sect_model::Enrolment;
+use sect_reserve::Reservation;
+use sect_time::{Meeting, overlaps};
+
+/// Whether a meeting of the one overlaps a meeting of the other.
+pub fn any_overlap(meetings: &[Meeting], others: &[Meeting]) -> bool
+    ensures { result ≡ lists_overlap meetings.now others.now }
+{
+    meetings.iter().any(|meeting| overlaps_any(meeting, others))
+}
+
+fn overlaps_any(meeting: &Meeting, others: &[Meeting]) -> bool
+    ensures { result ≡ list_any (meetings_overlap meeting.now) others.now }
+{
+    others.iter().any(|other| overlaps(meeting, other))
+}
+
+/// The lesser of two numbers, where there are any.
+pub fn lesser_of(a: Option<u32>, b: Option<u32>) -> Option<u32>
+    ensures { result ≡ lesser_option a b }
+{
+    match (a, b) {
+        (None, later) => later,
+        (Some(n), None) => Some(n),
+        (Some(n), Some(m)) => Some(if n <= m { n } else { m }),
+    }
+}
+
+/// Whether there is a reservation, and it permits overlap.
+pub fn is_overlapping(r: Option<&Reservation>) -> bool
+    ensures { result ≡ option_map_or (λ r. r.overlap) (option_copied r.entry) false }
+{
+    match r {
+        Some(r) => r.overlap,
+        None => false,
+    }
+}
+
+impl Moment<'_> {
+    /// When a section meets.
+    pub fn meetings(&self, section: SectionId) -> &[Meeting]
+        ensures { result.now ≡ meetings_of self.now.at section }
+    {
+        match self.catalogue().section(section) {
+            Some(row) => row.meetings.as_slice(),
+            None => &[],
+        }
+    }
+
+    fn overlap(&self, a: SectionId, b: SectionId) -> bool
+        ensures { result ≡ sections_overlap self.now.at a b }
+    {
+        any_overlap(self.meetings(a), self.meetings(b))
+    }
+
+    /// Whether the choice is by a reservation that permits overlap.
+    fn permits_overlap(&self, choice: &Choice) -> bool
+        ensures { result ≡ choice_permits self.now.at choice.now }
+    {
+        match choice.reservation {
+            Some(id) => is_overlapping(self.reservation(id)),
+            None => false,
+        }
+    }
+
+    /// The least of the sections that this one overlaps.
+    fn least_of(&self, section: SectionId, others: &[SectionId]) -> Option<u32>
+        ensures { result ≡ least (map (λ s. s.0) (filter (sections_overlap self.now.at section) others.now)) }
+    {
+        match others {
+            [] => None,
+            [first, rest @ ..] => {
+                let later = self.least_of(section, rest);
+                if self.overlap(section, *first) {
+                    lesser_of(Some(first.0), later)
+                } else {
+                    later
+                }
+            }
+        }
+    }
+
+    /// The least of the sections that overlap this one.
+    fn least_before(&self, section: SectionId, others: &[SectionId]) -> Option<u32>
+        ensures { result ≡ least (map (λ s. s.0) (filter (λ s. sections_overlap self.now.at s section) others.now)) }
+    {
+        match others {
+            [] => None,
+            [first, rest @ ..] => {
+                let later = self.least_before(section, rest);
+                if self.overlap(*first, section) {
+                    lesser_of(Some(first.0), later)
+                } else {
+                    later
+                }
+            }
+        }
+    }
+
+    /// The least section of the choice that this one overlaps, where neither permits it.
+    fn least_in(&self, permitted: bool, section: SectionId, choice: &Choice) -> Option<u32>
+        ensures { result ≡ least (overlapped self.now.at permitted section choice.now) }
+    {
+        if permitted || self.permits_overlap(choice) {
+            return None;
+        }
+        self.least_of(section, choice.sections.as_slice())
+    }
+
+    /// The least section of the enrolment that this one overlaps, where it stays.
+    fn least_where_kept(
+        &self,
+        permitted: bool,
+        section: SectionId,
+        give: &[CourseId],
+        choice: &Choice,
+    ) -> Option<u32>
+        ensures { result ≡ least (cond (given_up give.now choice.now.course) [] (overlapped self.now.at permitted section choice.now)) }
+    {
+        if is_given(give, choice.course) {
+            None
+        } else {
+            self.least_in(permitted, section, choice)
+        }
+    }
+
+    /// The least section that this one overlaps, of the enrolments that stay.
+    pub fn least_kept(
+        &self,
+        permitted: bool,
+        section: SectionId,
+        give: &[CourseId],
+        held: &[Enrolment],
+    ) -> Option<u32>
+        ensures { result ≡ least (flat_map (λ e. cond (given_up give.now e.choice.course) [] (overlapped self.now.at permitted section e.choice)) held.now) }
+    {
+        let mut least = None;
+        for e in held {
+            let later = self.least_where_kept(permitted, section, give, &e.choice);
+            least = lesser_of(least, later);
+        }
+        least
+    }
+
+    /// The least section that this one overlaps, of the choices made.
+    pub fn least_made(&self, permitted: bool, section: SectionId, done: &[Choice]) -> Option<u32>
+        ensures { result ≡ least (flat_map (overlapped self.now.at permitted section) done.now) }
+    {
+        let mut least = None;
+        for choice in done {
+            least = lesser_of(least, self.least_in(permitted, section, choice));
+        }
+        least
+    }
+
+    /// The least section that overlaps this one, held or chosen earlier, where it isn't permitted.
+    pub fn least_overlap(
+        &self,
+        r: Option<&Reservation>,
+        earlier: &[SectionId],
+        section: SectionId,
+    ) -> Option<u32>
+        ensures { result ≡ least (held_overlaps self.now.at self.now.student (option_copied r.entry) section ++ own_overlaps self.now.at (option_copied r.entry) earlier.now section) }
+    {
+        lesser_of(
+            self.least_held(is_overlapping(r), section),
+            self.least_own(r, earlier, section),
+        )
+    }
+
+    /// The least of the earlier sections of this choice that overlap this one, where its
+    /// reservation doesn't permit it.
+    fn least_own(
+        &self,
+        r: Option<&Reservation>,
+        earlier: &[SectionId],
+        section: SectionId,
+    ) -> Option<u32>
+        ensures { result ≡ least (own_overlaps self.now.at (option_copied r.entry) earlier.now section) }
+    {
+        if is_overlapping(r) {
+            return None;
+        }
+        self.least_before(section, earlier)
+    }
+}

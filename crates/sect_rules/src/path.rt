@@ -1,0 +1,185 @@
+// The decisions made so far, in the value itself.
+
+ghost use Rattle.std.specs.Prelude.{◌≡◌, ◌<◌, ◌≤◌, ◌++◌, ◌∷◌, [], length, Contains};
+ghost use Rattle.sect_model.specs.Path.{
+  start as start_path,
+  extend,
+  close as closed,
+  is_complete as has_all,
+  options_at,
+};
+ghost use Rattle.sect_model.specs.Premises.{MoveFits};
+ghost use Rattle.sect_rules.specs.Added.{with_section};
+
+use crate::place::due;
+use sect_base::{Choice, ConfigId, CourseId, Move, ReservationId, SectionId, Sections};
+use sect_model::Pick;
+use sect_space::World;
+use std::marker::Model;
+
+/// The choices that are complete, at most four, and the decisions for the next want. It lies in
+/// the value itself, so nothing that is done with it takes memory.
+#[derive(Drop)]
+pub struct Path {
+    // Those behind the first `len` stand for nothing.
+    cells: [Choice; 4],
+    len: u8,
+    course: Option<CourseId>,
+    reservation: Option<Option<ReservationId>>,
+    config: Option<ConfigId>,
+    sections: Sections,
+}
+
+impl Model for Path {
+    ghost use Rattle.std.specs.Prelude.{take, ◌≤◌};
+    ghost use Rattle.sect_model.specs.Path.{Path as Value_of};
+
+    ghost Value = { Value_of };
+
+    ghost view = { λ p. record { done = take p.len p.cells; course = p.course; reservation = p.reservation; config = p.config; sections = p.sections } };
+
+    ghost invariant = { λ p. p.len ≤ 4 };
+}
+
+impl Path {
+    /// The path with no decision.
+    pub fn start() -> Path
+        ensures { result ≡ start_path }
+    {
+        let nothing = Choice {
+            course: CourseId(0),
+            reservation: None,
+            config: ConfigId(0),
+            sections: Sections::empty(),
+        };
+        Path {
+            cells: [nothing; 4],
+            len: 0,
+            course: None,
+            reservation: None,
+            config: None,
+            sections: Sections::empty(),
+        }
+    }
+
+    /// The choices that are complete, at most four.
+    pub fn done(&self) -> &[Choice]
+        ensures value { result.now ≡ self.now.done }
+        ensures few { length result.now ≤ 4 }
+    {
+        &self.cells[..usize::from(self.len)]
+    }
+
+    /// The course decided on for the next want, if one was.
+    pub fn course(&self) -> Option<CourseId>
+        ensures { result ≡ self.now.course }
+    {
+        self.course
+    }
+
+    /// The reservation decided on, or that there is to be none, if that was decided.
+    pub fn reservation(&self) -> Option<Option<ReservationId>>
+        ensures { result ≡ self.now.reservation }
+    {
+        self.reservation
+    }
+
+    /// The configuration decided on, if one was.
+    pub fn config(&self) -> Option<ConfigId>
+        ensures { result ≡ self.now.config }
+    {
+        self.config
+    }
+
+    /// The sections decided on for the next want.
+    pub fn sections(&self) -> Sections
+        ensures { result ≡ self.now.sections }
+    {
+        self.sections
+    }
+
+    /// Whether each want has its choice.
+    pub fn is_complete(&self, mv: &Move) -> bool
+        ensures { result ≡ has_all mv.now self.now }
+    {
+        mv.take.len() <= self.done().len()
+    }
+
+    fn copied(&self) -> Path
+        ensures { result ≡ self.now }
+    {
+        let mut path = Path::start();
+        for choice in self.done() {
+            path.push(*choice);
+        }
+        path.course = self.course;
+        path.reservation = self.reservation;
+        path.config = self.config;
+        path.sections = self.sections;
+        path
+    }
+
+    /// Puts a choice behind those that are complete.
+    fn push(&mut self, choice: Choice)
+        requires { length self.old.done < 4 }
+        ensures { self.new ≡ record self.old { done = self.old.done ++ choice ∷ [] } }
+    {
+        self.cells[usize::from(self.len)] = choice;
+        self.len += 1;
+    }
+
+    /// Makes a choice of the decisions for the want, where a configuration was decided on.
+    fn close(&mut self)
+        requires { length self.old.done < 4 }
+        ensures { self.new ≡ closed self.old self.old.course self.old.reservation self.old.config }
+    {
+        if let (Some(course), Some(reservation), Some(config)) = (
+            self.course,
+            self.reservation,
+            self.config,
+        ) {
+            self.push(Choice {
+                course,
+                reservation,
+                config,
+                sections: self.sections,
+            });
+            self.course = None;
+            self.reservation = None;
+            self.config = None;
+            self.sections = Sections::empty();
+        }
+    }
+
+    /// Puts a section behind the others, and makes a choice of the decisions where as many as are
+    /// due are there.
+    fn add(&mut self, section: SectionId, due: usize)
+        requires sections { length self.old.sections < 6 }
+        requires done { length self.old.done < 4 }
+        ensures { self.new ≡ with_section due self.old section }
+    {
+        self.sections.push(section);
+        if due <= self.sections.len() {
+            self.close();
+        }
+    }
+
+    /// The path with one decision more, which is one of its options.
+    pub fn extended(&self, world: &World, mv: &Move, pick: Pick) -> Path
+        requires fits { MoveFits world.now.world mv.now }
+        requires option { Contains (options_at world.now.world mv.now self.now) pick }
+        ensures { result ≡ extend world.now.world self.now pick }
+    {
+        world.is_kept();
+        let mut path = self.copied();
+        match pick {
+            Pick::Course(course) => path.course = Some(course),
+            Pick::Reservation(id) => path.reservation = Some(id),
+            Pick::Config(config) => path.config = Some(config),
+            Pick::Section(section) => {
+                path.add(section, due(world, self.course, self.config));
+            }
+        }
+        path
+    }
+}

@@ -1,0 +1,220 @@
+// The rules on a section.
+
+ghost use Rattle.std.specs.Prelude.{◌≡◌, ◌<◌, ◌==◌, [], ◌∷◌, ◌++◌, not, false, length, map, filter, option_copied, IsTrue};
+ghost use Rattle.std.specs.Option.{option_map_or, option_and_then};
+ghost use Rattle.sect_catalog.specs.Catalogue.{find_section};
+ghost use Rattle.sect_reserve.specs.Audience.{admits_section as has_section, empty_or_any};
+ghost use Rattle.sect_model.specs.World.{offering_of, reservation_of};
+ghost use Rattle.sect_model.specs.Choice.{has_parent};
+ghost use Rattle.sect_model.specs.Allowed.{free_times, meets_at};
+ghost use Rattle.sect_model.specs.Path.{next_subpart};
+ghost use Rattle.sect_model.specs.Rules.{first_broken, least, section_rules};
+ghost use Rattle.sect_base.specs.declared.limit.Level.TheVariants.{Section};
+ghost use Rattle.sect_time.specs.Pattern.{lists_overlap};
+ghost use Rattle.sect_rules.specs.Reserved.{are_own};
+ghost use Rattle.sect_rules.specs.Standing.{own_section};
+ghost use Rattle.sect_rules.specs.Tables.{standing_rules, space_rules, time_rules};
+ghost use Rattle.sect_rules.specs.FreeTimes.{meets_free, first_free as first_free_time};
+
+use crate::moment::Moment;
+use crate::reserved::is_over;
+use sect_base::{
+    ConfigId, CourseId, Level, OfferingId, ReservationId, Rule, SectionId, Sections, Want,
+};
+use sect_catalog::OfferingRow;
+use sect_people::Ask;
+use sect_reserve::{Reservation, admits_section};
+use sect_time::{Meeting, overlaps};
+
+/// Whether the meetings overlap the time that the request keeps free.
+fn meets_ask(meetings: &[Meeting], ask: &Ask) -> bool
+    ensures { result ≡ meets_free meetings.now ask.now }
+{
+    match ask {
+        Ask::Course(_) => false,
+        Ask::Free(meeting) => overlaps_one(meetings, meeting),
+    }
+}
+
+fn overlaps_one(meetings: &[Meeting], meeting: &Meeting) -> bool
+    ensures { result ≡ lists_overlap meetings.now (meeting.now ∷ []) }
+{
+    meetings.iter().any(|other| overlaps(other, meeting))
+}
+
+/// The position of the first free time before the rank that the meetings overlap, where the first
+/// of these requests has this position.
+fn first_free(meetings: &[Meeting], rank: u32, number: u32, asks: &[Ask]) -> Option<u32>
+    ensures { result ≡ first_free_time meetings.now rank number asks.now }
+{
+    if rank <= number {
+        return None;
+    }
+    match asks {
+        [] => None,
+        [ask, rest @ ..] => {
+            if meets_ask(meetings, ask) {
+                Some(number)
+            } else {
+                first_free(meetings, rank, number + 1, rest)
+            }
+        }
+    }
+}
+
+/// Whether the list is empty, or has the section.
+fn is_asked(only: &[SectionId], section: SectionId) -> bool
+    ensures { result ≡ empty_or_any (λ o. o.0 == section.0) only.now }
+{
+    only.is_empty() || only.contains(&section)
+}
+
+/// The sections with one more.
+fn with(sections: Sections, section: SectionId) -> Sections
+    requires { length sections < 6 }
+    ensures { result ≡ sections ++ section ∷ [] }
+{
+    let mut all = sections;
+    all.push(section);
+    all
+}
+
+impl Moment<'_> {
+    /// Whether there is a reservation, and it doesn't admit the section in the next subpart.
+    fn excludes_section(
+        &self,
+        r: Option<&Reservation>,
+        course: CourseId,
+        config: ConfigId,
+        sections: &[SectionId],
+        section: SectionId,
+    ) -> bool
+        ensures { result ≡ option_map_or (λ r. option_map_or (λ p. not (has_section r.includes p.id section)) (next_subpart self.now.at course config sections.now) false) (option_copied r.entry) false }
+    {
+        match (r, self.subparts(course, config).get(sections.len())) {
+            (Some(r), Some(subpart)) => !admits_section(&r.includes, subpart.id, section),
+            _ => false,
+        }
+    }
+
+    /// Whether the section has a parent that isn't among those chosen.
+    fn lacks_parent(&self, sections: &[SectionId], section: SectionId) -> bool
+        ensures { result ≡ option_map_or (λ row. not (has_parent sections.now row)) (find_section self.now.at.catalogue.rows section) false }
+    {
+        match self.catalogue().section(section) {
+            Some(row) => match row.parent {
+                Some(parent) => !sections.contains(&parent),
+                None => false,
+            },
+            None => false,
+        }
+    }
+
+    /// The least position of a free time before the rank that the section meets.
+    fn least_free(&self, rank: u8, section: SectionId) -> Option<u32>
+        ensures { result ≡ least (map (λ f. f.0) (filter (λ f. meets_at self.now.at section f.1) (free_times self.now.at self.now.student rank))) }
+    {
+        let asks = self.people().asks(self.student())?;
+        first_free(self.meetings(section), u32::from(rank), 1, asks)
+    }
+
+    /// The first rule on where a section stands.
+    fn standing_rule(
+        &self,
+        offering: &OfferingRow,
+        course: CourseId,
+        r: Option<&Reservation>,
+        config: ConfigId,
+        sections: Sections,
+        section: SectionId,
+    ) -> Option<(Rule, u32)>
+        requires { length sections < 6 }
+        ensures { result ≡ first_broken (standing_rules self.now.at self.now.student offering.now course (option_copied r.entry) config sections section) }
+    {
+        let earlier = sections.as_slice();
+        if self.excludes_section(r, course, config, earlier, section) {
+            return Some((Rule::NotIncluded, section.0));
+        }
+        let all = with(sections, section);
+        if self.is_restricted(offering.id, course, config, all.as_slice()) {
+            return Some((Rule::Restricted, section.0));
+        }
+        if self.catalogue().is_cancelled(section) {
+            return Some((Rule::Cancelled, section.0));
+        }
+        if self.lacks_parent(earlier, section) {
+            return Some((Rule::Parent, section.0));
+        }
+        None
+    }
+
+    /// The first rule on the places of a section of this offering.
+    fn space_rule(
+        &self,
+        offering: OfferingId,
+        r: Option<&Reservation>,
+        section: SectionId,
+    ) -> Option<(Rule, u32)>
+        requires { IsTrue (are_own self.now.at offering (Section section)) }
+        ensures { result ≡ first_broken (space_rules self.now.at (option_copied r.entry) section) }
+    {
+        let level = Level::Section(section);
+        if is_over(r) {
+            return None;
+        }
+        if self.is_full(level) {
+            return Some((Rule::SectionFull, section.0));
+        }
+        if self.is_kept(offering, r, level) {
+            return Some((Rule::SectionReserved, section.0));
+        }
+        None
+    }
+
+    /// The first rule on when a section meets, and on what is asked for.
+    fn time_rule(
+        &self,
+        want: &Want,
+        r: Option<&Reservation>,
+        earlier: &[SectionId],
+        section: SectionId,
+    ) -> Option<(Rule, u32)>
+        ensures { result ≡ first_broken (time_rules self.now.at self.now.student want.now (option_copied r.entry) earlier.now section) }
+    {
+        if let Some(number) = self.least_overlap(r, earlier, section) {
+            return Some((Rule::Overlap, number));
+        }
+        if let Some(number) = self.least_free(want.rank, section) {
+            return Some((Rule::FreeTime, number));
+        }
+        if !is_asked(want.only.as_slice(), section) {
+            return Some((Rule::NotAsked, section.0));
+        }
+        None
+    }
+
+    /// The first rule that the choice of a section breaks, with its number.
+    pub fn section_rule(
+        &self,
+        want: &Want,
+        course: CourseId,
+        id: Option<ReservationId>,
+        config: ConfigId,
+        sections: Sections,
+        section: SectionId,
+    ) -> Option<(Rule, u32)>
+        requires { IsTrue (own_section self.now.at course config sections section) }
+        ensures { result ≡ first_broken (option_map_or (λ o. section_rules self.now.at self.now.student want.now o course (option_and_then (reservation_of self.now.at) id) config sections section) (offering_of self.now.at course) []) }
+    {
+        self.keeps();
+        let offering = self.offering(course)?;
+        let r = self.named(id);
+        if let Some(rule) = self.standing_rule(offering, course, r, config, sections, section) {
+            return Some(rule);
+        }
+        if let Some(rule) = self.space_rule(offering.id, r, section) {
+            return Some(rule);
+        }
+        self.time_rule(want, r, sections.as_slice(), section)
+    }
+}

@@ -1,0 +1,109 @@
+-- The options of a path taken in turn, with the trees of those in front.
+use Rattle.std.specs.Prelude.{◌≡◌, ℕ, zero, suc, ◌+◌, ◌-◌, ◌<◌, Bool, true, false, List, [], ◌∷◌, ◌++◌, Option, Some, None, slice_get, refl}
+use Rattle.std.proofs.Common.{sym, ◌∙◌, ap, arith, drop}
+use Rattle.sect_base.specs.Tree.{Tree}
+use Rattle.sect_model.specs.Data.{Choice, Move, Rule}
+use Rattle.sect_model.specs.declared.pick.Pick.{Pick}
+use Rattle.sect_model.specs.World.{World}
+use Rattle.sect_model.specs.Path.{Path, options_at, extend, is_complete}
+use Rattle.sect_model.specs.Rules.{leaf_of}
+use Rattle.sect_model.specs.Search.{Searched, found, refuted, spent, behind_tree, or_later, search_pick, search_options, search_from}
+use Rattle.sect_search.specs.Told.{with_trees, then_later}
+
+-- with nothing behind
+pub with-refuted : (ts us : List Tree) (left : ℕ) → with_trees ts (refuted us left) ≡ refuted (ts ++ us) left
+with-refuted [] us left = refl
+with-refuted (t ∷ ts) us left = ap (behind_tree t) (with-refuted ts us left)
+
+pub with-found : (ts : List Tree) (choices : List Choice) (left : ℕ) → with_trees ts (found choices left) ≡ found choices left
+with-found [] choices left = refl
+with-found (t ∷ ts) choices left = ap (behind_tree t) (with-found ts choices left)
+
+pub with-spent : (ts : List Tree) → with_trees ts spent ≡ spent
+with-spent [] = refl
+with-spent (t ∷ ts) = ap (behind_tree t) (with-spent ts)
+
+-- one tree more in front
+pub with-more : (ts : List Tree) (t : Tree) (r : Searched) → with_trees (ts ++ t ∷ []) r ≡ with_trees ts (behind_tree t r)
+with-more [] t r = refl
+with-more (u ∷ ts) t r = ap (behind_tree u) (with-more ts t r)
+
+or-later : (later : ℕ → Searched) (x : Searched) → or_later later x ≡ then_later later (or_later (λ left. refuted [] left) x)
+or-later later (found choices left) = refl
+or-later later (refuted trees left) = refl
+or-later later spent = refl
+
+-- an option by itself, and then those behind it
+pub pick-later : (leaf : Option (Rule × ℕ)) (whole : Bool) (done : List Choice) (inner later : ℕ → Searched) (left : ℕ)
+    → search_pick leaf whole done inner later left ≡ then_later later (search_pick leaf whole done inner (λ left. refuted [] left) left)
+pick-later (Some leaf) whole done inner later left = refl
+pick-later None true done inner later left = refl
+pick-later None false done inner later left = or-later later (inner left)
+
+-- the option at a place, and those behind it
+pub drop-option : {X : Type 0} (xs : List X) (i : ℕ) (x : X) → slice_get xs i ≡ Some x → drop i xs ≡ x ∷ drop (i + 1) xs
+drop-option [] i x h = cc
+drop-option (y ∷ ys) zero x h = ap (λ z. z ∷ ys) (some-same y x h)
+  where
+    some-same : {X : Type 0} (x y : X) → Some x ≡ Some y → x ≡ y
+    some-same x y e = cc
+drop-option (y ∷ ys) (suc i) x h = drop-option ys i x h ∙ (λ j. x ∷ drop (one_more j) (y ∷ ys))
+  where
+    one_more : suc (i + 1) ≡ suc i + 1
+    one_more = omega arith
+
+pub drop-none : {X : Type 0} (xs : List X) (i : ℕ) → slice_get xs i ≡ None → drop i xs ≡ []
+drop-none [] zero h = refl
+drop-none [] (suc i) h = refl
+drop-none (y ∷ ys) zero h = cc
+drop-none (y ∷ ys) (suc i) h = drop-none ys i h
+
+-- below a path with some decision left
+pub search-some : (w : World) (mv : Move) (n : ℕ) (p : Path) (left : ℕ) → 0 < n → search_from w mv n p left ≡ search_options w mv (search_from w mv (n - 1)) p (options_at w mv p) left
+search-some w mv zero p left h = absurd (omega (arith, h))
+search-some w mv (suc n) p left h =
+    let same : n ≡ suc n - 1 = omega arith in
+    (λ i. search_options w mv (search_from w mv (same i)) p (options_at w mv p) left)
+
+-- the search of a path's options, from a place on, with the trees in front
+module _ (w : World) (mv : Move) (rest : Path → ℕ → Searched) (p : Path) (options : List Pick) where
+  abbrev pub from : List Tree → ℕ → ℕ → Searched
+  from trees at left = with_trees trees (search_options w mv rest p (drop at options) left)
+
+  -- an option by itself
+  abbrev one : Pick → ℕ → Searched
+  one pick left = search_pick (leaf_of w mv p pick) (is_complete mv (extend w p pick)) (extend w p pick).done (rest (extend w p pick)) (λ left. refuted [] left) left
+
+  -- nothing is left of the budget
+  pub from-spent : (trees : List Tree) (at : ℕ) (pick : Pick) → slice_get options at ≡ Some pick → from trees at 0 ≡ spent
+  from-spent trees at pick h = (λ i. with_trees trees (search_options w mv rest p (drop-option options at pick h i) 0)) ∙ with-spent trees
+
+  -- no option is left
+  pub from-none : (trees : List Tree) (at left : ℕ) → slice_get options at ≡ None → from trees at left ≡ refuted trees left
+  from-none trees at left h = (λ i. with_trees trees (search_options w mv rest p (drop-none options at h i) left)) ∙ with-refuted trees [] left ∙ (λ i. refuted (append-none trees i) left)
+    where
+      append-none : {X : Type 0} (xs : List X) → xs ++ [] ≡ xs
+      append-none [] = refl
+      append-none (x ∷ xs) = ap (λ ys. x ∷ ys) (append-none xs)
+
+  -- an option is looked at
+  from-one : (trees : List Tree) (at left before : ℕ) (pick : Pick) → slice_get options at ≡ Some pick → before ≡ suc left
+      → from trees at before ≡ with_trees trees (then_later (search_options w mv rest p (drop (at + 1) options)) (one pick left))
+  from-one trees at left before pick h e =
+      (λ i. with_trees trees (search_options w mv rest p (drop-option options at pick h i) (e i)))
+      ∙ ap (with_trees trees) (pick-later (leaf_of w mv p pick) (is_complete mv (extend w p pick)) (extend w p pick).done (rest (extend w p pick)) (search_options w mv rest p (drop (at + 1) options)) left)
+
+  pub from-found : (trees : List Tree) (at left before after : ℕ) (pick : Pick) (choices : List Choice) → slice_get options at ≡ Some pick → before ≡ suc left
+      → found choices after ≡ one pick left → from trees at before ≡ found choices after
+  from-found trees at left before after pick choices h e f =
+      from-one trees at left before pick h e ∙ ap (λ r. with_trees trees (then_later (search_options w mv rest p (drop (at + 1) options)) r)) (sym f) ∙ with-found trees choices after
+
+  pub from-over : (trees : List Tree) (at left before : ℕ) (pick : Pick) → slice_get options at ≡ Some pick → before ≡ suc left → spent ≡ one pick left → from trees at before ≡ spent
+  from-over trees at left before pick h e f =
+      from-one trees at left before pick h e ∙ ap (λ r. with_trees trees (then_later (search_options w mv rest p (drop (at + 1) options)) r)) (sym f) ∙ with-spent trees
+
+  pub from-next : (trees : List Tree) (at left before after : ℕ) (pick : Pick) (tree : Tree) → slice_get options at ≡ Some pick → before ≡ suc left
+      → refuted (tree ∷ []) after ≡ one pick left → from trees at before ≡ from (trees ++ tree ∷ []) (at + 1) after
+  from-next trees at left before after pick tree h e f =
+      from-one trees at left before pick h e ∙ ap (λ r. with_trees trees (then_later (search_options w mv rest p (drop (at + 1) options)) r)) (sym f)
+      ∙ sym (with-more trees tree (search_options w mv rest p (drop (at + 1) options) after))

@@ -1,0 +1,64 @@
+-- option by option, with the trees of those in front
+use Rattle.std.proofs.Common.{◌-◌, ◌+◌, sym, ◌∙◌, arith}
+use Rattle.sect_model.specs.Path.{options_at}
+use Rattle.sect_model.specs.Search.{search_from}
+use Rattle.sect_search.specs.Told.{seen}
+use Rattle.sect_search.proofs.WalkLemmas.{search-some, from, from-spent, from-none, from-found, from-over, from-next}
+use Rattle.sect_search.proofs.walk.+walking.Goals as goal
+
+pub below-returns-then-left-eq0-clause-found : goal.below-returns-then-left-eq0-clause-found
+below-returns-then-left-eq0-clause-found t c =
+    let w = c.args.world.now.world in
+    let mv = c.args.mv.now in
+    let p = c.args.path.now in
+    let rest = search_from w mv (c.args.decisions - 1) in
+    sym (search-some w mv c.args.decisions p c.args.left.now (omega (arith, c.if-decisions-eq0.false))
+    ∙ c.options.invariant.same
+    ∙ (λ i. from w mv rest p (options_at w mv p) c.options.trees.items c.options.at (c.if-left-eq0.true i))
+    ∙ from-spent w mv rest p (options_at w mv p) c.options.trees.items c.options.at c.in-Some.pick (sym c.in-Some.ensures.value))
+
+pub below-returns-in-Found-clause-found : goal.below-returns-in-Found-clause-found
+below-returns-in-Found-clause-found t c =
+    let w = c.args.world.now.world in
+    let mv = c.args.mv.now in
+    let p = c.args.path.now in
+    sym (search-some w mv c.args.decisions p c.args.left.now (omega (arith, c.if-decisions-eq0.false))
+    ∙ c.options.invariant.same
+    ∙ from-found w mv (search_from w mv (c.args.decisions - 1)) p (options_at w mv p) c.options.trees.items c.options.at (c.options.left - 1) c.options.left c.visit.new.left c.in-Some.pick c.in-Found.choices
+    (sym c.in-Some.ensures.value) (omega (arith, c.if-left-eq0.false)) ((λ i. seen (sym c.in-Found.is i) c.visit.new.left) ∙ c.in_ok-choices.ensures.found))
+
+pub below-returns-in-Spent-clause-found : goal.below-returns-in-Spent-clause-found
+below-returns-in-Spent-clause-found t c =
+    let w = c.args.world.now.world in
+    let mv = c.args.mv.now in
+    let p = c.args.path.now in
+    sym (search-some w mv c.args.decisions p c.args.left.now (omega (arith, c.if-decisions-eq0.false))
+    ∙ c.options.invariant.same
+    ∙ from-over w mv (search_from w mv (c.args.decisions - 1)) p (options_at w mv p) c.options.trees.items c.options.at (c.options.left - 1) c.options.left c.in-Some.pick
+    (sym c.in-Some.ensures.value) (omega (arith, c.if-left-eq0.false)) ((λ i. seen (sym c.in-Spent.is i) c.visit.new.left) ∙ c.in_ok-choices.ensures.found))
+
+pub below-overflow_add-at : goal.below-overflow_add-at
+below-overflow_add-at t c = omega (arith, c.options.invariant.less, c.if-left-eq0.false)
+
+pub below-options-preserved : goal.below-options-preserved
+below-options-preserved t c =
+    let w = c.args.world.now.world in
+    let mv = c.args.mv.now in
+    let p = c.args.path.now in
+    let rest = search_from w mv (c.args.decisions - 1) in record {
+      same = c.options.invariant.same
+          ∙ from-next w mv rest p (options_at w mv p) c.options.trees.items c.options.at (c.options.left - 1) c.options.left c.visit.new.left c.in-Some.pick c.in-Refuted.tree
+          (sym c.in-Some.ensures.value) (omega (arith, c.if-left-eq0.false)) ((λ i. seen (sym c.in-Refuted.is i) c.visit.new.left) ∙ c.in_ok-choices.ensures.found)
+          ∙ (λ i. from w mv rest p (options_at w mv p) (sym c.in_ok-push-in-Refuted.ensures.items i) (c.options.at + 1) c.visit.new.left);
+      less = omega (arith, c.options.invariant.less, c.if-left-eq0.false, c.visit.ensures.less);
+      whole = c.options.invariant.whole;
+    }
+
+pub below-returns-clause-found : goal.below-returns-clause-found
+below-returns-clause-found t c =
+    let w = c.args.world.now.world in
+    let mv = c.args.mv.now in
+    let p = c.args.path.now in
+    sym (search-some w mv c.args.decisions p c.args.left.now (omega (arith, c.if-decisions-eq0.false))
+    ∙ c.options.invariant.same
+    ∙ from-none w mv (search_from w mv (c.args.decisions - 1)) p (options_at w mv p) c.options.trees.items c.options.at c.options.left (sym c.option.ensures.value ∙ c.in_default.is))

@@ -1,0 +1,3 @@
+pub mod Told
+pub mod Refutes
+pub mod Nodes

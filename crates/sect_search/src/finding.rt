@@ -1,0 +1,63 @@
+// The search with a budget.
+
+ghost use Rattle.std.specs.Prelude.{◌≡◌, ◌+◌, ◌*◌, ◌≤◌, length, IfOk};
+ghost use Rattle.sect_model.specs.Outcome.{outcome_of};
+ghost use Rattle.sect_model.specs.Premises.{MoveFits};
+ghost use Rattle.sect_model.specs.Search.{search_of, searched_outcome};
+ghost use Rattle.sect_model.specs.Visits.{most_decisions};
+
+use crate::walk::below;
+use crate::walked::Walked;
+use sect_base::{Block, Budget, Items, Memory, Move};
+use sect_model::Outcome;
+use sect_rules::Path;
+use sect_space::World;
+use sect_steps::Steps;
+use std::alloc::Global;
+use std::sync::ledger::Ledger;
+
+/// The first allowed move in the order of the options, or where there is none the tree that
+/// refutes every one, each with the number of options that were looked at; or that these are more
+/// than the budget. A move that takes nothing is found at once. Each search counts one step.
+/// Where memory runs out, nothing has changed but the count.
+pub fn search<L: Ledger>(
+    alloc: Global,
+    world: &World,
+    mv: &Move,
+    budget: Budget,
+    steps: &mut Steps<L>,
+) -> Result<Outcome, Memory>
+    requires { MoveFits world.now.world mv.now }
+    ensures outcome { IfOk result (λ outcome. outcome ≡ outcome_of world.now.world mv.now budget) }
+    ensures steps { steps.new ≡ steps.old + 1 }
+{
+    steps.tick();
+    world.is_kept();
+    find(alloc, world, mv, budget)
+}
+
+fn find(alloc: Global, world: &World, mv: &Move, budget: Budget) -> Result<Outcome, Memory>
+    requires { MoveFits world.now.world mv.now }
+    ensures { IfOk result (λ outcome. outcome ≡ searched_outcome budget (search_of world.now.world mv.now budget)) }
+{
+    let start = Path::start();
+    if start.is_complete(mv) {
+        return Ok(Outcome::Found(Items::from_vec(Vec::new(alloc)), 0));
+    }
+    let mut left = budget.get();
+    Ok(
+        match below(alloc, world, mv, &start, decisions(mv), &mut left)? {
+            Walked::Found(choices) => Outcome::Found(choices, budget.get() - left),
+            Walked::Refuted(trees) => Outcome::Blocked(Block::split(trees), budget.get() - left),
+            Walked::Spent => Outcome::Spent(budget.get()),
+        },
+    )
+}
+
+/// The most decisions of a path: nine for each want.
+fn decisions(mv: &Move) -> u32
+    requires { length mv.now.take ≤ 4 }
+    ensures { result ≡ most_decisions mv.now }
+{
+    9 * mv.take.len() as u32
+}

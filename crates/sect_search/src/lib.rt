@@ -1,0 +1,12 @@
+// The search for the first allowed move, and the check of the tree that refutes every one.
+#![tactic(auto)]
+
+mod finding;
+pub mod laws;
+mod verifying;
+mod walk;
+mod walked;
+
+pub use finding::search;
+pub use sect_model::Outcome;
+pub use verifying::verify;
