@@ -1,0 +1,153 @@
+// What becomes of one course request: held, skipped, or what the search for it gives.
+
+ghost use Rattle.std.specs.Prelude.{◌≡◌, ◌&&◌, nat_le, find, IfOk, IsTrue};
+ghost use Rattle.std.specs.Option.{is_some};
+ghost use Rattle.sect_people.specs.Student.{find_student};
+ghost use Rattle.sect_model.specs.World.{holds as is_held};
+ghost use Rattle.sect_model.specs.Premises.{want_fits};
+ghost use Rattle.sect_model.specs.Batch.{Batched, answer_to as answer_of_batch, search_for as search_result, result_of as result_of_outcome, request_move as move_of_request, want_of};
+ghost use Rattle.sect_batch.specs.Lines.{Tells, MetFits, answer_by, unmet_of, met_of};
+
+use crate::lines::{Answer, Lines};
+use sect_base::{Budget, CourseId, Duplicate, Items, Memory, Move, StudentId, Want};
+use sect_command::LineResult;
+use sect_model::Outcome;
+use sect_people::CourseAsk;
+use sect_search::search;
+use sect_space::World;
+use sect_steps::Steps;
+use std::alloc::Global;
+use std::sync::ledger::Ledger;
+
+/// What becomes of a student's course request of this rank, behind the lines so far.
+pub fn answer_to<L: Ledger>(
+    alloc: Global,
+    world: &World,
+    student: StudentId,
+    rank: u8,
+    ask: &CourseAsk,
+    lines: &Lines,
+    steps: &mut Steps<L>,
+) -> Result<Answer, Memory>
+    requires known { IsTrue (is_some (find_student world.now.world.students student)) }
+    requires fits { IsTrue (want_fits world.now.world (want_of ask.now 0)) }
+    ensures answer { IfOk result (λ answer. (b : Batched) → Tells world.now.world lines.now b → answer ≡ answer_by (answer_of_batch b student rank ask.now) ask.now) }
+    ensures met { IfOk result (λ answer. MetFits world.now.world student answer.result) }
+{
+    let result = line_result(alloc, world, student, rank, ask, lines, steps)?;
+    Ok(Answer {
+        result,
+        wait: ask.wait,
+        substitute: ask.substitute,
+    })
+}
+
+fn line_result<L: Ledger>(
+    alloc: Global,
+    world: &World,
+    student: StudentId,
+    rank: u8,
+    ask: &CourseAsk,
+    lines: &Lines,
+    steps: &mut Steps<L>,
+) -> Result<LineResult, Memory>
+    requires known { IsTrue (is_some (find_student world.now.world.students student)) }
+    requires fits { IsTrue (want_fits world.now.world (want_of ask.now 0)) }
+    ensures line { IfOk result (λ line. (b : Batched) → Tells world.now.world lines.now b → line ≡ answer_of_batch b student rank ask.now) }
+    ensures met { IfOk result (λ line. MetFits world.now.world student line) }
+{
+    match held_course(world, student, ask.courses.as_slice()) {
+        Some(course) => Ok(LineResult::Held(course)),
+        None => {
+            if is_skipped(student, ask, lines) {
+                Ok(LineResult::Skipped)
+            } else {
+                search_for(alloc, world, student, rank, ask, steps)
+            }
+        }
+    }
+}
+
+/// Whether the request is a substitute that isn't needed behind the lines so far.
+fn is_skipped(student: StudentId, ask: &CourseAsk, lines: &Lines) -> bool
+    ensures { result ≡ ask.now.substitute && nat_le (unmet_of student lines.now.marks.items) (met_of student lines.now.marks.items) }
+{
+    ask.substitute && lines.has_enough(student)
+}
+
+/// The first of the courses that the student holds.
+fn held_course(world: &World, student: StudentId, courses: &[CourseId]) -> Option<CourseId>
+    ensures { result ≡ find (is_held world.now.world student) courses.now }
+{
+    for course in courses {
+        if world.holds(student, *course) {
+            return Some(*course);
+        }
+    }
+    None
+}
+
+/// What the search for one of the request's courses gives.
+fn search_for<L: Ledger>(
+    alloc: Global,
+    world: &World,
+    student: StudentId,
+    rank: u8,
+    ask: &CourseAsk,
+    steps: &mut Steps<L>,
+) -> Result<LineResult, Memory>
+    requires known { IsTrue (is_some (find_student world.now.world.students student)) }
+    requires fits { IsTrue (want_fits world.now.world (want_of ask.now 0)) }
+    ensures line { IfOk result (λ line. line ≡ search_result world.now.world student ask.now rank) }
+    ensures met { IfOk result (λ line. MetFits world.now.world student line) }
+{
+    let mv = request_move(alloc, student, rank, ask)?;
+    let outcome = search(alloc, world, &mv, budget(), steps)?;
+    Ok(result_of(outcome))
+}
+
+/// The move that takes one of the request's courses.
+fn request_move(
+    alloc: Global,
+    student: StudentId,
+    rank: u8,
+    ask: &CourseAsk,
+) -> Result<Move, Memory>
+    ensures { IfOk result (λ mv. mv ≡ move_of_request student ask.now rank) }
+{
+    let mut take = Vec::new(alloc);
+    take.push(Want {
+        courses: ask.courses.copy(alloc)?,
+        only: Items::from_vec(Vec::new(alloc)),
+        rank,
+    })?;
+    Ok(Move {
+        student,
+        give: Items::from_vec(Vec::new(alloc)),
+        take: Items::from_vec(take),
+    })
+}
+
+/// The line of a search.
+fn result_of(outcome: Outcome) -> LineResult
+    ensures { result ≡ result_of_outcome outcome }
+{
+    match outcome {
+        Outcome::Found(choices, _) => match choices.as_slice().first() {
+            Some(choice) => LineResult::Met(*choice),
+            None => LineResult::Skipped,
+        },
+        Outcome::Blocked(tree, visits) => LineResult::Blocked(visits, tree),
+        Outcome::Spent(_) => LineResult::Spent,
+    }
+}
+
+/// The budget of the search for a request.
+fn budget() -> Budget
+    ensures { result ≡ 2000 }
+{
+    match Budget::new(2_000) {
+        Some(budget) => budget,
+        None => unreachable!(),
+    }
+}

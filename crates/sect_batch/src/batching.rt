@@ -1,0 +1,291 @@
+// The batch: each student's requests in turn, and each choice is enrolled at once.
+
+ghost use Rattle.std.specs.Prelude.{◌≡◌, ◌<◌, ◌≤◌, ◌+◌, [], ◌∷◌, List, length, map, slice_get, Some, IfOk, IfSome, OnOk, OnErr, IsTrue};
+ghost use Rattle.std.specs.List.{list_all, enumerate_from};
+ghost use Rattle.std.specs.Option.{is_some};
+ghost use Rattle.sect_people.specs.Student.{find_student};
+ghost use Rattle.sect_people.specs.declared.row.Ask.{Ask as Request};
+ghost use Rattle.sect_people.specs.declared.row.CourseAsk.{CourseAsk};
+ghost use Rattle.sect_command.specs.declared.reply.LineResult.{LineResult};
+ghost use Rattle.sect_model.specs.Batch.{Batched, batch_of, batch_students, batch_asks, add_line, world_after, asks_of as requests_of};
+ghost use Rattle.sect_model.specs.World.{enrol as world_with};
+ghost use Rattle.sect_model.specs.Fits.{Fits};
+ghost use Rattle.sect_space.specs.Undo.{Since, Undoable};
+ghost use Rattle.sect_batch.specs.Lines.{Tells, MetFits, answer_by, answer_to_ask, ask_fits};
+
+use crate::answering::answer_to;
+use crate::lines::{Answer, Lines};
+use sect_base::{Choice, Items, Memory, StudentId};
+use sect_command::{Line, LineResult};
+use sect_model::{Change, Enrolment};
+use sect_people::Ask;
+use sect_space::{Undo, World};
+use sect_steps::Steps;
+use std::alloc::Global;
+use std::marker::Brand;
+use std::sync::ledger::{Blank, Ledger};
+
+/// A line for each course request of the students, in their order and by position; free times make none. What is met is
+/// enrolled at once, so that later requests see it. Where memory runs out, the world and what is recorded are as before.
+pub fn batch(
+    alloc: Global,
+    world: &mut World,
+    students: &[StudentId],
+    undo: &mut Undo,
+) -> Result<Items<Line>, Memory>
+    requires known { IsTrue (list_all (λ s. is_some (find_student world.old.world.students s)) students.now) }
+    requires undoable { Undoable world.old undo.old.backs }
+    ensures world { OnOk result (world.new.world ≡ (batch_of world.old.world students.now).world) }
+    ensures lines { IfOk result (λ lines. lines ≡ map (λ a. a.line) (batch_of world.old.world students.now).answered) }
+    ensures err { OnErr result (world.new.world ≡ world.old.world) }
+    ensures not_recorded { OnErr result (undo.new.backs ≡ undo.old.backs) }
+    ensures since { Since world.old.world undo.old.backs world.new.world undo.new.backs }
+    ensures undoable { Undoable world.new undo.new.backs }
+{
+    counted::<Brand>(alloc, world, students, undo, Blank::new(1))
+}
+
+/// The batch, whose searches are counted in a ledger of its own.
+fn counted<L: Ledger>(
+    alloc: Global,
+    world: &mut World,
+    students: &[StudentId],
+    undo: &mut Undo,
+    blank: Blank,
+) -> Result<Items<Line>, Memory>
+    requires name { blank.name ≡ L.name }
+    requires parts { blank.parts ≡ L.parts }
+    requires some { 0 < blank.parts }
+    requires known { IsTrue (list_all (λ s. is_some (find_student world.old.world.students s)) students.now) }
+    requires undoable { Undoable world.old undo.old.backs }
+    ensures world { OnOk result (world.new.world ≡ (batch_of world.old.world students.now).world) }
+    ensures lines { IfOk result (λ lines. lines ≡ map (λ a. a.line) (batch_of world.old.world students.now).answered) }
+    ensures err { OnErr result (world.new.world ≡ world.old.world) }
+    ensures not_recorded { OnErr result (undo.new.backs ≡ undo.old.backs) }
+    ensures since { Since world.old.world undo.old.backs world.new.world undo.new.backs }
+    ensures undoable { Undoable world.new undo.new.backs }
+{
+    let mut steps: Steps<L> = Steps::new(blank);
+    all_or_none(alloc, world, students, undo, &mut steps)
+}
+
+/// The lines of all students. Where memory runs out, nobody is enrolled.
+fn all_or_none<L: Ledger>(
+    alloc: Global,
+    world: &mut World,
+    students: &[StudentId],
+    undo: &mut Undo,
+    steps: &mut Steps<L>,
+) -> Result<Items<Line>, Memory>
+    requires known { IsTrue (list_all (λ s. is_some (find_student world.old.world.students s)) students.now) }
+    requires undoable { Undoable world.old undo.old.backs }
+    ensures world { OnOk result (world.new.world ≡ (batch_of world.old.world students.now).world) }
+    ensures lines { IfOk result (λ lines. lines ≡ map (λ a. a.line) (batch_of world.old.world students.now).answered) }
+    ensures err { OnErr result (world.new.world ≡ world.old.world) }
+    ensures not_recorded { OnErr result (undo.new.backs ≡ undo.old.backs) }
+    ensures since { Since world.old.world undo.old.backs world.new.world undo.new.backs }
+    ensures undoable { Undoable world.new undo.new.backs }
+{
+    world.is_kept();
+    let made = undo.len();
+    let lines = all_lines(alloc, world, students, undo, steps);
+    if lines.is_err() {
+        world.undo_to(undo, made);
+    }
+    lines
+}
+
+/// The lines of all students. Where memory runs out, some may have been enrolled.
+fn all_lines<L: Ledger>(
+    alloc: Global,
+    world: &mut World,
+    students: &[StudentId],
+    undo: &mut Undo,
+    steps: &mut Steps<L>,
+) -> Result<Items<Line>, Memory>
+    requires known { IsTrue (list_all (λ s. is_some (find_student world.old.world.students s)) students.now) }
+    requires undoable { Undoable world.old undo.old.backs }
+    ensures world { OnOk result (world.new.world ≡ (batch_of world.old.world students.now).world) }
+    ensures lines { IfOk result (λ lines. lines ≡ map (λ a. a.line) (batch_of world.old.world students.now).answered) }
+    ensures since { Since world.old.world undo.old.backs world.new.world undo.new.backs }
+    ensures undoable { Undoable world.new undo.new.backs }
+{
+    let mut lines = Lines::empty(alloc);
+    for student in students {
+        student_lines(alloc, world, *student, &mut lines, undo, steps)?;
+    }
+    Ok(lines.into_items())
+}
+
+/// The lines of one student.
+fn student_lines<L: Ledger>(
+    alloc: Global,
+    world: &mut World,
+    student: StudentId,
+    lines: &mut Lines,
+    undo: &mut Undo,
+    steps: &mut Steps<L>,
+) -> Result<(), Memory>
+    requires known { IsTrue (is_some (find_student world.old.world.students student)) }
+    requires undoable { Undoable world.old undo.old.backs }
+    ensures told { OnOk result ((b : Batched) → Tells world.old.world lines.old b → Tells world.new.world lines.new (batch_asks b student (enumerate_from 1 (requests_of world.old.world student)))) }
+    ensures students { world.new.world.students ≡ world.old.world.students }
+    ensures since { Since world.old.world undo.old.backs world.new.world undo.new.backs }
+    ensures undoable { Undoable world.new undo.new.backs }
+{
+    let count = asks_of(world, student).len();
+    for place in 0..count {
+        ask_line(alloc, world, student, place, lines, undo, steps)?;
+    }
+    Ok(())
+}
+
+/// The line of the request at a place, none where it is a free time.
+fn ask_line<L: Ledger>(
+    alloc: Global,
+    world: &mut World,
+    student: StudentId,
+    place: usize,
+    lines: &mut Lines,
+    undo: &mut Undo,
+    steps: &mut Steps<L>,
+) -> Result<(), Memory>
+    requires known { IsTrue (is_some (find_student world.old.world.students student)) }
+    requires place { place < length (requests_of world.old.world student) }
+    requires undoable { Undoable world.old undo.old.backs }
+    ensures told { OnOk result ((b : Batched) (ask : Request) → slice_get (requests_of world.old.world student) place ≡ Some ask → Tells world.old.world lines.old b → Tells world.new.world lines.new (batch_asks b student ((place + 1, ask) ∷ []))) }
+    ensures students { world.new.world.students ≡ world.old.world.students }
+    ensures since { Since world.old.world undo.old.backs world.new.world undo.new.backs }
+    ensures undoable { Undoable world.new undo.new.backs }
+{
+    world.is_kept();
+    match answer_at(alloc, world, student, place, lines, steps)? {
+        Some(answer) => add(world, student, rank(place), answer, lines, undo),
+        None => Ok(()),
+    }
+}
+
+/// What becomes of the request at a place, None where it is a free time.
+fn answer_at<L: Ledger>(
+    alloc: Global,
+    world: &World,
+    student: StudentId,
+    place: usize,
+    lines: &Lines,
+    steps: &mut Steps<L>,
+) -> Result<Option<Answer>, Memory>
+    requires known { IsTrue (is_some (find_student world.now.world.students student)) }
+    requires place { place < length (requests_of world.now.world student) }
+    ensures answer { IfOk result (λ answer. (b : Batched) (ask : Request) → slice_get (requests_of world.now.world student) place ≡ Some ask → Tells world.now.world lines.now b → answer ≡ answer_to_ask b student (place + 1) ask) }
+    ensures met { IfOk result (λ answer. IfSome answer (λ a. MetFits world.now.world student a.result)) }
+{
+    world.is_kept();
+    match asks_of(world, student).get(place) {
+        Some(ask) => answer_ask(alloc, world, student, place, ask, lines, steps),
+        None => Ok(None),
+    }
+}
+
+/// What becomes of a request, None where it is a free time.
+fn answer_ask<L: Ledger>(
+    alloc: Global,
+    world: &World,
+    student: StudentId,
+    place: usize,
+    ask: &Ask,
+    lines: &Lines,
+    steps: &mut Steps<L>,
+) -> Result<Option<Answer>, Memory>
+    requires known { IsTrue (is_some (find_student world.now.world.students student)) }
+    requires place { place < 20 }
+    requires fits { IsTrue (ask_fits world.now.world ask.now) }
+    ensures answer { IfOk result (λ answer. (b : Batched) → Tells world.now.world lines.now b → answer ≡ answer_to_ask b student (place + 1) ask.now) }
+    ensures met { IfOk result (λ answer. IfSome answer (λ a. MetFits world.now.world student a.result)) }
+{
+    match ask {
+        Ask::Course(ask) => {
+            let answer = answer_to(alloc, world, student, rank(place), ask, lines, steps)?;
+            Ok(Some(answer))
+        }
+        Ask::Free(_) => Ok(None),
+    }
+}
+
+/// The student's requests, none where the student is unknown.
+fn asks_of(world: &World, student: StudentId) -> &[Ask]
+    ensures { result.now ≡ requests_of world.now.world student }
+{
+    match world.people().asks(student) {
+        Some(asks) => asks,
+        None => &[],
+    }
+}
+
+/// The position of the request at a place, from 1.
+fn rank(place: usize) -> u8
+    requires { place < 20 }
+    ensures { result ≡ place + 1 }
+{
+    place as u8 + 1
+}
+
+/// Puts the line of an answer behind the others, and enrols the student where it is met.
+fn add(
+    world: &mut World,
+    student: StudentId,
+    rank: u8,
+    answer: Answer,
+    lines: &mut Lines,
+    undo: &mut Undo,
+) -> Result<(), Memory>
+    requires met { MetFits world.old.world student answer.result }
+    requires undoable { Undoable world.old undo.old.backs }
+    ensures told { OnOk result ((b : Batched) (ask : CourseAsk) (line : LineResult) → Tells world.old.world lines.old b → answer ≡ answer_by line ask → Tells world.new.world lines.new (add_line b student rank ask line)) }
+    ensures students { world.new.world.students ≡ world.old.world.students }
+    ensures since { Since world.old.world undo.old.backs world.new.world undo.new.backs }
+    ensures undoable { Undoable world.new undo.new.backs }
+{
+    enrol_met(world, student, &answer.result, undo)?;
+    lines.push(student, rank, answer)
+}
+
+/// Enrols the student by the choice of a line that is met.
+fn enrol_met(
+    world: &mut World,
+    student: StudentId,
+    line: &LineResult,
+    undo: &mut Undo,
+) -> Result<(), Memory>
+    requires met { MetFits world.old.world student line.now }
+    requires undoable { Undoable world.old undo.old.backs }
+    ensures ok { OnOk result (world.new.world ≡ world_after world.old.world student line.now) }
+    ensures students { world.new.world.students ≡ world.old.world.students }
+    ensures since { Since world.old.world undo.old.backs world.new.world undo.new.backs }
+    ensures undoable { Undoable world.new undo.new.backs }
+{
+    match line {
+        LineResult::Met(choice) => enrol(world, student, *choice, undo),
+        LineResult::Held(_) => Ok(()),
+        LineResult::Blocked(_, _) => Ok(()),
+        LineResult::Spent => Ok(()),
+        LineResult::Waiting(_) => Ok(()),
+        LineResult::Skipped => Ok(()),
+    }
+}
+
+/// Enrols the student by the choice.
+fn enrol(
+    world: &mut World,
+    student: StudentId,
+    choice: Choice,
+    undo: &mut Undo,
+) -> Result<(), Memory>
+    requires fits { Fits world.old.world (Change.Enrol (record { student = student; choice = choice })) }
+    requires undoable { Undoable world.old undo.old.backs }
+    ensures ok { OnOk result (world.new.world ≡ world_with world.old.world student choice) }
+    ensures students { world.new.world.students ≡ world.old.world.students }
+    ensures since { Since world.old.world undo.old.backs world.new.world undo.new.backs }
+    ensures undoable { Undoable world.new undo.new.backs }
+{
+    world.apply(Change::Enrol(Enrolment { student, choice }), undo)
+}
