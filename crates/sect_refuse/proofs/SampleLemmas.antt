@@ -12,5 +12,5 @@ abbrev any_of : ℕ → Want
 any_of course = record { courses = record { 0 = course } ∷ []; only = []; rank = 1 }
 
 pub sample-fit : AllFit empty_world sample
-unfolding is_allowed
+unfolding is_allowed sample
 sample-fit = (refl, (refl, (refl, (refl, (refl, (refl, (refl, ((refl, any_of 1, refl), ((refl, any_of 3, refl), tt)))))))))

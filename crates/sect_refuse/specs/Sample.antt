@@ -64,7 +64,7 @@ enrolment student course reservation section = record {
 }
 
 -- two offerings, two students with a course each, and what is reserved and restricted
-abbrev pub sample : List Change
+unfoldable pub sample : List Change
 sample =
     Offering (offering 1 (course 1 3 ∷ course 2 4 ∷ []) (config 1 (section 7 ∷ section 8 ∷ []) ∷ config 2 (section 9 ∷ []) ∷ []))
     ∷ Offering (offering 3 (course 3 3 ∷ []) (config 3 (section 31 ∷ []) ∷ []))

@@ -382,6 +382,7 @@ fn batches(rt: HostRuntime) -> Result<(), Fail> {
     let alloc = rt.alloc();
     let world = world(alloc)?;
     let waiting = entries(alloc, 9_999)?;
+    assert_eq!(rt; waiting.len(), 9_999);
     let mut many = [11; 101];
     let counted = batch(alloc, &many)?;
     assert_eq!(rt;

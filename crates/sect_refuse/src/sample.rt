@@ -181,6 +181,7 @@ fn asks(alloc: Global) -> Result<Items<Ask>, Memory>
     Ok(Items::from_vec(vec![in alloc; first, second]?))
 }
 
+#[tactic(auto, unfolding(crate::specs::Sample::sample))]
 fn sample(alloc: Global) -> Result<VecDeque<Change>, Memory>
     ensures { IfOk result (λ changes. changes.items ≡ sample_of) }
 {

@@ -179,6 +179,7 @@ fn waits_of_too_much(rt: HostRuntime) -> Result<(), Fail> {
     let alloc = rt.alloc();
     let world = world(alloc)?;
     let many = entries(alloc, 10_000)?;
+    assert_eq!(rt; many.len(), 10_000);
     let seven = wait(11, want(alloc, &[3; 7], &[])?, Some(3), 5);
     assert_eq!(rt; registrar(&world, &many, seven), Some(Refusal::TooMany(7)));
     let one_more = wait(11, want(alloc, &[3], &[])?, Some(3), 5);
