@@ -1,4 +1,3 @@
 pub mod CourseLemmas
 pub mod HeldLemmas
-pub mod SampleLemmas
 pub mod WaitLemmas

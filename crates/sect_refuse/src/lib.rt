@@ -15,14 +15,3 @@ mod want;
 mod yours;
 
 pub use refuse::refusal;
-
-#[cfg(test)]
-mod asked;
-#[cfg(test)]
-mod registrar_tests;
-#[cfg(test)]
-mod sample;
-#[cfg(test)]
-mod student_tests;
-#[cfg(test)]
-mod theirs_tests;
