@@ -78,23 +78,34 @@ fn a_roll(rt: HostRuntime) -> Result<(), Fail> {
 }
 
 #[test]
-fn the_waiting_list(rt: HostRuntime) -> Result<(), Fail> {
+fn nobody_waits(rt: HostRuntime) -> Result<(), Fail> {
     let alloc = rt.alloc();
     let none = View::Waiting(Items::from_vec(Vec::new(alloc)));
     assert!(rt; is_report(alloc, &Query::Waiting, &none, "none\n")?);
-    let one = View::Waiting(Items::from_vec(vec![in alloc; waits(alloc, 2, 13, None)?]?));
-    assert!(rt;
-        is_report(
-            alloc,
-            &Query::Waiting,
-            &one,
-            "ticket 2 student 13 courses 1 give -\n"
-        )?
-    );
-    let two = View::Waiting(Items::from_vec(vec![in alloc;
-        waits(alloc, 1, 12, None)?,
-        waits(alloc, 18446744073709551615, 13, Some(CourseId(9)))?,
-    ]?));
+    Ok(())
+}
+
+#[test]
+fn one_waits(rt: HostRuntime) -> Result<(), Fail> {
+    let alloc = rt.alloc();
+    let entry = waits(alloc, 2, 13, None)?;
+    let one = View::Waiting(Items::from_vec(vec![in alloc; entry]?));
+    let lines = "ticket 2 student 13 courses 1 give -\n";
+    assert!(rt; is_report(alloc, &Query::Waiting, &one, lines)?);
+    Ok(())
+}
+
+// Two entries of the waiting list.
+fn two_waiting(alloc: Global) -> Result<View, Fail> {
+    let first = waits(alloc, 1, 12, None)?;
+    let second = waits(alloc, 18446744073709551615, 13, Some(CourseId(9)))?;
+    Ok(View::Waiting(Items::from_vec(vec![in alloc; first, second]?)))
+}
+
+#[test]
+fn two_wait(rt: HostRuntime) -> Result<(), Fail> {
+    let alloc = rt.alloc();
+    let two = two_waiting(alloc)?;
     let lines =
         "ticket 1 student 12 courses 1 give -\nticket 18446744073709551615 student 13 courses 1 give 9\n";
     assert!(rt; is_report(alloc, &Query::Waiting, &two, lines)?);
