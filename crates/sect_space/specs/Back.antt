@@ -84,18 +84,23 @@ back_of w (Leave student course) =
 abbrev pub but_last : {X : Type 0} → List X → List X
 but_last xs = take (length xs - 1) xs
 
+-- without the last offering
 abbrev pub drop_offering : World → World
 drop_offering w = record w { catalogue = record { rows = but_last w.catalogue.rows; cancelled = w.catalogue.cancelled } }
 
+-- without the student added last
 abbrev pub drop_student : World → World
 drop_student w = record w { students = but_last w.students }
 
+-- without the last mark of cancellation
 abbrev pub uncancel : World → World
 uncancel w = record w { catalogue = record { rows = w.catalogue.rows; cancelled = but_last w.catalogue.cancelled } }
 
+-- a reservation at its place again
 abbrev pub put_reservation_back : World → ℕ → Reservation → World
 put_reservation_back w place r = record w { reservations = insert w.reservations place r }
 
+-- a restriction at its place again
 abbrev pub put_restriction_back : World → ℕ → Restriction → World
 put_restriction_back w place r = record w { restrictions = insert w.restrictions place r }
 
@@ -103,6 +108,7 @@ put_restriction_back w place r = record w { restrictions = insert w.restrictions
 abbrev pub drop_enrolment : World → StudentId → World
 drop_enrolment w student = record w { roster = drop_last_of student w.roster }
 
+-- an enrolment at its place again
 abbrev pub put_enrolment_back : World → ℕ → Enrolment → World
 put_enrolment_back w place e = record w { roster = insert w.roster place e }
 
@@ -125,15 +131,19 @@ taken_back w (Left place e offering) = put_enrolment_back w place e
 
 -- ---- what a change concerns
 
+-- it concerns a student
 abbrev pub of_student : StudentId → Mark
 of_student student = record { student = Some student; offering = None; days = None }
 
+-- it concerns an offering
 abbrev pub of_offering : Option OfferingId → Mark
 of_offering offering = record { student = None; offering = offering; days = None }
 
+-- it concerns a student and an offering
 abbrev pub of_both : StudentId → Option OfferingId → Mark
 of_both student offering = record { student = Some student; offering = offering; days = None }
 
+-- it concerns the days from the old one to the new one
 abbrev pub of_days : ℕ → ℕ → Mark
 of_days old new = record { student = None; offering = None; days = Some (old, new) }
 
