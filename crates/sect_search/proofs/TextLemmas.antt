@@ -1,5 +1,5 @@
 -- A tree that covers nests at most as deep as decisions can follow, and each split in it has a tree.
-use Rattle.std.specs.Prelude.{◌≡◌, ℕ, zero, suc, ◌+◌, ◌*◌, ◌≤◌, nat_le, Bool, true, false, not, ◌&&◌, cond, List, [], ◌∷◌, ◌++◌, length, map, find, flat_map, Option, Some, None, slice_get, Contains, refl}
+use Rattle.std.specs.Prelude.{◌≡◌, ℕ, zero, suc, ◌+◌, ◌*◌, ◌≤◌, nat_le, Bool, true, false, not, ◌&&◌, cond, List, [], ◌∷◌, ◌++◌, length, map, find, flat_map, Option, Some, None, slice_get, Contains, Result, Ok, Err, IfOk, refl}
 use Rattle.std.specs.List.{list_any, list_all}
 use Rattle.std.specs.Bool.{then_some}
 use Rattle.std.specs.Option.{is_none, is_some, option_map, option_map_or, option_or}
@@ -20,7 +20,7 @@ use Rattle.sect_model.specs.Choice.{config_of, subparts_of}
 use Rattle.sect_model.specs.Path.{Path, start, want_at, options_for, options_at, config_options, section_options, extend, is_complete}
 use Rattle.sect_model.specs.Rules.{leaf_of}
 use Rattle.sect_model.specs.Covers.{covers, covers_with, cover_each}
-use Rattle.sect_model.specs.Premises.{courses_known, is_sized}
+use Rattle.sect_model.specs.Premises.{WorldKeeps, MoveFits, courses_known, is_sized}
 use Rattle.sect_model.proofs.CheckedLemmas.{passed, checked-each, checked-size, checked-order, found-differ, third-none}
 use Rattle.sect_model.proofs.CoverLemmas.{not_true, not_both, both-left, both-right}
 use Rattle.sect_model.proofs.ListLemmas.{any-sorted, found-all, got-all, contains-more}
@@ -29,7 +29,11 @@ use Rattle.sect_model.proofs.RefutationLemmas.{above, all-flat_map, none-found, 
 use Rattle.sect_model.proofs.RefutedLemmas.{blocked-refutes}
 use Rattle.sect_model.proofs.StageLemmas.{open_path, stage_fits, pick_fits, asked_by, own_at}
 use Rattle.sect_model.proofs.Tests.{rows_in_order, rows_in_size, found_by_id}
-use Rattle.sect_search.specs.Texts.{HasNumbers, HaveNumbers, CoverHasText, BlockedHasText}
+use Rattle.sect_model.specs.declared.pick.Outcome.{Outcome}
+use Rattle.sect_model.specs.declared.pick.Outcome.TheVariants.{Found, Blocked, Spent}
+use Rattle.sect_model.specs.Outcome.{outcome_of}
+use Rattle.sect_search.specs.Texts.{HasNumbers, HaveNumbers, CoverHasText, BlockedHasText, IsTold}
+use Rattle.sect_search.specs.Told.{OutcomeNumbers}
 
 -- ---- lists that aren't empty
 
@@ -312,3 +316,14 @@ cover-has-text w mv tree keeps fits h small =
 
 pub blocked-has-text : BlockedHasText
 blocked-has-text w mv budget visits tree keeps fits e small = cover-has-text w mv tree keeps fits (blocked-refutes w mv budget visits tree keeps fits e).0 small
+
+-- an outcome with numbers of 32 bits is told
+pub outcome-told : (w : World) (mv : Move) (budget : ℕ) (o : Outcome) → WorldKeeps w → MoveFits w mv → o ≡ outcome_of w mv budget → OutcomeNumbers o → IsTold o
+outcome-told w mv budget (Found choices visits) keeps fits e small = tt
+outcome-told w mv budget (Blocked tree visits) keeps fits e small = blocked-has-text w mv budget visits tree keeps fits (sym e) small
+outcome-told w mv budget (Spent visits) keeps fits e small = tt
+
+pub result-told : {E : Type 0} (w : World) (mv : Move) (budget : ℕ) (r : Result Outcome E) → WorldKeeps w → MoveFits w mv
+    → IfOk r (λ o. o ≡ outcome_of w mv budget) → IfOk r OutcomeNumbers → IfOk r IsTold
+result-told w mv budget (Ok o) keeps fits e small = outcome-told w mv budget o keeps fits e small
+result-told w mv budget (Err x) keeps fits e small = tt

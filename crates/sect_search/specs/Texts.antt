@@ -3,7 +3,8 @@ use Rattle.std.specs.Prelude.{◌≡◌, ℕ, ◌<◌, ◌^◌, IsTrue}
 use Rattle.sect_base.specs.Tree.{Tree, Trees, broken, split, none, more}
 use Rattle.sect_command.specs.TreeText.{HasText}
 use Rattle.sect_model.specs.Data.{Move}
-use Rattle.sect_model.specs.declared.pick.Outcome.TheVariants.{Blocked}
+use Rattle.sect_model.specs.declared.pick.Outcome.{Outcome}
+use Rattle.sect_model.specs.declared.pick.Outcome.TheVariants.{Found, Blocked, Spent}
 use Rattle.sect_model.specs.World.{World}
 use Rattle.sect_model.specs.Covers.{covers}
 use Rattle.sect_model.specs.Outcome.{outcome_of}
@@ -30,3 +31,9 @@ abbrev pub BlockedHasText : Type 0
 BlockedHasText =
     (w : World) (mv : Move) (budget visits : ℕ) (tree : Tree) → WorldKeeps w → MoveFits w mv
     → outcome_of w mv budget ≡ Blocked tree visits → HasNumbers tree → HasText 36 tree
+
+-- where the outcome is blocked, its tree has a text with at most 36 brackets round a leaf
+abbrev pub IsTold : Outcome → Type 0
+IsTold (Found choices visits) = Unit {0}
+IsTold (Blocked tree visits) = HasText 36 tree
+IsTold (Spent visits) = Unit {0}
