@@ -1,0 +1,6 @@
+pub mod AskLemmas
+pub mod DifferLemmas
+pub mod FoundLemmas
+pub mod RowLemmas
+pub mod ScheduleLemmas
+pub mod SortLemmas
