@@ -1,4 +1,5 @@
 pub mod AskLemmas
+pub mod DeskLemmas
 pub mod DifferLemmas
 pub mod FoundLemmas
 pub mod RowLemmas

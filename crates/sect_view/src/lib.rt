@@ -10,3 +10,6 @@ mod unmet;
 mod waiting;
 
 pub use look::view;
+
+#[cfg(test)]
+mod tests;
