@@ -3,7 +3,7 @@ use Rattle.std.specs.Prelude.{◌≡◌, ℕ, zero, suc, ◌+◌, ◌<◌, Bool,
 use Rattle.std.specs.List.{enumerate_from, cons_option}
 use Rattle.std.specs.Option.{option_or, option_map, option_map_or, is_none, option_to_list}
 use Rattle.std.specs.Bool.{then_some}
-use Rattle.std.proofs.Common.{◌≤◌, length, get_or, sym, ◌∙◌, ap, subst, arith, append_assoc}
+use Rattle.std.proofs.Common.{◌≤◌, length, get_or, sym, ◌∙◌, ap, arith, append_assoc}
 use Rattle.std.proofs.lemmas.Bool.Decides.{nat_tests}
 use Rattle.sect_base.specs.Told.{told}
 use Rattle.sect_base.specs.declared.ids.CourseId.{CourseId}
