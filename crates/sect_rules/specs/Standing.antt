@@ -31,5 +31,6 @@ stands_at w course config sections (Reservation id) = true
 stands_at w course config sections (Config id) = option_map_or (λ c. own_config w c id) course false
 stands_at w course config sections (Section id) = option_map_or (λ c. option_map_or (λ g. own_section w c g sections id) config false) course false
 
+-- a decision stands where the path has come to
 abbrev pub stands : World → Path → Pick → Bool
 stands w p pick = stands_at w p.course p.config p.sections pick
