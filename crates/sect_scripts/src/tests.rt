@@ -1,0 +1,6 @@
+// Scripts with the replies that each line must have.
+
+mod acted;
+mod many;
+mod refused;
+mod waited;
