@@ -52,7 +52,6 @@ found-subpart rows checked s p in_all a in_p is_it =
     by_found : (o : Option SubpartRow) → subpart_of_section rows s ≡ o → Members.Known o → o ≡ Some p
     by_found o e k = k.1 ∙ ap Some (one k.0 (e ∙ k.1))
 
-
 -- a subpart of the offering is one of the catalogue
 in-all : (rows : List OfferingRow) (o : OfferingRow) → Member rows o → (p : SubpartRow) → Member (subparts_of o) p → Member (all_subparts rows) p
 in-all rows o is_row p m =
@@ -85,7 +84,7 @@ place-with o s None (Some q) found none = absurd (none refl q refl)
 own-none : (w : World) (o : OfferingRow) (s : SectionId) → list_all (has_place_in o) (place_of w s) ≡ true → subpart_in o s ≡ None → (q : SubpartRow) → subpart_of_section w.catalogue.rows s ≡ Some q → ⊥
 own-none w o s own none q e =
     let listed : list_all (has_place_in o) (places_at s (Some q)) ≡ true
-        = subst (λ z. list_all (has_place_in o) (places_at s z) ≡ true) e own in
+    = subst (λ z. list_all (has_place_in o) (places_at s z) ≡ true) e own in
     not_both (is_some (subpart_in o s)) (own-found o s q (both-left _ true listed)) (ap is_some none)
 
 -- the place of a section that is the offering's own

@@ -37,7 +37,9 @@ pub fn act<L: Ledger>(
     match command {
         Command::Offering(row) => amended(rows::offering(alloc, world, row, undo)),
         Command::Student(row) => amended(rows::student(alloc, world, row, undo)),
-        Command::Requests { student, asks } => amended(rows::requests(alloc, world, *student, asks, undo)),
+        Command::Requests { student, asks } => amended(rows::requests(
+            alloc, world, *student, asks, undo,
+        )),
         Command::Reserve(row) => amended(reserved::reserve(alloc, world, row, undo)),
         Command::Unreserve(id) => amended(rows::unreserve(world, *id, undo)),
         Command::Expire {
@@ -71,8 +73,7 @@ pub fn act<L: Ledger>(
         } => waits::wait(alloc, queue, *student, want, *give, *class, left),
         Command::Unwait { student: _, ticket } => amended(waits::unwait(queue, *ticket, left)),
         Command::Batch { students } => {
-            let lines =
-                lines::batch_lines(alloc, world, queue, students.as_slice(), undo, left)?;
+            let lines = lines::batch_lines(alloc, world, queue, students.as_slice(), undo, left)?;
             Ok(Reply::Batched(lines))
         }
     }

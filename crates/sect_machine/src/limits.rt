@@ -13,12 +13,7 @@ use sect_model::Change;
 use sect_space::{Undo, World};
 
 /// Sets a limit that isn't below the counted enrolments.
-pub fn set_limit(
-    world: &mut World,
-    cap: Cap,
-    limit: Limit,
-    undo: &mut Undo,
-) -> Result<(), Memory>
+pub fn set_limit(world: &mut World, cap: Cap, limit: Limit, undo: &mut Undo) -> Result<(), Memory>
     requires fits { Fits world.old.world (Change.Cap cap limit) }
     requires undoable { Undoable world.old undo.old.backs }
     ensures ok { OnOk result (world.new.world ≡ put_limit world.old.world cap limit) }

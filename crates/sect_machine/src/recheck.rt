@@ -78,12 +78,7 @@ fn refutes_on(
 }
 
 /// Whether the tree refutes every choice of the command's move.
-fn refutes(
-    alloc: Global,
-    world: &World,
-    command: &Command,
-    tree: &Block,
-) -> Result<bool, Memory>
+fn refutes(alloc: Global, world: &World, command: &Command, tree: &Block) -> Result<bool, Memory>
     requires searches { IsTrue (is_some (move_in command.now)) }
     requires fits { (mv : Moved) → move_in command.now ≡ Some mv → MoveFits world.now.world mv }
     ensures { IfOk result (λ refutes. (mv : Moved) → move_in command.now ≡ Some mv → refutes ≡ covers world.now.world mv tree.now) }

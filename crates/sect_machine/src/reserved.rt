@@ -49,11 +49,7 @@ pub fn restrict(
 }
 
 /// The reservation of a row, with its sections as places.
-fn reservation_from(
-    alloc: Global,
-    world: &World,
-    row: &ReserveRow,
-) -> Result<Reservation, Memory>
+fn reservation_from(alloc: Global, world: &World, row: &ReserveRow) -> Result<Reservation, Memory>
     requires { Fits world.now.world (Change.Reserve (reservation_of_row world.now.world row.now)) }
     ensures { IfOk result (λ r. r ≡ reservation_of_row world.now.world row.now) }
 {
@@ -75,11 +71,7 @@ fn reservation_from(
 }
 
 /// The restriction of a row, with its sections as places.
-fn restriction_from(
-    alloc: Global,
-    world: &World,
-    row: &RestrictRow,
-) -> Result<Restriction, Memory>
+fn restriction_from(alloc: Global, world: &World, row: &RestrictRow) -> Result<Restriction, Memory>
     requires { Fits world.now.world (Change.Restrict (restriction_of_row world.now.world row.now)) }
     ensures { IfOk result (λ r. r ≡ restriction_of_row world.now.world row.now) }
 {

@@ -13,7 +13,7 @@ returns-in_err-reply-clause-tracked g c =
     let w = c.args.world.now in
     let q = c.args.queue.now in
     let day : Tracked w c.args.undo.now.backs q c.args.left.now c.set_day.new.world c.set_day.new.undo.backs q c.args.left.now
-        = tracks-world w c.set_day.new.world c.args.undo.now.backs c.set_day.new.undo.backs q c.args.left.now c.set_day.ensures.since c.set_day.ensures.undoable c.requires.queue_undoable in
+    = tracks-world w c.set_day.new.world c.args.undo.now.backs c.set_day.new.undo.backs q c.args.left.now c.set_day.ensures.since c.set_day.ensures.undoable c.requires.queue_undoable in
     tracks-both day c.answer.ensures.tracked
 
 pub settle-requires-clause-fit : goal.settle-requires-clause-fit
@@ -29,9 +29,9 @@ returns-in_err-placed-clause-tracked g c =
     let w = c.args.world.now in
     let q = c.args.queue.now in
     let day : Tracked w c.args.undo.now.backs q c.args.left.now c.set_day.new.world c.set_day.new.undo.backs q c.args.left.now
-        = tracks-world w c.set_day.new.world c.args.undo.now.backs c.set_day.new.undo.backs q c.args.left.now c.set_day.ensures.since c.set_day.ensures.undoable c.requires.queue_undoable in
+    = tracks-world w c.set_day.new.world c.args.undo.now.backs c.set_day.new.undo.backs q c.args.left.now c.set_day.ensures.since c.set_day.ensures.undoable c.requires.queue_undoable in
     let settled : Tracked c.answer.new.world c.answer.new.undo.backs c.answer.new.queue c.answer.new.left c.settle.new.world c.settle.new.undo.backs c.settle.new.queue c.settle.new.left
-        = record { since = c.settle.ensures.since; queue_since = c.settle.ensures.queue_since; undoable = c.settle.ensures.undoable; queue_undoable = c.settle.ensures.queue_undoable } in
+    = record { since = c.settle.ensures.since; queue_since = c.settle.ensures.queue_since; undoable = c.settle.ensures.undoable; queue_undoable = c.settle.ensures.queue_undoable } in
     tracks-both (tracks-both day c.answer.ensures.tracked) settled
 
 pub returns-clause-acted : goal.returns-clause-acted
@@ -49,7 +49,7 @@ returns-clause-tracked g c =
     let w = c.args.world.now in
     let q = c.args.queue.now in
     let day : Tracked w c.args.undo.now.backs q c.args.left.now c.set_day.new.world c.set_day.new.undo.backs q c.args.left.now
-        = tracks-world w c.set_day.new.world c.args.undo.now.backs c.set_day.new.undo.backs q c.args.left.now c.set_day.ensures.since c.set_day.ensures.undoable c.requires.queue_undoable in
+    = tracks-world w c.set_day.new.world c.args.undo.now.backs c.set_day.new.undo.backs q c.args.left.now c.set_day.ensures.since c.set_day.ensures.undoable c.requires.queue_undoable in
     let settled : Tracked c.answer.new.world c.answer.new.undo.backs c.answer.new.queue c.answer.new.left c.settle.new.world c.settle.new.undo.backs c.settle.new.queue c.settle.new.left
-        = record { since = c.settle.ensures.since; queue_since = c.settle.ensures.queue_since; undoable = c.settle.ensures.undoable; queue_undoable = c.settle.ensures.queue_undoable } in
+    = record { since = c.settle.ensures.since; queue_since = c.settle.ensures.queue_since; undoable = c.settle.ensures.undoable; queue_undoable = c.settle.ensures.queue_undoable } in
     tracks-both (tracks-both day c.answer.ensures.tracked) settled
