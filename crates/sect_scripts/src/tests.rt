@@ -1,6 +1,7 @@
 // Scripts with the replies that each line must have.
 
 mod acted;
+mod crowd;
 mod many;
 mod refused;
 mod waited;
