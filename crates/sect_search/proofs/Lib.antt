@@ -1,3 +1,4 @@
 pub mod WalkLemmas
 pub mod CoverLemmas
 pub mod NodeLemmas
+pub mod TextLemmas

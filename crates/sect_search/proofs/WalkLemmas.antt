@@ -1,13 +1,14 @@
 -- The options of a path taken in turn, with the trees of those in front.
 use Rattle.std.specs.Prelude.{◌≡◌, ℕ, zero, suc, ◌+◌, ◌-◌, ◌<◌, Bool, true, false, List, [], ◌∷◌, ◌++◌, Option, Some, None, slice_get, refl}
 use Rattle.std.proofs.Common.{sym, ◌∙◌, ap, arith, drop}
-use Rattle.sect_base.specs.Tree.{Tree}
+use Rattle.sect_base.specs.Tree.{Tree, trees_of}
 use Rattle.sect_model.specs.Data.{Choice, Move, Rule}
 use Rattle.sect_model.specs.declared.pick.Pick.{Pick}
 use Rattle.sect_model.specs.World.{World}
 use Rattle.sect_model.specs.Path.{Path, options_at, extend, is_complete}
 use Rattle.sect_model.specs.Rules.{leaf_of}
 use Rattle.sect_model.specs.Search.{Searched, found, refuted, spent, behind_tree, or_later, search_pick, search_options, search_from}
+use Rattle.sect_search.specs.Texts.{HasNumbers, HaveNumbers}
 use Rattle.sect_search.specs.Told.{with_trees, then_later}
 
 -- with nothing behind
@@ -57,6 +58,11 @@ drop-none [] zero h = refl
 drop-none [] (suc i) h = refl
 drop-none (y ∷ ys) zero h = cc
 drop-none (y ∷ ys) (suc i) h = drop-none ys i h
+
+-- one tree more behind
+pub more-numbers : (ts : List Tree) (t : Tree) → HaveNumbers (trees_of ts) → HasNumbers t → HaveNumbers (trees_of (ts ++ t ∷ []))
+more-numbers [] t h k = (k, tt)
+more-numbers (u ∷ us) t h k = (h.0, more-numbers us t h.1 k)
 
 -- below a path with some decision left
 pub search-some : (w : World) (mv : Move) (n : ℕ) (p : Path) (left : ℕ) → 0 < n → search_from w mv n p left ≡ search_options w mv (search_from w mv (n - 1)) p (options_at w mv p) left

@@ -1,3 +1,4 @@
 pub mod Told
 pub mod Refutes
 pub mod Nodes
+pub mod Texts

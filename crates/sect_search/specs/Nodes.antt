@@ -8,10 +8,12 @@ use Rattle.sect_model.specs.Outcome.{outcome_of}
 use Rattle.sect_model.specs.Premises.{WorldKeeps, MoveFits}
 
 abbrev mutual
+  -- the number of leaves and splits of a tree
   pub nodes_of : Tree → ℕ
   nodes_of (broken rule number) = 1
   nodes_of (split ts) = nodes_in ts + 1
 
+  -- the number of leaves and splits of the trees
   pub nodes_in : Trees → ℕ
   nodes_in none = 0
   nodes_in (more t ts) = nodes_of t + nodes_in ts

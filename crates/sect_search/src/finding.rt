@@ -5,6 +5,8 @@ ghost use Rattle.sect_model.specs.Outcome.{outcome_of};
 ghost use Rattle.sect_model.specs.Premises.{MoveFits};
 ghost use Rattle.sect_model.specs.Search.{search_of, searched_outcome};
 ghost use Rattle.sect_model.specs.Visits.{most_decisions};
+ghost use Rattle.sect_search.specs.Texts.{IsTold};
+ghost use Rattle.sect_search.specs.Told.{OutcomeNumbers};
 
 use crate::walk::below;
 use crate::walked::Walked;
@@ -19,7 +21,8 @@ use std::sync::ledger::Ledger;
 /// The first allowed move in the order of the options, or where there is none the tree that
 /// refutes every one, each with the number of options that were looked at; or that these are more
 /// than the budget. A move that takes nothing is found at once. Each search counts one step.
-/// Where memory runs out, nothing has changed but the count.
+/// The tree has a text: at most 36 brackets round a leaf, and no split without a tree. Where memory runs out, nothing has
+/// changed but the count.
 pub fn search<L: Ledger>(
     alloc: Global,
     world: &World,
@@ -29,6 +32,7 @@ pub fn search<L: Ledger>(
 ) -> Result<Outcome, Memory>
     requires { MoveFits world.now.world mv.now }
     ensures outcome { IfOk result (λ outcome. outcome ≡ outcome_of world.now.world mv.now budget) }
+    ensures text { IfOk result IsTold }
     ensures steps { steps.new ≡ steps.old + 1 }
 {
     steps.tick();
@@ -38,7 +42,8 @@ pub fn search<L: Ledger>(
 
 fn find(alloc: Global, world: &World, mv: &Move, budget: Budget) -> Result<Outcome, Memory>
     requires { MoveFits world.now.world mv.now }
-    ensures { IfOk result (λ outcome. outcome ≡ searched_outcome budget (search_of world.now.world mv.now budget)) }
+    ensures numbers { IfOk result OutcomeNumbers }
+    ensures found { IfOk result (λ outcome. outcome ≡ searched_outcome budget (search_of world.now.world mv.now budget)) }
 {
     let start = Path::start();
     if start.is_complete(mv) {

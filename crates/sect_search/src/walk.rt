@@ -6,7 +6,7 @@ ghost use Rattle.sect_model.specs.Path.{options_at, extend, is_complete};
 ghost use Rattle.sect_model.specs.Premises.{MoveFits};
 ghost use Rattle.sect_model.specs.Rules.{leaf_of};
 ghost use Rattle.sect_model.specs.Search.{refuted, search_pick, search_from};
-ghost use Rattle.sect_search.specs.Told.{told, seen};
+ghost use Rattle.sect_search.specs.Told.{told, seen, WalkedNumbers, SeenNumbers};
 
 use crate::walked::{Visited, Walked};
 use sect_base::{Block, Choice, Items, Memory, Move};
@@ -26,6 +26,7 @@ pub fn below(
 ) -> Result<Walked, Memory>
     requires { MoveFits world.now.world mv.now }
     ensures found { IfOk result (λ r. told r left.new ≡ search_from world.now.world mv.now decisions path.now left.old) }
+    ensures numbers { IfOk result WalkedNumbers }
     ensures less { left.new ≤ left.old }
 {
     let budget = *left;
@@ -64,6 +65,7 @@ fn visit(
     requires option { Contains (options_at world.now.world mv.now path.now) pick }
     requires some { 0 < decisions }
     ensures found { IfOk result (λ r. seen r left.new ≡ search_pick (leaf_of world.now.world mv.now path.now pick) (is_complete mv.now (extend world.now.world path.now pick)) (extend world.now.world path.now pick).done (search_from world.now.world mv.now (decisions - 1) (extend world.now.world path.now pick)) (λ left. refuted [] left) left.old) }
+    ensures numbers { IfOk result SeenNumbers }
     ensures less { left.new ≤ left.old }
 {
     if let Some((rule, number)) = broken(world, mv, path, pick) {

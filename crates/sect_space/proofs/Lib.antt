@@ -5,6 +5,7 @@ pub mod Lists
 pub mod MarkLemmas
 pub mod ReadyLemmas
 pub mod Steps
+pub mod SampleLemmas
 pub mod StudentBack
 pub mod Sums
 pub mod TakenBack

@@ -23,6 +23,7 @@ has_number day year month date =
 abbrev pub text_if : ℕ → ℕ → ℕ → ℕ → Option (List ℕ)
 text_if day year month date = if has_number day year month date then Some (date_text year month date) else None
 
+-- the text, or nothing where there is none
 abbrev pub or_nothing : Option (List ℕ) → List ℕ
 or_nothing None = []
 or_nothing (Some text) = text

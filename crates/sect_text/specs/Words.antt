@@ -35,21 +35,27 @@ abbrev pub limit_text : Limit → List ℕ
 limit_text Unlimited = dash
 limit_text (Places n) = decimal n
 
+-- the number of a course
 abbrev pub course_text : CourseId → List ℕ
 course_text id = decimal id.0
 
+-- the number of a section
 abbrev pub section_text : SectionId → List ℕ
 section_text id = decimal id.0
 
+-- the number of a reservation
 abbrev pub reservation_text : ReservationId → List ℕ
 reservation_text id = decimal id.0
 
+-- the number of a student
 abbrev pub student_text : StudentId → List ℕ
 student_text id = decimal id.0
 
+-- the number of a class
 abbrev pub class_text : ClassId → List ℕ
 class_text id = decimal id.0
 
+-- the number of a major
 abbrev pub major_text : MajorId → List ℕ
 major_text id = decimal id.0
 

@@ -3,7 +3,7 @@ use Rattle.std.specs.Prelude.{◌≡◌, ℕ, zero, suc, ◌+◌, ◌<◌, Bool,
 use Rattle.std.specs.List.{enumerate_from, cons_option}
 use Rattle.std.specs.Option.{option_or, option_map, option_map_or, is_none, option_to_list}
 use Rattle.std.specs.Bool.{then_some}
-use Rattle.std.proofs.Common.{◌≤◌, length, get_or, sym, ◌∙◌, ap, subst, arith, append_assoc}
+use Rattle.std.proofs.Common.{◌≤◌, length, get_or, sym, ◌∙◌, ap, arith, append_assoc}
 use Rattle.std.proofs.lemmas.Bool.Decides.{nat_tests}
 use Rattle.sect_base.specs.Told.{told}
 use Rattle.sect_base.specs.declared.ids.CourseId.{CourseId}
@@ -42,6 +42,7 @@ asks-few w k id = by_found (find_student w.students id) refl
     by_found : (o : Option Student) → find_student w.students id ≡ o → length (option_map_or (λ s. s.asks) o []) ≤ 20
     by_found None e = omega arith
     by_found (Some s) e = passed-few s.asks (course_ids w) (all-at (asks_pass w) w.students k.asks_pass s (find-member (λ s. s.row.id.0 == id.0) w.students s e).0)
+
 -- what a look-up lends
 pub asks-lent : (o : Option Student) (asks : List Ask) → Some asks ≡ option_map (λ s. s.asks) o → option_map_or (λ s. s.asks) o [] ≡ asks
 asks-lent None asks e = cc

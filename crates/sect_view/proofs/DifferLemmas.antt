@@ -1,18 +1,17 @@
 -- No two offerings of a checked catalogue have one id.
-use Rattle.std.specs.Prelude.{◌≡◌, ℕ, Bool, true, false, not, ◌==◌, ◌&&◌, ◌||◌, List, [], ◌∷◌, ◌++◌, map, flat_map, Option, Some, None, refl}
+use Rattle.std.specs.Prelude.{◌≡◌, ℕ, true, false, ◌==◌, List, [], ◌∷◌, ◌++◌, map, flat_map, Option, Some, None, refl}
 use Rattle.std.specs.List.{list_any}
 use Rattle.std.specs.Option.{is_none}
-use Rattle.std.proofs.Common.{sym, ◌∙◌, ap, subst, arith, append_assoc, inl}
+use Rattle.std.proofs.Common.{sym, ◌∙◌, subst, arith, append_assoc, inl}
 use Rattle.std.proofs.lemmas.Bool.Decides.{nat_tests}
 use Rattle.std.proofs.lemmas.List.{append-nil}
 use Rattle.sect_people.specs.Order.{all_differ}
 use Rattle.sect_people.proofs.PlaceLemmas.{differ-append}
 use Rattle.sect_catalog.specs.declared.row.OfferingRow.{OfferingRow}
 use Rattle.sect_catalog.specs.declared.row.CatalogFault.{CatalogFault}
-use Rattle.sect_catalog.specs.Catalogue.{Catalogue}
 use Rattle.sect_catalog.specs.Fault.{same_kind, row_ids, fault_of, are_checked, are_checked_after}
 use Rattle.sect_catalog.proofs.CheckLemmas.{map-append}
-use Rattle.sect_catalog.proofs.RemoveLemmas.{none-left, none-taken}
+use Rattle.sect_catalog.proofs.RemoveLemmas.{none-taken}
 use Rattle.sect_model.proofs.Members.{Member, both-left, both-right, not_both, neither-left, none-at, none-of, member-map, member-of_flat_map}
 
 -- the ids of offerings

@@ -1,8 +1,7 @@
 -- Rows that are looked up by their ids, one after another.
-use Rattle.std.specs.Prelude.{◌≡◌, ℕ, Bool, true, false, not, ◌==◌, nat_le, cond, List, [], ◌∷◌, ◌++◌, map, filter_map, flat_map, find, Option, Some, None, refl, ◌⊎◌}
+use Rattle.std.specs.Prelude.{◌≡◌, ℕ, Bool, true, false, not, ◌==◌, nat_le, cond, List, [], ◌∷◌, ◌++◌, map, filter_map, flat_map, find, Option, Some, refl, ◌⊎◌}
 use Rattle.std.specs.List.{list_any, cons_option}
-use Rattle.std.specs.Option.{option_map}
-use Rattle.std.proofs.Common.{sym, ◌∙◌, ap, subst, arith, inl, inr}
+use Rattle.std.proofs.Common.{◌∙◌, ap, arith, inl, inr}
 use Rattle.std.proofs.lemmas.Bool.Decides.{nat_tests}
 use Rattle.sect_people.specs.Order.{insert_by, sorted_by, all_differ}
 use Rattle.sect_model.proofs.Members.{Member, both-left, both-right, not_true, not_both, any-of, member-of_map}

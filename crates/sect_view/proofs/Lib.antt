@@ -1,5 +1,4 @@
 pub mod AskLemmas
-pub mod DeskLemmas
 pub mod DifferLemmas
 pub mod FoundLemmas
 pub mod RowLemmas

@@ -1,7 +1,7 @@
 -- What is found by the rising ids is the rows in order of id.
-use Rattle.std.specs.Prelude.{◌≡◌, ◌==◌, nat_le, List, [], map, flat_map, Option, Some, None, refl}
+use Rattle.std.specs.Prelude.{◌≡◌, ◌==◌, nat_le, [], map, flat_map, Option, Some, None, refl}
 use Rattle.std.specs.Option.{option_map, option_map_or}
-use Rattle.std.proofs.Common.{◌≤◌, sym, ◌∙◌, ap, subst}
+use Rattle.std.proofs.Common.{◌≤◌, ◌∙◌, ap, subst}
 use Rattle.sect_people.specs.Order.{sorted_by}
 use Rattle.sect_people.specs.Changes.{ids_of}
 use Rattle.sect_people.specs.Student.{Student, find_student}

@@ -1,3 +1,2 @@
-pub mod Desk
 pub mod Found
 pub mod Unmet

@@ -10,6 +10,3 @@ mod unmet;
 mod waiting;
 
 pub use look::view;
-
-#[cfg(test)]
-mod tests;

@@ -4,6 +4,7 @@ use Rattle.sect_wire.specs.declared.fault.Fault.TheVariants as faults
 use Rattle.sect_wire.specs.declared.fault.WireFault.{WireFault}
 use Rattle.sect_wire.specs.declared.fault.WireFault.TheVariants as wire
 
+-- the fault of a line whose reading stopped so
 abbrev pub line_fault : Fault → WireFault
 line_fault faults.Bad = wire.BadLine
 line_fault faults.Memory = wire.Memory

@@ -59,52 +59,67 @@ use Rattle.sect_command.specs.declared.reply.RowFault.{RowFault}
 use Rattle.sect_command.specs.declared.reply.RowFault.TheVariants as faults
 use Rattle.sect_once.specs.declared.entry.Entry.{Entry}
 
--- a number of 8, of 16, of 32 and of 64 bits
+-- a number of 8 bits
 abbrev pub Fits8 : ℕ → Type 0
 Fits8 n = n ≤ 255
 
+-- a number of 16 bits
 abbrev pub Fits16 : ℕ → Type 0
 Fits16 n = n ≤ 65535
 
+-- a number of 32 bits
 abbrev pub Fits32 : ℕ → Type 0
 Fits32 n = n ≤ 4294967295
 
+-- a number of 64 bits
 abbrev pub Fits64 : ℕ → Type 0
 Fits64 n = n ≤ 18446744073709551615
 
+-- the number of a course's id has 32 bits
 abbrev pub FitsCourse : CourseId → Type 0
 FitsCourse id = Fits32 id.0
 
+-- the number of a configuration's id has 32 bits
 abbrev pub FitsConfig : ConfigId → Type 0
 FitsConfig id = Fits32 id.0
 
+-- the number of a subpart's id has 32 bits
 abbrev pub FitsSubpart : SubpartId → Type 0
 FitsSubpart id = Fits32 id.0
 
+-- the number of a section's id has 32 bits
 abbrev pub FitsSection : SectionId → Type 0
 FitsSection id = Fits32 id.0
 
+-- the number of an offering's id has 32 bits
 abbrev pub FitsOffering : OfferingId → Type 0
 FitsOffering id = Fits32 id.0
 
+-- the number of a reservation's id has 32 bits
 abbrev pub FitsReservation : ReservationId → Type 0
 FitsReservation id = Fits32 id.0
 
+-- the number of a restriction's id has 32 bits
 abbrev pub FitsRestriction : RestrictionId → Type 0
 FitsRestriction id = Fits32 id.0
 
+-- the number of a student's id has 32 bits
 abbrev pub FitsStudent : StudentId → Type 0
 FitsStudent id = Fits32 id.0
 
+-- the number of a group's id has 32 bits
 abbrev pub FitsGroup : GroupId → Type 0
 FitsGroup id = Fits32 id.0
 
+-- the number of an area's id has 32 bits
 abbrev pub FitsArea : AreaId → Type 0
 FitsArea id = Fits32 id.0
 
+-- the number of a class's id has 32 bits
 abbrev pub FitsClass : ClassId → Type 0
 FitsClass id = Fits32 id.0
 
+-- the number of a major's id has 32 bits
 abbrev pub FitsMajor : MajorId → Type 0
 FitsMajor id = Fits32 id.0
 
@@ -121,20 +136,25 @@ abbrev pub FitsOptional : {X : Type 0} → (X → Type 0) → Option X → Type 
 FitsOptional Fits None = Unit {0}
 FitsOptional Fits (Some x) = Fits x
 
+-- a limit is unlimited, or a number of 32 bits
 abbrev pub FitsLimit : Limit → Type 0
 FitsLimit Unlimited = Unit {0}
 FitsLimit (Places n) = Fits32 n
 
+-- a registrar or a student, each with a number of 32 bits
 abbrev pub FitsCaller : Caller → Type 0
 FitsCaller (callers.Registrar n) = Fits32 n
 FitsCaller (callers.Student id) = FitsStudent id
 
+-- the caller's number has 32 bits, the request's 64
 abbrev pub FitsId : Id → Type 0
 FitsId id = FitsCaller id.caller × Fits64 id.number
 
+-- an area, a class and majors, each with a number of its size
 abbrev pub FitsCurriculum : Curriculum → Type 0
 FitsCurriculum c = FitsArea c.area × FitsClass c.class × FitsList FitsMajor c.majors
 
+-- each id that an audience names has a number of its size
 abbrev pub FitsAudience : Audience → Type 0
 FitsAudience (audiences.Students ids) = FitsList FitsStudent ids
 FitsAudience (audiences.Group id) = FitsGroup id
@@ -145,6 +165,7 @@ FitsAudience (audiences.Course id) = FitsCourse id
 abbrev pub FitsSections : List SectionId → Type 0
 FitsSections ids = (0 < length ids) × (length ids ≤ 6) × FitsList FitsSection ids
 
+-- a choice names one to six sections
 abbrev pub FitsChoice : Choice → Type 0
 FitsChoice c = FitsCourse c.course × FitsOptional FitsReservation c.reservation × FitsConfig c.config × FitsSections c.sections
 
@@ -152,12 +173,15 @@ FitsChoice c = FitsCourse c.course × FitsOptional FitsReservation c.reservation
 abbrev pub FitsTree : Tree → Type 0
 FitsTree t = HasText 36 t
 
+-- a section's id, limit, parent and meetings have texts
 abbrev pub FitsSectionRow : SectionRow → Type 0
 FitsSectionRow s = FitsSection s.id × FitsLimit s.limit × FitsOptional FitsSection s.parent × FitsList IsPattern s.meetings
 
+-- a subpart's id and its sections have texts
 abbrev pub FitsSubpartRow : SubpartRow → Type 0
 FitsSubpartRow p = FitsSubpart p.id × FitsList FitsSectionRow p.sections
 
+-- a configuration's id, limit and subparts have texts
 abbrev pub FitsConfigRow : ConfigRow → Type 0
 FitsConfigRow g = FitsConfig g.id × FitsLimit g.limit × FitsList FitsSubpartRow g.subparts
 
@@ -165,27 +189,34 @@ FitsConfigRow g = FitsConfig g.id × FitsLimit g.limit × FitsList FitsSubpartRo
 abbrev pub FitsCourseRow : CourseRow → Type 0
 FitsCourseRow c = FitsCourse c.id × FitsLimit c.limit × (c.credits ≤ 30)
 
+-- an offering's id, courses and configurations have texts
 abbrev pub FitsOfferingRow : OfferingRow → Type 0
 FitsOfferingRow o = FitsOffering o.id × FitsList FitsCourseRow o.courses × FitsList FitsConfigRow o.configs
 
+-- a student's id, maximum, groups and curricula have texts
 abbrev pub FitsStudentRow : StudentRow → Type 0
 FitsStudentRow s = FitsStudent s.id × Fits16 s.max_credits × FitsList FitsGroup s.groups × FitsList FitsCurriculum s.curricula
 
+-- the courses that a request names have texts
 abbrev pub FitsCourseAsk : CourseAsk → Type 0
 FitsCourseAsk a = FitsList FitsCourse a.courses
 
+-- a request for courses or a free time has a text
 abbrev pub FitsAsk : Ask → Type 0
 FitsAsk (asks.Course ask) = FitsCourseAsk ask
 FitsAsk (asks.Free meeting) = IsPattern meeting
 
+-- a reservation's parts have texts, each day among them
 abbrev pub FitsReserveRow : ReserveRow → Type 0
 FitsReserveRow r =
     FitsReservation r.id × FitsOffering r.offering × FitsAudience r.audience × FitsLimit r.limit × FitsOptional FitsDay r.expiry × FitsOptional FitsDay r.first
     × FitsList FitsConfig r.configs × FitsList FitsSection r.sections
 
+-- a restriction's parts have texts
 abbrev pub FitsRestrictRow : RestrictRow → Type 0
 FitsRestrictRow r = FitsRestriction r.id × FitsOffering r.offering × FitsAudience r.audience × FitsList FitsConfig r.configs × FitsList FitsSection r.sections
 
+-- the level whose limit is set has a text
 abbrev pub FitsCap : Cap → Type 0
 FitsCap (caps.Course id) = FitsCourse id
 FitsCap (caps.Config id) = FitsConfig id
@@ -218,6 +249,7 @@ FitsCommand (commands.Wait student want give class) = FitsStudent student × Fit
 FitsCommand (commands.Unwait student ticket) = FitsStudent student × Fits64 ticket
 FitsCommand (commands.Batch students) = FitsList FitsStudent students
 
+-- the number that a fault of an offering names has its size
 abbrev pub FitsCatalogFault : CatalogFault → Type 0
 FitsCatalogFault (catalog.Known n) = Fits32 n
 FitsCatalogFault catalog.NoCourse = Unit {0}
@@ -227,22 +259,26 @@ FitsCatalogFault (catalog.NoSection n) = Fits32 n
 FitsCatalogFault (catalog.BadParent n) = Fits32 n
 FitsCatalogFault (catalog.TooMany n) = Fits32 n
 
+-- the number that a fault of requests names has its size
 abbrev pub FitsRequestFault : RequestFault → Type 0
 FitsRequestFault (request.UnknownCourse n) = Fits32 n
 FitsRequestFault (request.Twice n) = Fits32 n
 FitsRequestFault (request.TooMany n) = Fits32 n
 
+-- the number that a fault of a reservation names has its size
 abbrev pub FitsReserveFault : ReserveFault → Type 0
 FitsReserveFault (reserve.Known n) = Fits32 n
 FitsReserveFault (reserve.Foreign n) = Fits32 n
 FitsReserveFault reserve.NoGroup = Unit {0}
 FitsReserveFault (reserve.TooMany n) = Fits32 n
 
+-- the fault of a row has a text
 abbrev pub FitsRowFault : RowFault → Type 0
 FitsRowFault (faults.Offering fault) = FitsCatalogFault fault
 FitsRowFault (faults.Request fault) = FitsRequestFault fault
 FitsRowFault (faults.Reserve fault) = FitsReserveFault fault
 
+-- the number that a refusal names has its size
 abbrev pub FitsRefusal : Refusal → Type 0
 FitsRefusal refusals.NotYours = Unit {0}
 FitsRefusal (refusals.Unknown n) = Fits32 n
@@ -255,6 +291,7 @@ FitsRefusal (refusals.LimitBelow n) = Fits32 n
 FitsRefusal (refusals.InUse n) = Fits32 n
 FitsRefusal (refusals.Row fault) = FitsRowFault fault
 
+-- the result of one request of a batch has a text, its tree among it
 abbrev pub FitsResult : LineResult → Type 0
 FitsResult (results.Met choice) = FitsChoice choice
 FitsResult (results.Held course) = FitsCourse course
@@ -263,9 +300,11 @@ FitsResult results.Spent = Unit {0}
 FitsResult (results.Waiting ticket) = Fits64 ticket
 FitsResult results.Skipped = Unit {0}
 
+-- a batch's line has a text
 abbrev pub FitsLine : Line → Type 0
 FitsLine l = FitsStudent l.student × Fits8 l.rank × FitsResult l.result
 
+-- a reply has a text, its tree among it
 abbrev pub FitsReply : Reply → Type 0
 FitsReply replies.Amended = Unit {0}
 FitsReply (replies.Enrolled choice) = FitsChoice choice
@@ -278,5 +317,6 @@ FitsReply (replies.Blocked visits tree) = Fits32 visits × FitsTree tree
 FitsReply (replies.Spent budget) = Fits32 budget
 FitsReply (replies.Refused refusal) = FitsRefusal refusal
 
+-- the day, the id, the command and the reply of an entry have texts
 abbrev pub FitsEntry : Entry Command Reply → Type 0
 FitsEntry e = FitsDay e.day × FitsId e.id × FitsCommand e.command × FitsReply e.reply

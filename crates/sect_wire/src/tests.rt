@@ -3,6 +3,8 @@ use super::*;
 use std::alloc::Global;
 use std::test::Fail;
 
+mod worked;
+
 // Lines as they are printed.
 const PRINTED: [&str; 32] = [
     "r1 1 offering 1 course 1 - 3 config 1 - subpart 1 section 7 1 - -",

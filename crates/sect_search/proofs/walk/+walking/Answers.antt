@@ -1,9 +1,11 @@
 -- option by option, with the trees of those in front
-use Rattle.std.proofs.Common.{◌-◌, ◌+◌, sym, ◌∙◌, arith}
+use Rattle.std.proofs.Common.{◌-◌, ◌+◌, sym, ◌∙◌, subst, arith}
 use Rattle.sect_model.specs.Path.{options_at}
 use Rattle.sect_model.specs.Search.{search_from}
-use Rattle.sect_search.specs.Told.{seen}
-use Rattle.sect_search.proofs.WalkLemmas.{search-some, from, from-spent, from-none, from-found, from-over, from-next}
+use Rattle.sect_base.specs.Tree.{trees_of}
+use Rattle.sect_search.specs.Texts.{HaveNumbers}
+use Rattle.sect_search.specs.Told.{seen, SeenNumbers}
+use Rattle.sect_search.proofs.WalkLemmas.{search-some, from, from-spent, from-none, from-found, from-over, from-next, more-numbers}
 use Rattle.sect_search.proofs.walk.+walking.Goals as goal
 
 pub below-returns-then-left-eq0-clause-found : goal.below-returns-then-left-eq0-clause-found
@@ -52,6 +54,8 @@ below-options-preserved t c =
           ∙ (λ i. from w mv rest p (options_at w mv p) (sym c.in_ok-push-in-Refuted.ensures.items i) (c.options.at + 1) c.visit.new.left);
       less = omega (arith, c.options.invariant.less, c.if-left-eq0.false, c.visit.ensures.less);
       whole = c.options.invariant.whole;
+      numbers = subst (λ trees. HaveNumbers (trees_of trees)) (sym c.in_ok-push-in-Refuted.ensures.items)
+          (more-numbers c.options.trees.items c.in-Refuted.tree c.options.invariant.numbers (subst SeenNumbers c.in-Refuted.is c.in_ok-choices.ensures.numbers));
     }
 
 pub below-returns-clause-found : goal.below-returns-clause-found

@@ -2,6 +2,8 @@
 use Rattle.std.proofs.Common.{◌≡◌, ◌+◌, ◌-◌, ◌*◌, ◌≤◌, drop}
 use Rattle.sect_model.specs.Path.{options_at}
 use Rattle.sect_model.specs.Search.{search_options, search_from}
+use Rattle.sect_base.specs.Tree.{trees_of}
+use Rattle.sect_search.specs.Texts.{HaveNumbers}
 use Rattle.sect_search.specs.Told.{with_trees}
 use Rattle.sect_search.proofs.walk.+walking.Given as goal
 
@@ -17,6 +19,7 @@ invariant-below-options l = record {
       ≡ with_trees l.trees.items (search_options l.world.world l.mv (search_from l.world.world l.mv (l.decisions - 1)) l.path (drop l.at (options_at l.world.world l.mv l.path)) l.left);
   less : l.at + l.left ≤ l.budget;
   whole : l.budget ≡ l.initial.left;
+  numbers : HaveNumbers (trees_of l.trees.items);
 }
 
 abbrev pub decreases-below-options : goal.decreases-below-options

@@ -1,5 +1,5 @@
 -- A student has at most 20 requests.
-use Rattle.std.proofs.Common.{◌≡◌, ◌≤◌, ◌∙◌, ap, subst, sym, length}
+use Rattle.std.proofs.Common.{◌≤◌, ◌∙◌, ap, subst, length}
 use Rattle.std.specs.Option.{option_map}
 use Rattle.sect_people.specs.Student.{find_student}
 use Rattle.sect_view.proofs.AskLemmas.{asks-few, asks-lent}

@@ -1,5 +1,5 @@
 -- The students in rising order of id.
-use Rattle.std.proofs.Common.{◌≡◌, ◌∙◌, ap, flat_map}
+use Rattle.std.proofs.Common.{◌∙◌, ap, flat_map}
 use Rattle.sect_command.specs.declared.view.View.TheVariants.{Unmet}
 use Rattle.sect_people.specs.Changes.{ids_of}
 use Rattle.sect_model.specs.Batch.{asks_of}
