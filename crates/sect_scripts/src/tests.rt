@@ -2,6 +2,8 @@
 
 mod acted;
 mod crowd;
+mod full;
+mod looked;
 mod many;
 mod refused;
 mod waited;
