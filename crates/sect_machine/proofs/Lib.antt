@@ -1,3 +1,4 @@
+pub mod AnsweredLemmas
 pub mod AnswerLemmas
 pub mod MoveLemmas
 pub mod PlaceLemmas

@@ -1,4 +1,5 @@
 pub mod Acting
+pub mod Answering
 pub mod Placed
 pub mod Standing
 pub mod Tracked

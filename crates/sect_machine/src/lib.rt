@@ -3,6 +3,7 @@
 
 mod act;
 mod change;
+pub mod laws;
 mod limits;
 mod lines;
 mod machine;
@@ -16,6 +17,7 @@ mod reserved;
 mod rows;
 mod state;
 mod stepping;
+mod tickets;
 mod undo;
 mod waits;
 
@@ -23,3 +25,6 @@ pub use machine::Machine;
 pub use sect_command::{Command, Query, Reply, View};
 pub use state::State;
 pub use undo::MachineUndo;
+
+#[cfg(test)]
+mod tests;

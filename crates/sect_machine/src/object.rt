@@ -66,8 +66,8 @@ impl Object for Machine {
         self.take_back(undo);
     }
 
-    fn look(&self, _query: &Query) -> Result<View, Memory> {
-        Err(Memory)
+    fn look(&self, query: &Query) -> Result<View, Memory> {
+        self.view(query)
     }
 
     fn same_command(a: &Command, b: &Command) -> bool {
