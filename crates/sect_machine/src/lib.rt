@@ -10,7 +10,6 @@ mod machine;
 mod moves;
 mod object;
 mod place;
-mod print;
 mod recheck;
 mod replies;
 mod reserved;

@@ -8,11 +8,11 @@ ghost use Rattle.sect_wire.specs.Laws.{IsRow};
 ghost use Rattle.sect_machine.specs.Standing.{state_in, Restores};
 
 use crate::machine::Machine;
-use crate::print::print_known;
 use crate::state::State;
 use crate::undo::MachineUndo;
 use sect_base::{Caller, Duplicate, Memory, Same};
 use sect_command::{Command, Query, Reply, View};
+use sect_fits::print_known;
 use sect_once::{Entry, Object};
 use sect_space::World;
 use sect_time::Day;

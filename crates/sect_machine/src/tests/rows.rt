@@ -40,7 +40,9 @@ fn a_row_is_read_again(rt: HostRuntime) -> Result<(), Fail> {
     let (mut machine, _) = after(alloc, &ONE_PLACE)?;
     let ask = read_line(alloc, b"s12 1 enrol 12 1")?;
     let row = printed(alloc, &mut machine, usual_day(), ask)?;
-    assert!(rt; row.as_slice() == b"2025-09-01 s12 1 enrol 12 1 = blocked 4 [[[[16:7]]]]");
+    assert!(rt;
+        row.as_slice() == b"2025-09-01 s12 1 enrol 12 1 = blocked 4 [[[[16:7]]]]".as_slice()
+    );
     match Machine::read_entry(alloc, row.as_slice())? {
         Some(entry) => {
             let copied = Machine::copy_reply(alloc, &entry.reply)?;
