@@ -9,5 +9,5 @@ mod has_text_rows;
 mod has_text_tree;
 mod print;
 
-pub use has_text::{HasText, has_text};
+pub use has_text::has_text as entry_has_text;
 pub use print::print_known;
