@@ -1,4 +1,6 @@
+pub mod AnsweredLemmas
 pub mod AnswerLemmas
+pub mod DoneLemmas
 pub mod MoveLemmas
 pub mod PlaceLemmas
 pub mod StepLemmas

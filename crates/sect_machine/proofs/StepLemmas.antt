@@ -1,13 +1,19 @@
 -- A step, from its parts.
-use Rattle.std.specs.Prelude.{◌≡◌, ℕ, List, Option, Some, None, Result, Ok, Err, IfOk, OnErr, refl}
+use Rattle.std.specs.Prelude.{◌≡◌, ℕ, List, Option, Some, None, Result, Ok, Err, IfOk, IsTrue, OnErr, refl}
 use Rattle.std.proofs.Common.{sym, ◌∙◌, ap, subst}
+use Rattle.std.specs.Option.{is_some}
+use Rattle.sect_base.specs.Tree.{Tree}
 use Rattle.sect_command.specs.declared.command.Command.{Command}
 use Rattle.sect_command.specs.declared.command.Command.TheVariants.{Offering, Student as student_row, Requests, Reserve, Unreserve, Expire, Restrict, Unrestrict, SetLimit, Cancel, Enrol, Drop, Swap, Wait, Unwait, Batch}
 use Rattle.sect_command.specs.declared.reply.Refusal.{Refusal}
 use Rattle.sect_command.specs.declared.reply.Reply.{Reply}
-use Rattle.sect_command.specs.declared.reply.Reply.TheVariants.{Refused}
+use Rattle.sect_command.specs.declared.reply.Reply.TheVariants.{Blocked, Refused}
 use Rattle.sect_model.specs.Data.{Caller, Move}
+use Rattle.sect_command.specs.declared.view.Query.{Query}
+use Rattle.sect_command.specs.declared.view.View.{View}
 use Rattle.sect_model.specs.declared.held.Placed.{Placed}
+use Rattle.sect_model.specs.declared.held.Waiting.{Waiting}
+use Rattle.sect_model.specs.Look.{look}
 use Rattle.sect_model.specs.World.{World, State}
 use Rattle.sect_model.specs.Accepted.{CommandFits}
 use Rattle.sect_model.specs.Premises.{MoveFits}
@@ -17,6 +23,7 @@ use Rattle.sect_model.specs.Settle.{settle}
 use Rattle.sect_model.specs.Refusals.{refusal_of}
 use Rattle.sect_model.specs.Step.{Acted, act, answered, enrol_move, on_day, refused_or, reply_after, settled_after, step}
 use Rattle.sect_model.proofs.Accepted.{accepted-fits}
+use Rattle.sect_model.proofs.RefutedLemmas.{step-refutes}
 use Rattle.sect_model.proofs.StepLemmas.{day-state, step-keeps, step-settles}
 use Rattle.sect_wait.specs.Queued.{Queued, state_of}
 use Rattle.sect_machine.specs.Standing.{IsResting}
@@ -36,12 +43,16 @@ answered-kept s t u day caller command reply k on is =
     subst KeptState (ap (λ (a : Acted). a.state) is) (answered-keeps t caller command (subst KeptState (sym on) (day-state s day k)))
 
 -- the day, the answer, and settling
-pub stepped-is : (s t u v : State) (day : ℕ) (caller : Caller) (command : Command) (reply final : Reply) (placed : List Placed) → t ≡ on_day s day → answered t caller command ≡ record { state = u; reply = reply }
-    → settle u ≡ record { state = v; placed = placed } → ((x : State) → final ≡ reply_after reply (record { state = x; placed = placed })) → step s day caller command ≡ record { state = v; reply = final }
+pub stepped-is : {E : Type 0} (s t u v : State) (day : ℕ) (caller : Caller) (command : Command) (reply : Reply) (r : Result Reply E) → t ≡ on_day s day → answered t caller command ≡ record { state = u; reply = reply }
+    → IfOk r (λ told. settled_after (record { state = u; reply = reply }) ≡ record { state = v; reply = told }) → IfOk r (λ told. step s day caller command ≡ record { state = v; reply = told })
 unfolding step
-stepped-is s t u v day caller command reply final placed on is settled last =
-    ap (λ x. settled_after (answered x caller command)) (sym on) ∙ ap settled_after is
-    ∙ ap (λ r. record { state = r.state; reply = reply_after reply r }) settled ∙ ap (λ r. record { state = v; reply = r }) (sym (last v))
+stepped-is s t u v day caller command reply (Ok told) on is settled = ap (λ x. settled_after (answered x caller command)) (sym on) ∙ ap settled_after is ∙ settled
+stepped-is s t u v day caller command reply (Err e) on is settled = tt
+
+-- settling, with the reply that it leaves
+pub settled-is : (u v : State) (reply told : Reply) (placed : List Placed) → settle u ≡ record { state = v; placed = placed } → ((x : State) → told ≡ reply_after reply (record { state = x; placed = placed }))
+    → settled_after (record { state = u; reply = reply }) ≡ record { state = v; reply = told }
+settled-is u v reply told placed is last = ap (λ r. record { state = r.state; reply = reply_after reply r }) is ∙ ap (λ x. record { state = v; reply = x }) (sym (last v))
 
 -- ---- what a step leaves
 
@@ -99,3 +110,27 @@ command-move w (Batch students) mv fits is = cc
 pub accepted-move : (s : State) (day : ℕ) (caller : Caller) (command : Command) (mv : Move) → KeptState s → refusal_of (on_day s day) caller command ≡ None → move_in command ≡ Some mv
     → MoveFits (on_day s day).world mv
 accepted-move s day caller command mv k accepted is = command-move (on_day s day).world command mv (accepted-fits (on_day s day) caller command (day-state s day k).world accepted) is
+
+-- ---- a blocked command
+
+-- a refused command isn't blocked
+refused-replies : (t : State) (caller : Caller) (command : Command) (visits : ℕ) (tree : Tree) (o : Option Refusal)
+    → (settled_after (refused_or t (λ u. act u command) o)).reply ≡ Blocked visits tree → o ≡ None
+refused-replies t caller command visits tree None h = refl
+refused-replies t caller command visits tree (Some refusal) h =
+    let is : Refused refusal ≡ Blocked visits tree = h in cc
+
+pub blocked-accepted : (s : State) (day : ℕ) (caller : Caller) (command : Command) (visits : ℕ) (tree : Tree) → (step s day caller command).reply ≡ Blocked visits tree → refusal_of (on_day s day) caller command ≡ None
+unfolding step
+blocked-accepted s day caller command visits tree h = refused-replies (on_day s day) caller command visits tree (refusal_of (on_day s day) caller command) h
+
+pub blocked-searches : (s : State) (day : ℕ) (caller : Caller) (command : Command) (visits : ℕ) (tree : Tree) → KeptState s → (step s day caller command).reply ≡ Blocked visits tree → IsTrue (is_some (move_in command))
+blocked-searches s day caller command visits tree kept h = let refuted = step-refutes s day caller command visits tree kept h in ap is_some refuted.1
+
+-- ---- a query
+
+-- a view of the world and those who wait is one of the state
+pub looks : {E : Type 0} (w : World) (q : Queued) (entries : List Waiting) (query : Query) (r : Result View E) → entries ≡ q.entries
+    → IfOk r (λ v. (next : ℕ) → v ≡ look (record { world = w; entries = entries; next = next }) query) → IfOk r (λ v. v ≡ look (state_of w q) query)
+looks w q entries query (Ok v) same is = is q.next ∙ ap (λ es. look (record { world = w; entries = es; next = q.next }) query) same
+looks w q entries query (Err e) same is = tt

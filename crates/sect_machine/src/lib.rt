@@ -3,19 +3,20 @@
 
 mod act;
 mod change;
+pub mod laws;
 mod limits;
 mod lines;
 mod machine;
 mod moves;
 mod object;
 mod place;
-mod print;
 mod recheck;
 mod replies;
 mod reserved;
 mod rows;
 mod state;
 mod stepping;
+mod tickets;
 mod undo;
 mod waits;
 
@@ -23,3 +24,6 @@ pub use machine::Machine;
 pub use sect_command::{Command, Query, Reply, View};
 pub use state::State;
 pub use undo::MachineUndo;
+
+#[cfg(test)]
+mod tests;

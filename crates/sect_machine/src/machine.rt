@@ -2,6 +2,7 @@
 
 ghost use Rattle.std.specs.Prelude.{◌≡◌, IfOk, OnErr, IsTrue};
 ghost use Rattle.sect_model.specs.Kept.{KeptState};
+ghost use Rattle.sect_model.specs.Look.{look as looked_at};
 ghost use Rattle.sect_model.specs.Settle.{is_settled};
 ghost use Rattle.sect_model.specs.Step.{step as step_of};
 ghost use Rattle.sect_machine.specs.Standing.{state_in, Restores};
@@ -10,9 +11,10 @@ ghost use Rattle.sect_model.specs.World.{State};
 use crate::stepping::step;
 use crate::undo::MachineUndo;
 use sect_base::{Caller, Memory};
-use sect_command::{Command, Reply};
+use sect_command::{Command, Query, Reply, View};
 use sect_space::World;
 use sect_time::Day;
+use sect_view::view;
 use sect_wait::Queue;
 use std::alloc::Global;
 use std::marker::Model;
@@ -68,6 +70,13 @@ impl Machine {
             caller,
             command,
         )
+    }
+
+    /// Answers a query.
+    pub(crate) fn view(&self, query: &Query) -> Result<View, Memory>
+        ensures { IfOk result (λ v. v ≡ looked_at (state_in self.now) query.now) }
+    {
+        view(self.alloc, &self.world, self.queue.entries(), query)
     }
 
     /// Takes back what a step changed. It takes no memory.

@@ -8,11 +8,11 @@ ghost use Rattle.sect_wire.specs.Laws.{IsRow};
 ghost use Rattle.sect_machine.specs.Standing.{state_in, Restores};
 
 use crate::machine::Machine;
-use crate::print::print_known;
 use crate::state::State;
 use crate::undo::MachineUndo;
 use sect_base::{Caller, Duplicate, Memory, Same};
 use sect_command::{Command, Query, Reply, View};
+use sect_fits::print_known;
 use sect_once::{Entry, Object};
 use sect_space::World;
 use sect_time::Day;
@@ -66,8 +66,8 @@ impl Object for Machine {
         self.take_back(undo);
     }
 
-    fn look(&self, _query: &Query) -> Result<View, Memory> {
-        Err(Memory)
+    fn look(&self, query: &Query) -> Result<View, Memory> {
+        self.view(query)
     }
 
     fn same_command(a: &Command, b: &Command) -> bool {

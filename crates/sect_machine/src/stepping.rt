@@ -1,8 +1,9 @@
 // One step: the day, the refusal or what the command does, and settling; all of it or nothing.
 
-ghost use Rattle.std.specs.Prelude.{◌≡◌, ◌<◌, IfOk, OnErr};
-ghost use Rattle.sect_model.specs.Kept.{KeptState};
-ghost use Rattle.sect_model.specs.Step.{answered, step as step_of};
+ghost use Rattle.std.specs.Prelude.{◌≡◌, ◌<◌, IfOk, IsTrue, OnErr};
+ghost use Rattle.std.specs.List.{list_all};
+ghost use Rattle.sect_model.specs.Kept.{KeptState, entry_fits};
+ghost use Rattle.sect_model.specs.Step.{answered, settled_after, step as step_of};
 ghost use Rattle.sect_space.specs.Undo.{Undoable};
 ghost use Rattle.sect_wait.specs.Queued.{state_of};
 ghost use Rattle.sect_wait.specs.Undo.{Undoable as QueueUndoable};
@@ -124,6 +125,25 @@ fn settled<L: Ledger>(
 {
     set_day(world, day, undo)?;
     let reply = answer(alloc, world, queue, caller, command, undo, left, steps)?;
+    place_all(alloc, world, queue, reply, undo, left, steps)
+}
+
+/// Places those who wait and can be placed, of which the reply to a wait tells. Where memory runs out, nobody is placed.
+fn place_all<L: Ledger>(
+    alloc: Global,
+    world: &mut World,
+    queue: &mut Queue,
+    reply: Reply,
+    undo: &mut Undo,
+    left: &mut QueueUndo,
+    steps: &mut Steps<L>,
+) -> Result<Reply, Memory>
+    requires fit { IsTrue (list_all (entry_fits world.old.world) queue.old.queue.entries) }
+    requires undoable { Undoable world.old undo.old.backs }
+    requires queue_undoable { QueueUndoable queue.old left.old }
+    ensures settled { IfOk result (λ told. settled_after (record { state = state_of world.old.world queue.old.queue; reply = reply }) ≡ record { state = state_of world.new.world queue.new.queue; reply = told }) }
+    ensures tracked { Tracked world.old undo.old.backs queue.old left.old world.new undo.new.backs queue.new left.new }
+{
     let placed = settle(alloc, world, queue, undo, left, steps)?;
     Ok(reply_after(reply, placed.as_slice()))
 }
