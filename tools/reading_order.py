@@ -143,7 +143,7 @@ CHAPTERS = [
      model('Script')),
     ('The first desk',
      'What the program of today does: one offering with one section, its lines, and the loop over them.',
-     ['sect_machine/specs/Texts.antt', 'sect_machine/specs/Standing.antt', 'sect_machine/specs/Replies.antt']
+     ['sect_first/specs/Texts.antt', 'sect_first/specs/Standing.antt', 'sect_first/specs/Replies.antt']
      + ['sect_app/specs/' + n + '.antt' for n in ('Lines', 'Run', 'First', 'Words', 'Help', 'Desk')]),
     ('One history',
      'A log of any object, its history, and what each answer says of it.',
@@ -181,9 +181,9 @@ SENTENCES = {
     ('sect_people/specs/Order.antt', 'insert_by'): 'an element put before the first of no smaller key',
     ('sect_people/specs/Changes.antt', 'students_by_id'): 'the students in rising order of their ids',
     ('sect_command/specs/TreeText.antt', 'HaveTexts'): 'each of the trees has a text with at most so many brackets',
-    ('sect_machine/specs/Texts.antt', 'MOST_16'): 'the highest number of 16 bits',
-    ('sect_machine/specs/Texts.antt', 'MOST_32'): 'the highest number of 32 bits',
-    ('sect_machine/specs/Texts.antt', 'MOST_64'): 'the highest number of 64 bits',
+    ('sect_first/specs/Texts.antt', 'MOST_16'): 'the highest number of 16 bits',
+    ('sect_first/specs/Texts.antt', 'MOST_32'): 'the highest number of 32 bits',
+    ('sect_first/specs/Texts.antt', 'MOST_64'): 'the highest number of 64 bits',
     (BASE + 'Padded.antt', 'no_section'): 'the section of id 0, which fills cells',
     (BASE + 'Tree.antt', 'Tree'): 'a leaf `broken` with a rule and its number, or a `split` with a tree for each option',
     (BASE + 'Tree.antt', 'Trees'): 'trees in order, `none` or `more`',

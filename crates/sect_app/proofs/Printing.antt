@@ -1,10 +1,10 @@
 -- A request that acted, and whose answer was not printed.
 use Rattle.std.proofs.Common.{◌≡◌, ℕ, List, length, refl, sym, subst, false}
-use Rattle.sect_machine.specs.declared.command.Request.{Request}
-use Rattle.sect_machine.specs.declared.reply.Reply.{Reply}
-use Rattle.sect_machine.specs.Replies.{answer_line}
-use Rattle.sect_machine.specs.Standing.{Standing, Acts}
-use Rattle.sect_machine.specs.Texts.{IsRequest}
+use Rattle.sect_first.specs.declared.command.Request.{Request}
+use Rattle.sect_first.specs.declared.reply.Reply.{Reply}
+use Rattle.sect_first.specs.Replies.{answer_line}
+use Rattle.sect_first.specs.Standing.{Standing, Acts}
+use Rattle.sect_first.specs.Texts.{IsRequest}
 use Rattle.sect_app.specs.First.{is_passed_over, AnswersFirst, AnswersText}
 
 -- the line is answered so

@@ -1,7 +1,7 @@
 -- What the desk does for its words.
 use Rattle.std.specs.Prelude.{◌≡◌, ℕ, List, take, Option}
 use Rattle.std.specs.Io.KnownBytes.{Appends}
-use Rattle.sect_machine.specs.Standing.{Standing, nothing_asked}
+use Rattle.sect_first.specs.Standing.{Standing, nothing_asked}
 use Rattle.sect_app.specs.declared.script.RunEnd.{RunEnd}
 use Rattle.sect_app.specs.declared.script.RunEnd.TheVariants as ends
 use Rattle.sect_app.specs.declared.status.Status.{Status}

@@ -1,10 +1,10 @@
 -- How a desk with one section answers a line.
 use Rattle.std.specs.Prelude.{◌≡◌, ℕ, List, [], ◌∷◌, length, Bool, true, false, ◌==◌}
-use Rattle.sect_machine.specs.declared.command.Request.{Request}
-use Rattle.sect_machine.specs.declared.reply.Reply.{Reply}
-use Rattle.sect_machine.specs.Replies.{answer_line}
-use Rattle.sect_machine.specs.Standing.{Standing, Acts}
-use Rattle.sect_machine.specs.Texts.{IsRequest}
+use Rattle.sect_first.specs.declared.command.Request.{Request}
+use Rattle.sect_first.specs.declared.reply.Reply.{Reply}
+use Rattle.sect_first.specs.Replies.{answer_line}
+use Rattle.sect_first.specs.Standing.{Standing, Acts}
+use Rattle.sect_first.specs.Texts.{IsRequest}
 
 -- an empty line, or one that begins with `#`
 abbrev pub is_passed_over : List ℕ → Bool

@@ -1,13 +1,13 @@
 // Answers the lines of the first form.
 ghost use Rattle.std.specs.Prelude.{◌≡◌, ℕ, List, [], false, OnOk, IsErrOf};
-ghost use Rattle.sect_machine.specs.Standing.{Standing, nothing_asked};
+ghost use Rattle.sect_first.specs.Standing.{Standing, nothing_asked};
 ghost use Rattle.sect_app.specs.declared.script.LineFault.TheVariants as faults;
 ghost use Rattle.sect_app.specs.First.{is_passed_over, AnswersFirst};
 ghost use Rattle.sect_app.specs.Run.{MayAnswer};
 
 use crate::script::{Handler, LineFault};
 use sect_base::Memory;
-use sect_machine::{Fault, Machine, print_answer, read_request};
+use sect_first::{Fault, Machine, print_answer, read_request};
 use std::alloc::Global;
 use std::marker::Model;
 
@@ -18,7 +18,7 @@ pub struct FirstDesk {
 }
 
 impl Model for FirstDesk {
-    ghost use Rattle.sect_machine.specs.Standing.{Standing};
+    ghost use Rattle.sect_first.specs.Standing.{Standing};
 
     ghost Value = { Standing };
 

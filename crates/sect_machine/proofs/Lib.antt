@@ -1,5 +1,7 @@
-pub mod Commands
-pub mod Index
-pub mod Lines
-pub mod Numbers
-pub mod Rising
+pub mod AnsweredLemmas
+pub mod AnswerLemmas
+pub mod DoneLemmas
+pub mod MoveLemmas
+pub mod PlaceLemmas
+pub mod StepLemmas
+pub mod TrackLemmas

@@ -1,4 +1,6 @@
-pub mod Machine
-pub mod Replies
+pub mod Acting
+pub mod Answering
+pub mod NotDone
+pub mod Placed
 pub mod Standing
-pub mod Texts
+pub mod Tracked

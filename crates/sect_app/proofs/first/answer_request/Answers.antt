@@ -1,5 +1,5 @@
 use Rattle.std.proofs.Common.{inr, length}
-use Rattle.sect_machine.specs.Replies.{answer_line}
+use Rattle.sect_first.specs.Replies.{answer_line}
 use Rattle.sect_app.proofs.Printing.{answers_so}
 use Rattle.sect_app.proofs.first.answer_request.Goals as goal
 

@@ -1,0 +1,5 @@
+pub mod Commands
+pub mod Index
+pub mod Lines
+pub mod Numbers
+pub mod Rising

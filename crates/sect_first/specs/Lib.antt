@@ -1,0 +1,4 @@
+pub mod Machine
+pub mod Replies
+pub mod Standing
+pub mod Texts

@@ -1,0 +1,47 @@
+// A machine is asked lines, and its replies are compared with texts.
+
+use sect_base::Memory;
+use sect_machine::Machine;
+use sect_once::Object;
+use sect_text::print_reply;
+use sect_time::{Day, read_day};
+use sect_wire::{LineAsk, WireFault, read_line};
+use std::alloc::Global;
+
+/// The day of lines that name none.
+fn usual_day() -> Option<Day> {
+    read_day(b"2025-09-01").ok()
+}
+
+/// The text of the reply to a request, and of that to the same request again after the first was taken back.
+pub fn replied(
+    alloc: Global,
+    machine: &mut Machine,
+    ask: &LineAsk,
+) -> Result<(Vec<u8>, Vec<u8>), Memory> {
+    let mut first = Vec::new(alloc);
+    let mut again = Vec::new(alloc);
+    if let Some(day) = ask.day.or(usual_day()) {
+        let (reply, undo) = machine.step(day, ask.id.caller, &ask.command)?;
+        print_reply(&reply, &mut first)?;
+        machine.undo(undo);
+        let (reply, _) = machine.step(day, ask.id.caller, &ask.command)?;
+        print_reply(&reply, &mut again)?;
+    }
+    Ok((first, again))
+}
+
+/// The first line that isn't answered by the text beside it, counted from 0. Each line acts twice: once it is taken back.
+pub fn first_other(alloc: Global, rows: &[(&str, &str)]) -> Result<Option<usize>, WireFault> {
+    let mut machine = Machine::empty(alloc);
+    for (place, (line, text)) in rows.iter().enumerate() {
+        let ask = read_line(alloc, line.as_bytes())?;
+        let Ok((first, again)) = replied(alloc, &mut machine, &ask) else {
+            return Err(WireFault::Memory);
+        };
+        if first.as_slice() != text.as_bytes() || again.as_slice() != text.as_bytes() {
+            return Ok(Some(place));
+        }
+    }
+    Ok(None)
+}
