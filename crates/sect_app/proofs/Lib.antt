@@ -1,6 +1,7 @@
+pub mod Asking
 pub mod Gathered
+pub mod Grows
 pub mod LinesOf
-pub mod Printing
 pub mod Ready
 pub mod Steps
 pub mod Writes

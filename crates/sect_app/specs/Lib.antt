@@ -1,5 +1,6 @@
+pub mod AnswerLines
+pub mod Asks
 pub mod Desk
-pub mod First
 pub mod Help
 pub mod Lines
 pub mod Progress

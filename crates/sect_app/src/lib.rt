@@ -1,21 +1,20 @@
 //! Every command of the desk: its words, its loop over the input and its status.
 #![tactic(auto)]
 
-mod first;
+mod answer;
+mod asker;
 mod help;
+mod over;
 mod reader;
+mod run;
 mod script;
 mod status;
-mod top;
 mod words;
 mod write;
 
 pub use reader::{LineEnd, LineError, LineReader};
 pub use script::{Handler, LineFault, RunEnd, run_lines};
 pub use status::Status;
-pub use top::desk;
+pub use over::{desk_over, first_of};
 pub use words::{Words, read_words};
 pub use write::write_all;
-
-#[cfg(test)]
-mod tests;
