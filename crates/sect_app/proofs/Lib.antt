@@ -1,5 +1,6 @@
 pub mod Asking
 pub mod Gathered
+pub mod Good
 pub mod Grows
 pub mod LinesOf
 pub mod Ready

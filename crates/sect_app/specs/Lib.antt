@@ -3,6 +3,7 @@ pub mod Asks
 pub mod Desk
 pub mod Help
 pub mod Lines
+pub mod Machine
 pub mod Progress
 pub mod Reading
 pub mod Run

@@ -11,7 +11,7 @@ use sect_once::Answer;
 use sect_wire::print_reply;
 
 /// Appends the line that answers a request. After `Memory` a part of it may stand at the end.
-pub fn print_answer(answer: &Answer<Reply>, into: &mut Vec<u8>) -> Result<(), Memory>
+pub(crate) fn print_answer(answer: &Answer<Reply>, into: &mut Vec<u8>) -> Result<(), Memory>
     ensures { OnOk result (into.new.items ≡ into.old.items ++ answer_line answer.now) }
 {
     match answer {

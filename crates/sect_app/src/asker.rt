@@ -19,7 +19,7 @@ use std::marker::Model;
 
 /// A desk whose requests come in lines, and the clock that gives the day of those that name none.
 #[derive(Drop)]
-pub struct Asker<O: Object, K: Keeper, C: Clock> {
+pub(crate) struct Asker<O: Object, K: Keeper, C: Clock> {
     desk: Desk<O, K>,
     clock: C,
 }
@@ -38,7 +38,7 @@ impl<O: Object, K: Keeper, C: Clock> Model for Asker<O, K, C> {
 
 impl<O: Object, K: Keeper, C: Clock> Asker<O, K, C> {
     /// The desk, of which nothing was asked in lines yet.
-    pub fn new(desk: Desk<O, K>, clock: C) -> Self
+    pub(crate) fn new(desk: Desk<O, K>, clock: C) -> Self
         requires { IsSound O.stepped O.is_row K.rows K.faults O.start desk }
         ensures { result ≡ record { desk = desk; days = C.days clock } }
     {
@@ -46,7 +46,7 @@ impl<O: Object, K: Keeper, C: Clock> Asker<O, K, C> {
     }
 
     /// The keeper, with the rows that it has.
-    pub fn close(self) -> K
+    pub(crate) fn close(self) -> K
     where
         O: Drop,
         C: Drop,

@@ -9,12 +9,13 @@ mod reader;
 mod run;
 mod script;
 mod status;
+mod top;
 mod words;
 mod write;
 
 pub use reader::{LineEnd, LineError, LineReader};
 pub use script::{Handler, LineFault, RunEnd, run_lines};
 pub use status::Status;
-pub use over::{desk_over, first_of};
+pub use top::desk;
 pub use words::{Words, read_words};
 pub use write::write_all;

@@ -20,7 +20,7 @@ use sect_once::Object;
 use std::alloc::Global;
 
 /// Does what the words ask for. The keeper comes back.
-pub fn desk_over<
+pub(crate) fn desk_over<
     O: Object<Command = Command, Reply = Reply>,
     S: Source,
     T: Sink,
@@ -59,7 +59,7 @@ where
 }
 
 /// The first of the clocks.
-pub fn first_of<C: Clock + Drop>(clocks: Vec<C>) -> C
+pub(crate) fn first_of<C: Clock + Drop>(clocks: Vec<C>) -> C
     requires { 0 < length clocks.items }
     ensures { C.days result ≡ first_days C.days clocks.items }
 {

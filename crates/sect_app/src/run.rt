@@ -17,7 +17,7 @@ use sect_once::{Desk, Object, OpenFault};
 use std::alloc::Global;
 
 /// Answers the lines of the source into the sink, over the history of the keeper's rows. The keeper comes back.
-pub fn run<O: Object<Command = Command, Reply = Reply>, S: Source, T: Sink, K: Keeper, C: Clock>(
+pub(crate) fn run<O: Object<Command = Command, Reply = Reply>, S: Source, T: Sink, K: Keeper, C: Clock>(
     alloc: Global,
     source: &mut S,
     sink: &mut T,

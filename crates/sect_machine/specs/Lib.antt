@@ -1,4 +1,1 @@
-pub mod Machine
-pub mod Replies
 pub mod Standing
-pub mod Texts

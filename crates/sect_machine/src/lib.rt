@@ -1,18 +1,13 @@
-//! The first desk: one section, the students who may enrol in it, and the lines that it reads and answers.
+// The sectioning machine: a command acts on a day, and the waiting list settles.
 #![tactic(auto)]
 
-mod command;
-mod fault;
-mod line;
 mod machine;
-mod number;
-mod reply;
-mod requests;
-mod students;
+mod object;
+mod recheck;
+mod state;
+mod undo;
 
-pub use command::{Command, Enrolment, Offering, Request, Student};
-pub use fault::Fault;
-pub use line::read_request;
 pub use machine::Machine;
-pub use reply::{Reply, Seat, print_answer};
-pub use students::Row;
+pub use sect_command::{Command, Query, Reply, View};
+pub use state::State;
+pub use undo::MachineUndo;

@@ -1,0 +1,42 @@
+-- The machine's history is good throughout.
+use Rattle.std.proofs.Common.{◌≡◌, ◌⊎◌, ℕ, List, [], ◌∷◌, ◌++◌, refl, sym, ap, subst, inl, inr, Option}
+use Rattle.sect_command.specs.declared.command.Command.{Command}
+use Rattle.sect_command.specs.declared.reply.Reply.{Reply}
+use Rattle.sect_model.specs.GoodWorld.{GoodWorld}
+use Rattle.sect_model.specs.History.{replay_from, Entry as Event}
+use Rattle.sect_model.specs.Laws.{HistoryIsGood}
+use Rattle.sect_model.specs.World.{State, empty_state}
+use Rattle.sect_once.specs.declared.entry.Entry.{Entry}
+use Rattle.sect_once.specs.History.{history, state_after}
+use Rattle.sect_wire.specs.Laws.{IsRow}
+use Rattle.sect_app.specs.declared.status.Status.{Status}
+use Rattle.sect_app.specs.declared.words.Words.{Words}
+use Rattle.sect_app.specs.declared.words.Words.TheVariants as asked
+use Rattle.sect_app.specs.Desk.{Does, Runs, RunsLines}
+use Rattle.sect_app.specs.Machine.{DeskDoes, IsGoodThroughout, state_of, stepped}
+
+event : Entry Command Reply → Event
+event e = record { id = e.id; day = e.day; command = e.command; reply = e.reply }
+
+events : List (Entry Command Reply) → List Event
+events [] = []
+events (e ∷ es) = event e ∷ events es
+
+same_replay : (s : State) (es : List (Entry Command Reply)) → replay_from s (events es) ≡ state_after stepped s es
+unfolding event, events
+same_replay s [] = refl
+same_replay s (e ∷ es) = same_replay (stepped s e.day e.id.caller e.command).0 es
+
+good_throughout : HistoryIsGood → (es : List (Entry Command Reply)) → IsGoodThroughout es
+good_throughout good es front rest is = subst (λ (s : State). GoodWorld s.world) (same_replay empty_state front) (good (events front))
+
+pub desk_does : {K : Type 0} (rows : K → Option (List (List ℕ))) (faults : K → ℕ) (asked : Words) (keeper back : K)
+    (left left' taken taken' days : Option (List ℕ)) (status : Status) → HistoryIsGood
+    → Does empty_state stepped IsRow rows faults asked keeper back left left' taken taken' days status
+    → DeskDoes rows faults asked keeper back left left' taken taken' days status
+desk_does rows faults asked.Run keeper back left left' taken taken' days status good (inl runs) =
+    inl (record { runs = runs; good = good_throughout good (history runs.last.desk.log) })
+desk_does rows faults asked.Run keeper back left left' taken taken' days status good (inr shut) = inr shut
+desk_does rows faults asked.RunHelp keeper back left left' taken taken' days status good does = does
+desk_does rows faults asked.Help keeper back left left' taken taken' days status good does = does
+desk_does rows faults asked.Version keeper back left left' taken taken' days status good does = does

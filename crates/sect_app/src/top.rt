@@ -1,0 +1,62 @@
+// The top call: what the program does.
+ghost use Rattle.std.specs.Prelude.{◌≡◌, ◌≢◌, ◌↔◌, ◌<◌, ℕ, List, Some, IfSome, IsSome, length, map};
+ghost use Rattle.std.specs.String.{string_bytes};
+ghost use Rattle.std.specs.Io.KnownBytes.{IsAtEnd};
+ghost use Rattle.sect_edge.specs.Causes.{Rose};
+ghost use Rattle.sect_app.specs.declared.status.Status.{Status};
+ghost use Rattle.sect_app.specs.declared.words.Words.{Words};
+ghost use Rattle.sect_app.specs.Desk.{first_days};
+ghost use Rattle.sect_app.specs.Machine.{DeskDoes};
+ghost use Rattle.sect_app.specs.Words.{word_list};
+
+use crate::over::{desk_over, first_of};
+use crate::status::Status;
+use sect_edge::{Clock, Gate, Keeper, Link, Sink, Source};
+use sect_machine::Machine;
+use sect_model::laws::steps_keep_the_world;
+use std::alloc::AllocGlobal;
+
+/// Does what the words ask for, and tells how it ended. The words are the command line without the
+/// program's name. There is a clock at least. The keeper and the links come back.
+pub fn desk<R: AllocGlobal, S: Source, T: Sink, L: Link, K: Keeper, C: Clock + Drop, G: Gate>(
+    rt: &R,
+    words: &[String],
+    source: &mut S,
+    sink: &mut T,
+    links: Vec<L>,
+    keeper: K,
+    clocks: Vec<C>,
+    gate: &G,
+) -> (Status, Option<K>, Vec<L>)
+    requires { 0 < length clocks.items }
+
+    // The words.
+    ensures bad_words { (result.0 ≡ Status.BadWords) ↔ ((asked : Words) → map string_bytes words.now ≡ word_list asked → ⊥) }
+    ensures untouched { result.0 ≡ Status.BadWords → (source.new ≡ source.old) × (sink.new ≡ sink.old) × (result.1 ≡ Some keeper) }
+    ensures does { (asked : Words) → map string_bytes words.now ≡ word_list asked
+        → IfSome result.1 (λ back. DeskDoes K.rows K.faults asked keeper back
+        (S.left source.old) (S.left source.new) (T.taken sink.old) (T.taken sink.new) (first_days C.days clocks.items) result.0) }
+    ensures unread { (map string_bytes words.now ≡ word_list Words.Run → ⊥) → source.new ≡ source.old }
+    ensures end { map string_bytes words.now ≡ word_list Words.Run → result.0 ≡ Status.Done → IsAtEnd (S.left source.new) }
+
+    // Where the keeper doesn't open, nothing is read or written.
+    ensures shut { result.0 ≡ Status.KeeperFault → (source.new ≡ source.old) × (sink.new ≡ sink.old) }
+    ensures bad_entry { (row : ℕ) → result.0 ≡ Status.BadEntry row → (source.new ≡ source.old) × (sink.new ≡ sink.old) }
+
+    // A fault is told only where that very object counted one in this call, so where none did, the status is Done, BadWords,
+    // BadLine, BadEntry or Memory.
+    ensures read_fault { result.0 ≡ Status.ReadFault → Rose (S.faults source.old) (S.faults source.new) }
+    ensures write_fault { result.0 ≡ Status.WriteFault → Rose (T.faults sink.old) (T.faults sink.new) }
+    ensures keeper_fault { result.0 ≡ Status.KeeperFault → IfSome result.1 (λ back. Rose (K.faults keeper) (K.faults back)) }
+    ensures link_fault { result.0 ≢ Status.LinkFault }
+
+    ensures back { IsSome result.1 }
+    ensures links { result.2 ≡ links }
+{
+    let _ = gate;
+    steps_keep_the_world();
+    let clock = first_of(clocks);
+    let (status, keeper) =
+        desk_over::<Machine, S, T, K, C>(rt.alloc(), words, source, sink, keeper, clock);
+    (status, Some(keeper), links)
+}

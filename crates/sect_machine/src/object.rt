@@ -1,0 +1,97 @@
+// The machine as an object whose commands act one at a time.
+
+ghost use Rattle.std.specs.Prelude.{◌≡◌};
+ghost use Rattle.sect_model.specs.World.{empty_state};
+ghost use Rattle.sect_model.specs.Look.{look as looked_at};
+ghost use Rattle.sect_model.specs.Step.{step as step_of};
+ghost use Rattle.sect_wire.specs.Laws.{IsRow};
+ghost use Rattle.sect_machine.specs.Standing.{state_in, Restores};
+
+use crate::machine::Machine;
+use crate::state::State;
+use crate::undo::MachineUndo;
+use sect_base::{Caller, Duplicate, Memory, Same};
+use sect_command::{Command, Query, Reply, View};
+use sect_once::{Entry, Object};
+use sect_space::World;
+use sect_time::Day;
+use sect_wait::Queue;
+use sect_wire::read_row;
+use std::alloc::Global;
+
+impl Object for Machine {
+    type State = State;
+
+    type Command = Command;
+
+    type Reply = Reply;
+
+    type Undo = MachineUndo;
+
+    type Query = Query;
+
+    type View = View;
+
+    ghost state = { state_in };
+
+    ghost start = { empty_state };
+
+    ghost stepped = { λ s day caller command. ((step_of s day caller command).state, (step_of s day caller command).reply) };
+
+    ghost restores = { Restores };
+
+    ghost looked = { looked_at };
+
+    ghost is_row = { IsRow };
+
+    fn empty(alloc: Global) -> Self {
+        Machine {
+            alloc,
+            world: World::empty(alloc),
+            queue: Queue::empty(alloc),
+        }
+    }
+
+    fn step(
+        &mut self,
+        _day: Day,
+        _caller: Caller,
+        _command: &Command,
+    ) -> Result<(Reply, MachineUndo), Memory> {
+        Err(Memory)
+    }
+
+    fn undo(&mut self, undo: MachineUndo) {
+        self.take_back(undo);
+    }
+
+    fn look(&self, _query: &Query) -> Result<View, Memory> {
+        Err(Memory)
+    }
+
+    fn same_command(a: &Command, b: &Command) -> bool {
+        a.same(b)
+    }
+
+    fn same_reply(a: &Reply, b: &Reply) -> bool {
+        a.same(b)
+    }
+
+    fn copy_reply(alloc: Global, reply: &Reply) -> Result<Reply, Memory> {
+        reply.copy(alloc)
+    }
+
+    fn print_entry(_entry: &Entry<Command, Reply>, _into: &mut Vec<u8>) -> Result<(), Memory> {
+        Err(Memory)
+    }
+
+    fn read_entry(alloc: Global, row: &[u8]) -> Result<Option<Entry<Command, Reply>>, Memory> {
+        read_row(alloc, row)
+    }
+
+    ghost use Rattle.sect_wire.proofs.TextLaws.{one_row as row_is_one, one_entry as entry_is_one};
+
+    ghost one_row = { row_is_one };
+
+    ghost one_entry = { entry_is_one };
+}
