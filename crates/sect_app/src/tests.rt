@@ -146,3 +146,153 @@ fn clocks(alloc: Global) -> Result<Vec<MemClock>, Fail> {
 fn numbers(alloc: Global, number: u64) -> Result<Vec<u64>, Fail> {
     Ok(vec![in alloc; number]?)
 }
+
+// Calls the desk over objects in memory, with a sink that takes a byte at a time.
+fn answer(
+    rt: &HostRuntime,
+    words: &[&str],
+    case: &Case,
+) -> Result<(Status, MemSink, MemKeeper), Fail> {
+    let alloc = rt.alloc();
+    let mut owned = Vec::new(alloc);
+    for word in words {
+        owned.push(word.to_string(alloc)?)?;
+    }
+    let mut source = MemSource::new(
+        case.input.to_vec(alloc)?,
+        case.piece.max(1),
+        numbers(alloc, case.failing_read)?,
+    );
+    let Ok(mut sink) = MemSink::new(alloc, 4_000, 1, numbers(alloc, case.failing_write)?) else {
+        return Err(Fail::from("no memory"));
+    };
+    let keeper = keeper_of(alloc, case.rows, case.failing_append)?;
+    let links: Vec<MemLink> = Vec::new(alloc);
+    let clocks = clocks(alloc)?;
+    let (status, keeper, _links) = desk(
+        rt,
+        &owned,
+        &mut source,
+        &mut sink,
+        links,
+        keeper,
+        clocks,
+        &OpenGate,
+    );
+    match keeper {
+        Some(keeper) => Ok((status, sink, keeper)),
+        None => Err(Fail::from("no keeper")),
+    }
+}
+
+// Runs the scripts, each on a desk of its own.
+fn run_all(rt: &HostRuntime, scripts: &[&Script]) -> Result<(), Fail> {
+    for script in scripts {
+        let case = Case {
+            input: script.lines,
+            output: script.answers,
+            ..ALL
+        };
+        let (status, sink, _keeper) = answer(rt, &["run"], &case)?;
+        assert_eq!(rt; status, Status::Done);
+        assert_eq!(rt; sink.bytes(), script.answers);
+    }
+    Ok(())
+}
+
+#[test]
+fn runs_end_as_they_should(rt: HostRuntime) -> Result<(), Fail> {
+    for case in &CASES {
+        let (status, sink, _keeper) = answer(&rt, &["run"], case)?;
+        assert_eq!(rt; status, case.status);
+        assert_eq!(rt; sink.bytes(), case.output);
+    }
+    Ok(())
+}
+
+#[test]
+fn rows_have_the_days_of_the_clock(rt: HostRuntime) -> Result<(), Fail> {
+    let case = Case {
+        input: b"r1 1 student 11 max 18\n@2025-10-01 r1 2 student 12 max 18\nr1 1 student 11 max 18\nr1 3 student 13 max 18\n",
+        output: b"0 amended\n1 amended\n0 amended\n2 amended\n",
+        ..ALL
+    };
+    let (status, sink, keeper) = answer(&rt, &["run"], &case)?;
+    assert_eq!(rt; status, Status::Done);
+    assert_eq!(rt; sink.bytes(), case.output);
+    let rows = keeper.rows();
+    assert_eq!(rt; rows.len(), 3);
+    assert_eq!(rt; rows[0].as_slice(), b"2025-09-01 r1 1 student 11 max 18 = amended".as_slice());
+    assert_eq!(rt; rows[1].as_slice(), b"2025-10-01 r1 2 student 12 max 18 = amended".as_slice());
+    assert_eq!(rt; rows[2].as_slice(), b"2025-09-02 r1 3 student 13 max 18 = amended".as_slice());
+    Ok(())
+}
+
+#[test]
+fn places_are_found_or_refused(rt: HostRuntime) -> Result<(), Fail> {
+    run_all(
+        &rt,
+        &[
+            &scripts::FIRST_TO_FIFTH,
+            &scripts::TOUCHING,
+            &scripts::PARENTS,
+            &scripts::PARENTS_FULL,
+            &scripts::SPENT,
+            &scripts::ENOUGH,
+            &scripts::ORDINARY,
+        ],
+    )
+}
+
+#[test]
+fn reservations_and_permissions(rt: HostRuntime) -> Result<(), Fail> {
+    run_all(
+        &rt,
+        &[
+            &scripts::RESERVED,
+            &scripts::EXPIRED,
+            &scripts::OVER,
+            &scripts::OVERLAP,
+            &scripts::RESTRICTED,
+        ],
+    )
+}
+
+#[test]
+fn swaps_waits_and_batches(rt: HostRuntime) -> Result<(), Fail> {
+    run_all(
+        &rt,
+        &[
+            &scripts::SWAP,
+            &scripts::SWAP_BLOCKED,
+            &scripts::WAITING,
+            &scripts::WAITING_IN_ORDER,
+            &scripts::BATCH,
+            &scripts::BATCH_WAITING,
+        ],
+    )
+}
+
+#[test]
+fn bounds_and_refusals(rt: HostRuntime) -> Result<(), Fail> {
+    run_all(
+        &rt,
+        &[
+            &scripts::FREE_TIME,
+            &scripts::REFUSALS,
+            &scripts::CREDITS,
+            &scripts::CREDITS_HELD,
+        ],
+    )
+}
+
+#[test]
+fn words_are_read_exactly(rt: HostRuntime) -> Result<(), Fail> {
+    let (status, sink, _keeper) = answer(&rt, &["run", "extra"], &ALL)?;
+    assert_eq!(rt; status, Status::BadWords);
+    assert_eq!(rt; sink.bytes(), b"".as_slice());
+    let (status, sink, _keeper) = answer(&rt, &["--version"], &ALL)?;
+    assert_eq!(rt; status, Status::Done);
+    assert_eq!(rt; sink.bytes(), b"desk 0.1.0\n".as_slice());
+    Ok(())
+}
