@@ -1,4 +1,5 @@
 pub mod Asking
+pub mod Audits
 pub mod Gathered
 pub mod Good
 pub mod Grows

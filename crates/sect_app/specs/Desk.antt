@@ -18,10 +18,7 @@ use Rattle.sect_app.specs.declared.script.RunEnd.{RunEnd}
 use Rattle.sect_app.specs.declared.script.RunEnd.TheVariants as ends
 use Rattle.sect_app.specs.declared.status.Status.{Status}
 use Rattle.sect_app.specs.declared.status.Status.TheVariants as statuses
-use Rattle.sect_app.specs.declared.words.Words.{Words}
-use Rattle.sect_app.specs.declared.words.Words.TheVariants as asked
 use Rattle.sect_app.specs.Asks.{AnswersScript, IsKnown, Sitting}
-use Rattle.sect_app.specs.Help.{help_text}
 use Rattle.sect_app.specs.Run.{Ran}
 
 -- the status of a run that ended so
@@ -94,11 +91,3 @@ Says text taken taken' _ = ⊥
 abbrev pub first_days : {C : Type 0} → (C → Option (List ℕ)) → List C → Option (List ℕ)
 first_days days [] = None
 first_days days (clock ∷ clocks) = days clock
-
-module _ {O K : Type 0} (start : O) (stepped : O → ℕ → Caller → Command → O × Reply) (is_row : Entry Command Reply → List ℕ → Type 0) (rows : K → Option (List (List ℕ))) (faults : K → ℕ) where
-  -- what was done for these words
-  abbrev pub Does : Words → K → K → Option (List ℕ) → Option (List ℕ) → Option (List ℕ) → Option (List ℕ) → Option (List ℕ) → Status → Type 0
-  Does asked.Run keeper back left left' taken taken' days status = Runs start stepped is_row rows faults keeper back left left' taken taken' days status
-  Does asked.RunHelp keeper back left left' taken taken' days status = Says (help_text asked.RunHelp) taken taken' status × (back ≡ keeper)
-  Does asked.Help keeper back left left' taken taken' days status = Says (help_text asked.Help) taken taken' status × (back ≡ keeper)
-  Does asked.Version keeper back left left' taken taken' days status = Says (help_text asked.Version) taken taken' status × (back ≡ keeper)

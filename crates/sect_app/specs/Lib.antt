@@ -1,5 +1,7 @@
 pub mod AnswerLines
 pub mod Asks
+pub mod Audit
+pub mod Audited
 pub mod Desk
 pub mod Help
 pub mod Lines
@@ -7,4 +9,5 @@ pub mod Machine
 pub mod Progress
 pub mod Reading
 pub mod Run
+pub mod Step
 pub mod Words

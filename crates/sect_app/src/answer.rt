@@ -46,7 +46,7 @@ fn print_reused(place: u32, into: &mut Vec<u8>) -> Result<(), Memory>
 }
 
 // Appends a number in digits.
-fn print_number(number: u32, into: &mut Vec<u8>) -> Result<(), Memory>
+pub(crate) fn print_number(number: u32, into: &mut Vec<u8>) -> Result<(), Memory>
     ensures { OnOk result (into.new.items ≡ into.old.items ++ decimal number) }
 {
     into.extend_from_slice(Buffer::new().format(number).as_bytes())?;

@@ -3,6 +3,7 @@
 
 mod answer;
 mod asker;
+mod audit;
 mod help;
 mod over;
 mod reader;

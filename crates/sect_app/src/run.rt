@@ -88,7 +88,7 @@ fn status_of(end: RunEnd) -> Status
 }
 
 // The status where the keeper didn't open.
-fn shut_status(fault: OpenFault) -> Status
+pub(crate) fn shut_status(fault: OpenFault) -> Status
     ensures { result ≡ shut_status fault }
 {
     match fault {

@@ -27,8 +27,7 @@ const OTHER_STUDENT_ROW: &[u8] = b"2025-09-01 r1 3 student 12 max 18 = amended";
 
 const REFUSED_ROW: &[u8] = b"2025-09-01 r1 3 student 12 max 18 = refused NotYours";
 
-const FIRST_DAY: i32 = 20_332;
-
+#[derive(Drop)]
 struct Case {
     input: &'static [u8],
     piece: usize,
@@ -118,9 +117,17 @@ s11 1 enrol 11 1\n",
     },
 ];
 
-// The day with this number.
-fn day(number: i32) -> Day {
-    match Day::new(number) {
+// The first day of the clock.
+fn first_day() -> Day {
+    match Day::new(20_332) {
+        Some(day) => day,
+        None => unreachable!(),
+    }
+}
+
+// The day after it.
+fn next_day() -> Day {
+    match Day::new(20_333) {
         Some(day) => day,
         None => unreachable!(),
     }
@@ -135,11 +142,11 @@ fn keeper_of(alloc: Global, rows: &[&[u8]], failing: u64) -> Result<MemKeeper, F
     Ok(MemKeeper::new(owned, numbers(alloc, failing)?))
 }
 
-// The clocks of a desk that is used on the first day and two later ones.
+// The clocks of a desk that is used on the first day and a later one.
 fn clocks(alloc: Global) -> Result<Vec<MemClock>, Fail> {
-    let later = vec![in alloc; day(FIRST_DAY + 1)]?;
+    let later = vec![in alloc; next_day()]?;
     let mut clocks = Vec::new(alloc);
-    clocks.push(MemClock::new(day(FIRST_DAY), later))?;
+    clocks.push(MemClock::new(first_day(), later))?;
     Ok(clocks)
 }
 
@@ -185,19 +192,15 @@ fn answer(
     }
 }
 
-// Runs the scripts, each on a desk of its own.
-fn run_all(rt: &HostRuntime, scripts: &[&Script]) -> Result<(), Fail> {
-    for script in scripts {
-        let case = Case {
-            input: script.lines,
-            output: script.answers,
-            ..ALL
-        };
-        let (status, sink, _keeper) = answer(rt, &["run"], &case)?;
-        assert_eq!(rt; status, Status::Done);
-        assert_eq!(rt; sink.bytes(), script.answers);
-    }
-    Ok(())
+// The script on a desk of its own is answered as it should be.
+fn is_answered(rt: &HostRuntime, script: &Script) -> Result<bool, Fail> {
+    let case = Case {
+        input: script.lines,
+        output: script.answers,
+        ..ALL
+    };
+    let (status, sink, _keeper) = answer(rt, &["run"], &case)?;
+    Ok(status == Status::Done && sink.bytes() == script.answers)
 }
 
 #[test]
@@ -230,60 +233,60 @@ fn rows_have_the_days_of_the_clock(rt: HostRuntime) -> Result<(), Fail> {
 
 #[test]
 fn places_are_found_or_refused(rt: HostRuntime) -> Result<(), Fail> {
-    run_all(
-        &rt,
-        &[
-            &scripts::FIRST_TO_FIFTH,
-            &scripts::TOUCHING,
-            &scripts::PARENTS,
-            &scripts::PARENTS_FULL,
-            &scripts::SPENT,
-            &scripts::ENOUGH,
-            &scripts::ORDINARY,
-        ],
-    )
+    for script in [
+        &scripts::FIRST_TO_FIFTH,
+        &scripts::TOUCHING,
+        &scripts::PARENTS,
+        &scripts::PARENTS_FULL,
+        &scripts::SPENT,
+        &scripts::ENOUGH,
+        &scripts::ORDINARY,
+    ] {
+        assert!(rt; is_answered(&rt, script)?);
+    }
+    Ok(())
 }
 
 #[test]
 fn reservations_and_permissions(rt: HostRuntime) -> Result<(), Fail> {
-    run_all(
-        &rt,
-        &[
-            &scripts::RESERVED,
-            &scripts::EXPIRED,
-            &scripts::OVER,
-            &scripts::OVERLAP,
-            &scripts::RESTRICTED,
-        ],
-    )
+    for script in [
+        &scripts::RESERVED,
+        &scripts::EXPIRED,
+        &scripts::OVER,
+        &scripts::OVERLAP,
+        &scripts::RESTRICTED,
+    ] {
+        assert!(rt; is_answered(&rt, script)?);
+    }
+    Ok(())
 }
 
 #[test]
 fn swaps_waits_and_batches(rt: HostRuntime) -> Result<(), Fail> {
-    run_all(
-        &rt,
-        &[
-            &scripts::SWAP,
-            &scripts::SWAP_BLOCKED,
-            &scripts::WAITING,
-            &scripts::WAITING_IN_ORDER,
-            &scripts::BATCH,
-            &scripts::BATCH_WAITING,
-        ],
-    )
+    for script in [
+        &scripts::SWAP,
+        &scripts::SWAP_BLOCKED,
+        &scripts::WAITING,
+        &scripts::WAITING_IN_ORDER,
+        &scripts::BATCH,
+        &scripts::BATCH_WAITING,
+    ] {
+        assert!(rt; is_answered(&rt, script)?);
+    }
+    Ok(())
 }
 
 #[test]
 fn bounds_and_refusals(rt: HostRuntime) -> Result<(), Fail> {
-    run_all(
-        &rt,
-        &[
-            &scripts::FREE_TIME,
-            &scripts::REFUSALS,
-            &scripts::CREDITS,
-            &scripts::CREDITS_HELD,
-        ],
-    )
+    for script in [
+        &scripts::FREE_TIME,
+        &scripts::REFUSALS,
+        &scripts::CREDITS,
+        &scripts::CREDITS_HELD,
+    ] {
+        assert!(rt; is_answered(&rt, script)?);
+    }
+    Ok(())
 }
 
 #[test]

@@ -12,8 +12,6 @@ ghost use Rattle.sect_app.specs.Words.{word_list};
 use crate::over::{desk_over, first_of};
 use crate::status::Status;
 use sect_edge::{Clock, Gate, Keeper, Link, Sink, Source};
-use sect_machine::Machine;
-use sect_model::laws::steps_keep_the_world;
 use std::alloc::AllocGlobal;
 
 /// Does what the words ask for, and tells how it ended. The words are the command line without the
@@ -54,9 +52,8 @@ pub fn desk<R: AllocGlobal, S: Source, T: Sink, L: Link, K: Keeper, C: Clock + D
     ensures links { result.2 ≡ links }
 {
     let _ = gate;
-    steps_keep_the_world();
     let clock = first_of(clocks);
     let (status, keeper) =
-        desk_over::<Machine, S, T, K, C>(rt.alloc(), words, source, sink, keeper, clock);
+        desk_over(rt.alloc(), words, source, sink, keeper, clock);
     (status, Some(keeper), links)
 }

@@ -1,6 +1,7 @@
 // The sectioning machine: a command acts on a day, and the waiting list settles.
 #![tactic(auto)]
 
+mod day;
 mod machine;
 mod object;
 mod recheck;

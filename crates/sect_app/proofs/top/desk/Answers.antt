@@ -6,5 +6,4 @@ returns-clause-does g c = λ asked is.
     desk_does g.K.Keeper.rows g.K.Keeper.faults asked c.args.keeper c.desk_over-status.result.1
     (g.S.Source.left c.args.source.now) (g.S.Source.left c.desk_over-status.new.source)
     (g.T.Sink.taken c.args.sink.now) (g.T.Sink.taken c.desk_over-status.new.sink)
-    (g.C.Clock.days c.first_of-clock.result) _ c.desk_over-status.result.0 c.first_of-clock.ensures
-    c.steps_keep_the_world.ensures.good (c.desk_over-status.ensures.does asked is)
+    (g.C.Clock.days c.first_of-clock.result) _ c.desk_over-status.result.0 c.first_of-clock.ensures (c.desk_over-status.ensures.does asked is)
