@@ -1,1 +1,4 @@
+pub mod Acting
+pub mod Placed
 pub mod Standing
+pub mod Tracked

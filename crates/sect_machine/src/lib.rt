@@ -1,12 +1,24 @@
 // The sectioning machine: a command acts on a day, and the waiting list settles.
 #![tactic(auto)]
 
+mod act;
+mod change;
 mod day;
+mod limits;
+mod lines;
 mod machine;
+mod moves;
 mod object;
+mod place;
+mod print;
 mod recheck;
+mod replies;
+mod reserved;
+mod rows;
 mod state;
+mod stepping;
 mod undo;
+mod waits;
 
 pub use machine::Machine;
 pub use sect_command::{Command, Query, Reply, View};

@@ -1,13 +1,18 @@
 // The machine: a world, and who waits.
 
-ghost use Rattle.std.specs.Prelude.{◌≡◌, IsTrue};
+ghost use Rattle.std.specs.Prelude.{◌≡◌, IfOk, OnErr, IsTrue};
 ghost use Rattle.sect_model.specs.Kept.{KeptState};
 ghost use Rattle.sect_model.specs.Settle.{is_settled};
+ghost use Rattle.sect_model.specs.Step.{step as step_of};
 ghost use Rattle.sect_machine.specs.Standing.{state_in, Restores};
 ghost use Rattle.sect_model.specs.World.{State};
 
+use crate::stepping::step;
 use crate::undo::MachineUndo;
+use sect_base::{Caller, Memory};
+use sect_command::{Command, Reply};
 use sect_space::World;
+use sect_time::Day;
 use sect_wait::Queue;
 use std::alloc::Global;
 use std::marker::Model;
@@ -40,6 +45,29 @@ impl Machine {
     {
         self.world.is_kept();
         self.queue.is_kept();
+    }
+
+    /// Acts a command of a caller on a day, and settles. After want of memory the state is as before.
+    pub(crate) fn act(
+        &mut self,
+        day: Day,
+        caller: Caller,
+        command: &Command,
+    ) -> Result<(Reply, MachineUndo), Memory>
+        ensures state { IfOk result (λ r. state_in self.new ≡ (step_of (state_in self.old) day caller command.now).state) }
+        ensures reply { IfOk result (λ r. r.0 ≡ (step_of (state_in self.old) day caller command.now).reply) }
+        ensures undo { IfOk result (λ r. Restores r.1 self.new (state_in self.old)) }
+        ensures err { OnErr result (state_in self.new ≡ state_in self.old) }
+    {
+        self.is_kept();
+        step(
+            self.alloc,
+            &mut self.world,
+            &mut self.queue,
+            day,
+            caller,
+            command,
+        )
     }
 
     /// Takes back what a step changed. It takes no memory.

@@ -8,6 +8,7 @@ ghost use Rattle.sect_wire.specs.Laws.{IsRow};
 ghost use Rattle.sect_machine.specs.Standing.{state_in, Restores};
 
 use crate::machine::Machine;
+use crate::print::print_known;
 use crate::state::State;
 use crate::undo::MachineUndo;
 use sect_base::{Caller, Duplicate, Memory, Same};
@@ -54,11 +55,11 @@ impl Object for Machine {
 
     fn step(
         &mut self,
-        _day: Day,
-        _caller: Caller,
-        _command: &Command,
+        day: Day,
+        caller: Caller,
+        command: &Command,
     ) -> Result<(Reply, MachineUndo), Memory> {
-        Err(Memory)
+        self.act(day, caller, command)
     }
 
     fn undo(&mut self, undo: MachineUndo) {
@@ -81,8 +82,8 @@ impl Object for Machine {
         reply.copy(alloc)
     }
 
-    fn print_entry(_entry: &Entry<Command, Reply>, _into: &mut Vec<u8>) -> Result<(), Memory> {
-        Err(Memory)
+    fn print_entry(entry: &Entry<Command, Reply>, into: &mut Vec<u8>) -> Result<(), Memory> {
+        print_known(entry, into)
     }
 
     fn read_entry(alloc: Global, row: &[u8]) -> Result<Option<Entry<Command, Reply>>, Memory> {

@@ -1,0 +1,5 @@
+pub mod AnswerLemmas
+pub mod MoveLemmas
+pub mod PlaceLemmas
+pub mod StepLemmas
+pub mod TrackLemmas

@@ -1,0 +1,16 @@
+-- The courses are given up, and then the choices taken.
+use Rattle.std.proofs.Common.{◌∙◌, ap, subst, sym, IsTrue}
+use Rattle.std.specs.Option.{is_some}
+use Rattle.sect_people.specs.Student.{find_student}
+use Rattle.sect_space.proofs.Steps.{since-both}
+use Rattle.sect_machine.proofs.MoveLemmas.{leave_all-students}
+use Rattle.sect_machine.proofs.moves.make_move.Goals as goal
+
+pub take-requires-clause-known : goal.take-requires-clause-known
+take-requires-clause-known c =
+    subst (λ ss. IsTrue (is_some (find_student ss c.args.mv.now.student)))
+    (sym (ap (λ w. w.students) c.in_ok-give_up.ensures.ok ∙ leave_all-students c.as_slice.result.now c.args.world.now.world c.args.mv.now.student)) c.requires.fits.student
+
+pub returns-clause-since : goal.returns-clause-since
+returns-clause-since c =
+    since-both c.args.world.now.world c.give_up.new.world.world c.take.new.world.world c.args.undo.now.backs c.give_up.new.undo.backs c.take.new.undo.backs c.give_up.ensures.since c.take.ensures.since

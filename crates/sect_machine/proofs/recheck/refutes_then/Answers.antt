@@ -1,0 +1,9 @@
+-- The day is taken back.
+use Rattle.std.proofs.Common.{◌∙◌}
+use Rattle.sect_machine.proofs.TrackLemmas.{since-back}
+use Rattle.sect_machine.proofs.recheck.refutes_then.Goals as goal
+
+pub returns-clause-world : goal.returns-clause-world
+returns-clause-world c =
+    c.undo.ensures.world
+    ∙ since-back c.args.world.now.world c.refutes_on-refutes.new.world.world c.empty-undo.result.backs c.refutes_on-refutes.new.undo.backs c.is_kept.ensures c.empty-undo.ensures c.refutes_on-refutes.ensures.since

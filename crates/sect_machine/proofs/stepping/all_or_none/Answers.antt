@@ -1,0 +1,15 @@
+-- What is recorded since nothing was leads back.
+use Rattle.std.proofs.Common.{◌∙◌}
+use Rattle.sect_machine.proofs.TrackLemmas.{restores, world-back}
+use Rattle.sect_machine.proofs.stepping.all_or_none.Goals as goal
+
+pub returns-in-Ok-clause-undo : goal.returns-in-Ok-clause-undo
+returns-in-Ok-clause-undo g c =
+    restores c.args.world.now c.settled-stepped.new.world c.empty-undo.result.backs c.args.queue.now c.settled-stepped.new.queue c.empty-left.result
+    (record { world = c.settled-stepped.new.undo; queue = c.settled-stepped.new.left }) c.is_kept.ensures c.empty-undo.ensures c.empty-left.ensures c.settled-stepped.ensures.tracked c.requires
+
+pub returns-in-Err-clause-world_err : goal.returns-in-Err-clause-world_err
+returns-in-Err-clause-world_err g c =
+    c.undo.ensures.world
+    ∙ world-back c.args.world.now c.settled-stepped.new.world c.empty-undo.result.backs c.settled-stepped.new.undo.backs c.args.queue.now c.settled-stepped.new.queue c.empty-left.result c.settled-stepped.new.left
+    c.is_kept.ensures c.empty-undo.ensures c.settled-stepped.ensures.tracked

@@ -1,0 +1,7 @@
+-- the rows of the ids so far
+use Rattle.std.proofs.Common.{◌≡◌, take}
+use Rattle.sect_view.specs.Found.{request_rows}
+use Rattle.sect_view.proofs.rows.requests_of.Given as goal
+
+abbrev pub invariant-loop-id : goal.invariant-loop-id
+invariant-loop-id l = l.rows.items ≡ request_rows l.world.world (take l.id-index l.ids)

@@ -1,0 +1,13 @@
+-- The rising ids find the rows in order.
+use Rattle.std.proofs.Common.{◌≡◌, ◌∙◌, ap, subst, map, IfOk}
+use Rattle.sect_people.specs.Order.{sorted_by}
+use Rattle.sect_view.specs.Found.{reservation_rows}
+use Rattle.sect_view.proofs.RowLemmas.{reservations-by-id}
+use Rattle.sect_view.proofs.rows.reservations.Goals as goal
+
+pub returns : goal.returns
+returns c =
+    let w = c.args.world.now.world in
+    subst (λ xs. IfOk c.reservations_of.result (λ rows. rows ≡ xs))
+    (ap (reservation_rows w) (c.as_slice.ensures.value ∙ c.in_ok-ids.ensures ∙ ap (λ rows. map (λ o. o.id) (sorted_by (λ o. o.id.0) rows)) (c.all_reservations.ensures)) ∙ reservations-by-id w c.is_kept.ensures)
+    c.reservations_of.ensures
