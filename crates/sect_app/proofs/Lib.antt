@@ -6,4 +6,5 @@ pub mod Grows
 pub mod LinesOf
 pub mod Ready
 pub mod Steps
+pub mod Unfaulted
 pub mod Writes

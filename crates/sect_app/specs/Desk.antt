@@ -1,5 +1,5 @@
 -- What the desk does for its words.
-use Rattle.std.specs.Prelude.{◌≡◌, ◌⊎◌, ℕ, ◌≤◌, List, [], ◌∷◌, ◌++◌, take, Option, Some, None}
+use Rattle.std.specs.Prelude.{◌≡◌, ◌⊎◌, ℕ, ◌≤◌, List, [], ◌∷◌, ◌++◌, take, ⊤, Option, Some, None}
 use Rattle.std.specs.List.{AllZip}
 use Rattle.std.specs.Io.KnownBytes.{Appends}
 use Rattle.sect_base.specs.declared.limit.Caller.{Caller}
@@ -86,6 +86,18 @@ abbrev pub Says : List ℕ → Option (List ℕ) → Option (List ℕ) → Statu
 Says text taken taken' statuses.Done = Appends taken taken' text
 Says text taken taken' statuses.WriteFault = (n : ℕ) × Appends taken taken' (take n text)
 Says text taken taken' _ = ⊥
+
+-- the status tells of no fault
+abbrev pub IsUnfaulted : Status → Type 0
+IsUnfaulted statuses.Done = ⊤
+IsUnfaulted statuses.BadWords = ⊤
+IsUnfaulted (statuses.BadLine line field) = ⊤
+IsUnfaulted statuses.ReadFault = ⊥
+IsUnfaulted statuses.WriteFault = ⊥
+IsUnfaulted statuses.KeeperFault = ⊥
+IsUnfaulted (statuses.BadEntry row) = ⊤
+IsUnfaulted statuses.LinkFault = ⊥
+IsUnfaulted statuses.Memory = ⊤
 
 -- the days of the first of the clocks, where it tells them
 abbrev pub first_days : {C : Type 0} → (C → Option (List ℕ)) → List C → Option (List ℕ)

@@ -1,11 +1,11 @@
 // The top call: what the program does.
-ghost use Rattle.std.specs.Prelude.{◌≡◌, ◌≢◌, ◌↔◌, ◌<◌, ℕ, List, Some, IfSome, IsSome, length, map};
+ghost use Rattle.std.specs.Prelude.{◌≡◌, ◌↔◌, ◌<◌, ℕ, List, Some, IfSome, IsSome, length, map};
 ghost use Rattle.std.specs.String.{string_bytes};
 ghost use Rattle.std.specs.Io.KnownBytes.{IsAtEnd};
 ghost use Rattle.sect_edge.specs.Causes.{Rose};
 ghost use Rattle.sect_app.specs.declared.status.Status.{Status};
 ghost use Rattle.sect_app.specs.declared.words.Words.{Words};
-ghost use Rattle.sect_app.specs.Desk.{first_days};
+ghost use Rattle.sect_app.specs.Desk.{IsUnfaulted, first_days};
 ghost use Rattle.sect_app.specs.Machine.{DeskDoes};
 ghost use Rattle.sect_app.specs.Words.{word_list};
 
@@ -41,12 +41,12 @@ pub fn desk<R: AllocGlobal, S: Source, T: Sink, L: Link, K: Keeper, C: Clock + D
     ensures shut { result.0 ≡ Status.KeeperFault → (source.new ≡ source.old) × (sink.new ≡ sink.old) }
     ensures bad_entry { (row : ℕ) → result.0 ≡ Status.BadEntry row → (source.new ≡ source.old) × (sink.new ≡ sink.old) }
 
-    // A fault is told only where that very object counted one in this call, so where none did, the status is Done, BadWords,
-    // BadLine, BadEntry or Memory.
+    // A fault is told only where that very object counted one in this call.
     ensures read_fault { result.0 ≡ Status.ReadFault → Rose (S.faults source.old) (S.faults source.new) }
     ensures write_fault { result.0 ≡ Status.WriteFault → Rose (T.faults sink.old) (T.faults sink.new) }
     ensures keeper_fault { result.0 ≡ Status.KeeperFault → IfSome result.1 (λ back. Rose (K.faults keeper) (K.faults back)) }
-    ensures link_fault { result.0 ≢ Status.LinkFault }
+    ensures complete { (Rose (S.faults source.old) (S.faults source.new) → ⊥) → (Rose (T.faults sink.old) (T.faults sink.new) → ⊥)
+        → IfSome result.1 (λ back. Rose (K.faults keeper) (K.faults back) → ⊥) → IsUnfaulted result.0 }
 
     ensures back { IsSome result.1 }
     ensures links { result.2 ≡ links }
