@@ -12,7 +12,7 @@ ROOT = os.path.join(os.path.dirname(os.path.abspath(__file__)), '..')
 
 def definitions(path):
     """Names and sentences of a file of specs/, in its order."""
-    found, comment, mutual = [], [], False
+    found, comment, mutual, module = [], [], False, False
     with open(os.path.join(ROOT, 'crates', path)) as file:
         lines = file.read().split('\n')[1:]
     for line in lines:
@@ -27,7 +27,8 @@ def definitions(path):
             mutual, comment = True, []
             continue
         mutual = mutual and line.startswith(' ')
-        m = re.match(r'^(?:abbrev |unfoldable )?pub (record |data )?([^\s:({]+)', line)
+        module = line.startswith('module ') or module and line.startswith(' ')
+        m = re.match(('^  ' if module else '^') + r'(?:abbrev |unfoldable )?pub (record |data )?([^\s:({]+)', line)
         if not m and mutual:
             m = re.match(r'^  (?:abbrev |unfoldable )?pub (data )?([^\s:({]+)', line)
         if m and m[2] not in ('mod', 'use'):

@@ -141,13 +141,13 @@ CHAPTERS = [
      '`crates/sect_model/src/examples.rt` have them as contracts, which the check computes. They are written in '
      'these words.',
      model('Script')),
-    ('The first desk',
-     'What the program of today does: one offering with one section, its lines, and the loop over them.',
-     ['sect_first/specs/Texts.antt', 'sect_first/specs/Standing.antt', 'sect_first/specs/Replies.antt']
-     + ['sect_app/specs/' + n + '.antt' for n in ('Lines', 'Run', 'First', 'Words', 'Help', 'Desk')]),
     ('One history',
      'A log of any object, its history, and what each answer says of it.',
      ['sect_once/specs/' + n + '.antt' for n in ('History', 'Faults', 'Desks')]),
+    ('The program',
+     'The lines of an input, how the desk answers them, the audit, and what is done for the words.',
+     ['sect_app/specs/' + n + '.antt'
+      for n in ('Lines', 'Reading', 'Run', 'AnswerLines', 'Asks', 'Desk', 'Step', 'Audit', 'Words', 'Help', 'Machine')]),
     ('The turn and the office',
      'One value under a turn, and the passes that share it.',
      ['sect_turn/specs/' + n + '.antt' for n in ('Seats', 'Rule', 'Steps', 'Passes')]
@@ -167,6 +167,7 @@ INSIDE = ['sect_time/specs/WeekScan.antt', 'sect_catalog/specs/Place.antt', 'sec
 BASE, CATALOG, PEOPLE = 'sect_base/specs/', 'sect_catalog/specs/', 'sect_people/specs/'
 # for definitions of the lower crates that have no sentence of their own
 SENTENCES = {
+    ('sect_app/specs/Audit.antt', 'verified'): 'how many of a whole history block so',
     ('sect_catalog/specs/Limits.antt', 'config_limit'): 'the limit that a configuration has after the change',
     ('sect_catalog/specs/Limits.antt', 'section_limit'): 'the limit that a section has after the change',
     ('sect_catalog/specs/Limits.antt', 'capped_course'): 'the course with its limit after the change',
@@ -181,9 +182,6 @@ SENTENCES = {
     ('sect_people/specs/Order.antt', 'insert_by'): 'an element put before the first of no smaller key',
     ('sect_people/specs/Changes.antt', 'students_by_id'): 'the students in rising order of their ids',
     ('sect_command/specs/TreeText.antt', 'HaveTexts'): 'each of the trees has a text with at most so many brackets',
-    ('sect_first/specs/Texts.antt', 'MOST_16'): 'the highest number of 16 bits',
-    ('sect_first/specs/Texts.antt', 'MOST_32'): 'the highest number of 32 bits',
-    ('sect_first/specs/Texts.antt', 'MOST_64'): 'the highest number of 64 bits',
     (BASE + 'Padded.antt', 'no_section'): 'the section of id 0, which fills cells',
     (BASE + 'Tree.antt', 'Tree'): 'a leaf `broken` with a rule and its number, or a `split` with a tree for each option',
     (BASE + 'Tree.antt', 'Trees'): 'trees in order, `none` or `more`',

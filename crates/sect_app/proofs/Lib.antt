@@ -1,6 +1,10 @@
+pub mod Asking
+pub mod Audits
 pub mod Gathered
+pub mod Good
+pub mod Grows
 pub mod LinesOf
-pub mod Printing
 pub mod Ready
 pub mod Steps
+pub mod Unfaulted
 pub mod Writes

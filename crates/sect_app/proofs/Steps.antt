@@ -13,7 +13,7 @@ use Rattle.sect_app.specs.declared.script.RunEnd.TheVariants as ends
 use Rattle.sect_app.specs.Lines.{Line, Ended, Unended, lines_of, ended_lines, bytes_of, text_of, IsOneLine}
 use Rattle.sect_app.specs.Reading.{ReadsLine, LINE_LIMIT}
 use Rattle.sect_app.specs.Run.{AnswersLine, Answers, Ahead, IsBad, NextIsBad, Ran, LINES_LIMIT}
-use Rattle.sect_app.specs.Progress.{spelled, Progress, GoesOn, Turns, IsUnanswered}
+use Rattle.sect_app.specs.Progress.{spelled, Progress, GoesOn, Turns}
 use Rattle.sect_app.proofs.LinesOf.{lines_of-spelled, spelled-push, ended_lines-one, lines_of-feed, lines_of-one, last_line, lines_of-long}
 
 -- ---- lists
@@ -134,8 +134,8 @@ ahead : {H : Type 0} {answers : H → List ℕ → List ℕ → H → Type 0} {l
 ahead {left = left} {now = now} {pending = pending} Q p holds = ahead_at left now p.read pending p.done Q p.consumed p.split p.single holds
 
 -- no line is left
-pub ran_to_end : {H : Type 0} {answers : H → List ℕ → List ℕ → H → Type 0} {left now taken taken' : Option (List ℕ)} {old new : H} {number : ℕ} {pending : List ℕ}
-    → Progress answers left now taken taken' old new number pending → pending ≡ [] → IsAtEnd now → Ran answers left now taken taken' old new ends.Done
+pub ran_to_end : {H : Type 0} {known : List ℕ → Type 0} {answers : H → List ℕ → List ℕ → H → Type 0} {left now taken taken' : Option (List ℕ)} {old new : H} {number : ℕ} {pending : List ℕ}
+    → Progress answers left now taken taken' old new number pending → pending ≡ [] → IsAtEnd now → Ran known answers left now taken taken' old new ends.Done
 ran_to_end {now = now} p none end = record {
   lines = map Ended p.done;
   bytes = p.bytes;
@@ -147,29 +147,29 @@ ran_to_end {now = now} p none end = record {
 }
 
 -- the next line is too long
-pub ran_to_long : {H : Type 0} {answers : H → List ℕ → List ℕ → H → Type 0} {left now taken taken' : Option (List ℕ)} {old new : H} {number : ℕ} {pending : List ℕ}
+pub ran_to_long : {H : Type 0} {known : List ℕ → Type 0} {answers : H → List ℕ → List ℕ → H → Type 0} {left now taken taken' : Option (List ℕ)} {old new : H} {number : ℕ} {pending : List ℕ}
     (front more : List ℕ) → Progress answers left now taken taken' old new number pending → pending ≡ front ++ more → IsOneLine front → LINE_LIMIT < length front
-    → Ran answers left now taken taken' old new (ends.BadLine number)
-ran_to_long {answers = answers} {new = new} front more p is one long = record {
+    → Ran known answers left now taken taken' old new (ends.BadLine number)
+ran_to_long {known = known} front more p is one long = record {
   lines = map Ended p.done;
   bytes = p.bytes;
   answered = p.answered;
-  input = ahead (NextIsBad answers new (length (map Ended p.done))) p (λ rest told. too_long answers new (length (map Ended p.done)) front (more ++ rest) _ one long
+  input = ahead (NextIsBad known (length (map Ended p.done))) p (λ rest told. too_long known (length (map Ended p.done)) front (more ++ rest) _ one long
       (ap lines_of (ap (λ l. l ++ rest) is ∙ append_assoc front more rest)));
   number = omega (arith, p.count, length-ended p.done);
   whole = tt;
   written = p.written;
 }
   where
-    too_long : {H : Type 0} (answers : H → List ℕ → List ℕ → H → Type 0) (state : H) (before : ℕ) (front more : List ℕ) (lines : List Line) → IsOneLine front
-        → LINE_LIMIT < length front → lines ≡ lines_of (front ++ more) → NextIsBad answers state before lines
-    too_long answers state before front more lines one long same =
+    too_long : (known : List ℕ → Type 0) (before : ℕ) (front more : List ℕ) (lines : List Line) → IsOneLine front
+        → LINE_LIMIT < length front → lines ≡ lines_of (front ++ more) → NextIsBad known before lines
+    too_long known before front more lines one long same =
         let (bad, behind, is, longer) = lines_of-long front more LINE_LIMIT one long in
-        (bad, behind, same ∙ is, inr (λ bytes next answered. absurd (omega (arith, answered.0, longer))))
+        (bad, behind, same ∙ is, inr (λ short text. absurd (omega (arith, short, longer))))
 
 -- the source failed inside a line
-pub ran_to_read_fault : {H : Type 0} {answers : H → List ℕ → List ℕ → H → Type 0} {left now taken taken' : Option (List ℕ)} {old new : H} {number : ℕ} {pending : List ℕ}
-    → Progress answers left now taken taken' old new number pending → IsOneLine pending → Ran answers left now taken taken' old new ends.ReadFault
+pub ran_to_read_fault : {H : Type 0} {known : List ℕ → Type 0} {answers : H → List ℕ → List ℕ → H → Type 0} {left now taken taken' : Option (List ℕ)} {old new : H} {number : ℕ} {pending : List ℕ}
+    → Progress answers left now taken taken' old new number pending → IsOneLine pending → Ran known answers left now taken taken' old new ends.ReadFault
 ran_to_read_fault {pending = pending} p one = record {
   lines = map Ended p.done;
   bytes = p.bytes;
@@ -180,8 +180,8 @@ ran_to_read_fault {pending = pending} p one = record {
   written = p.written;
 }
 
-pub ran_out_of_memory : {H : Type 0} {answers : H → List ℕ → List ℕ → H → Type 0} {left now taken taken' : Option (List ℕ)} {old new : H} {number : ℕ} {pending : List ℕ}
-    → Progress answers left now taken taken' old new number pending → Ran answers left now taken taken' old new ends.Memory
+pub ran_out_of_memory : {H : Type 0} {known : List ℕ → Type 0} {answers : H → List ℕ → List ℕ → H → Type 0} {left now taken taken' : Option (List ℕ)} {old new : H} {number : ℕ} {pending : List ℕ}
+    → Progress answers left now taken taken' old new number pending → Ran known answers left now taken taken' old new ends.Memory
 ran_out_of_memory p = record {
   lines = map Ended p.done;
   bytes = p.bytes;
@@ -203,30 +203,29 @@ next_ahead : {H : Type 0} {answers : H → List ℕ → List ℕ → H → Type 
     → Ahead left (map Ended p.done ++ line ∷ []) Q
 next_ahead {left = left} p line Q next = ahead_next left (map Ended p.done) line Q (ahead (λ lines. (more : List Line) × (lines ≡ line ∷ more) × Q more) p next)
 
-bad_reason : {H : Type 0} (answers : H → List ℕ → List ℕ → H → Type 0) (state : H) (line : Line) (text : List ℕ) (number before : ℕ) → text_of line ≡ text
-    → number ≡ before + 1 → (LINES_LIMIT < number) ⊎ IsUnanswered answers state text → (LINES_LIMIT ≤ before) ⊎ IsBad answers state line
-bad_reason answers state line text number before says count (inl many) = inl (omega arith)
-bad_reason {H} answers state line text number before says count (inr refused) =
-    inr (λ bytes next answered. refused bytes next (subst (λ (t : List ℕ). answers state t bytes next) says answered.1))
+bad_reason : (known : List ℕ → Type 0) (line : Line) (text : List ℕ) (number before : ℕ) → text_of line ≡ text
+    → number ≡ before + 1 → (LINES_LIMIT < number) ⊎ (known text → ⊥) → (LINES_LIMIT ≤ before) ⊎ IsBad known line
+bad_reason known line text number before says count (inl many) = inl (omega arith)
+bad_reason known line text number before says count (inr refused) =
+    inr (λ short is. refused (subst known says is))
 
 -- the run ends at this line
-pub ran_to_line : {H K : Type 0} {answers : H → List ℕ → List ℕ → H → Type 0} {left now taken : Option (List ℕ)} {old new : H} {number : ℕ} {pending : List ℕ}
+pub ran_to_line : {H K : Type 0} {known : List ℕ → Type 0} {answers : H → List ℕ → List ℕ → H → Type 0} {left now taken : Option (List ℕ)} {old new : H} {number : ℕ} {pending : List ℕ}
     (holds : K → Option (List ℕ)) (sink sink' : K) (later : H) (line : Line) (text : List ℕ) (status : RunEnd) → Progress answers left now taken (holds sink) old new number pending
     → length (bytes_of line) ≤ LINE_LIMIT → text_of line ≡ text → Next now pending line (λ more. ⊤)
-    → Turns answers holds new later sink sink' number text (Some status)
-    → Ran answers left now taken (holds sink') old later status
+    → Turns known answers holds new later sink sink' number text (Some status)
+    → Ran known answers left now taken (holds sink') old later status
 ran_to_line holds sink sink' later line text ends.Done p short says next answered = absurd answered
-ran_to_line {H = H} {K = K} {answers = answers} {taken = taken} {old = old} {new = new} {number = number} holds sink sink' later line text (ends.BadLine bad) p short says next (is, same, still, why) = record {
+ran_to_line {K = K} {known = known} {answers = answers} {taken = taken} {old = old} holds sink sink' later line text (ends.BadLine bad) p short says next (is, same, still, why) = record {
   lines = map Ended p.done;
   bytes = p.bytes;
   answered = subst (Answers answers old (map Ended p.done) p.bytes) (sym same) p.answered;
-  input = ahead (NextIsBad answers later (length (map Ended p.done))) p (λ rest told.
+  input = ahead (NextIsBad known (length (map Ended p.done))) p (λ rest told.
       let (more, first, any) = next rest told in (
         line,
         more,
         first,
-        bad_reason answers later line text _ _ says (p.count ∙ ap (λ n. n + 1) (sym (length-ended p.done)))
-            (subst (λ (h : H). (LINES_LIMIT < number) ⊎ IsUnanswered answers h text) (sym same) why),
+        bad_reason known line text _ _ says (p.count ∙ ap (λ n. n + 1) (sym (length-ended p.done))) why,
       ));
   number = is ∙ p.count ∙ ap (λ n. n + 1) (sym (length-ended p.done));
   whole = tt;
@@ -264,11 +263,11 @@ ran_to_line {K = K} {answers = answers} {taken = taken} {old = old} {new = new} 
 }
 
 -- the last line was answered
-ran_past_line : {H K : Type 0} {answers : H → List ℕ → List ℕ → H → Type 0} {left now taken : Option (List ℕ)} {old new : H} {number : ℕ} {pending : List ℕ}
+ran_past_line : {H K : Type 0} {known : List ℕ → Type 0} {answers : H → List ℕ → List ℕ → H → Type 0} {left now taken : Option (List ℕ)} {old new : H} {number : ℕ} {pending : List ℕ}
     (holds : K → Option (List ℕ)) (sink sink' : K) (later : H) (line : Line) (text : List ℕ) → Progress answers left now taken (holds sink) old new number pending
     → length (bytes_of line) ≤ LINE_LIMIT → text_of line ≡ text → Next now pending line (λ more. more ≡ [])
-    → Turns answers holds new later sink sink' number text None
-    → Ran answers left now taken (holds sink') old later ends.Done
+    → Turns known answers holds new later sink sink' number text None
+    → Ran known answers left now taken (holds sink') old later ends.Done
 ran_past_line {answers = answers} {taken = taken} {old = old} {new = new} holds sink sink' later line text p short says next (few, answer, step, written) = record {
   lines = map Ended p.done ++ line ∷ [];
   bytes = p.bytes ++ answer;
@@ -294,23 +293,23 @@ next_of_last now pending line is one some end tail told =
     ([], ap lines_of (ap (λ l. pending ++ l) (at_end now tail end told) ∙ append-nil pending ∙ is) ∙ lines_of-one line one ∙ last_is_one line some, refl)
 
 -- a line with its line feed was read
-pub feed_goes_on : {H K : Type 0} {answers : H → List ℕ → List ℕ → H → Type 0} {left now taken : Option (List ℕ)} {old new : H} {number : ℕ} {pending : List ℕ}
+pub feed_goes_on : {H K : Type 0} (known : List ℕ → Type 0) {answers : H → List ℕ → List ℕ → H → Type 0} {left now taken : Option (List ℕ)} {old new : H} {number : ℕ} {pending : List ℕ}
     (holds : K → Option (List ℕ)) (sink sink' : K) (later : H) (rest text said : List ℕ) (result : Option RunEnd) → said ≡ text → Progress answers left now taken (holds sink) old new number pending
-    → ReadsLine (Ok LineFeed) pending rest text → Turns answers holds new later sink sink' number said result
-    → GoesOn answers left now taken (holds sink') old later number rest result
-feed_goes_on {answers = answers} {new = new} holds sink sink' later rest text said None same p (whole, one, short, is, says) (few, answer, step, written) =
+    → ReadsLine (Ok LineFeed) pending rest text → Turns known answers holds new later sink sink' number said result
+    → GoesOn known answers left now taken (holds sink') old later number rest result
+feed_goes_on known {answers = answers} {new = new} holds sink sink' later rest text said None same p (whole, one, short, is, says) (few, answer, step, written) =
     let says' = same ∙ says in
     progress_line later (holds sink') whole rest answer p is one
     (short, subst (λ (l : List ℕ). answers new l answer later) says' step) written
-feed_goes_on {now = now} {pending = pending} holds sink sink' later rest text said (Some status) same p (whole, one, short, is, says) answered =
+feed_goes_on known {now = now} {pending = pending} holds sink sink' later rest text said (Some status) same p (whole, one, short, is, says) answered =
     ran_to_line holds sink sink' later (Ended whole) said status p short (sym (same ∙ says)) (next_of_feed now pending whole rest is one) answered
 
 -- the last line was read, and has no line feed
-pub last_ends : {H K : Type 0} {answers : H → List ℕ → List ℕ → H → Type 0} {left now taken : Option (List ℕ)} {old new : H} {number : ℕ} {pending : List ℕ}
+pub last_ends : {H K : Type 0} {known : List ℕ → Type 0} {answers : H → List ℕ → List ℕ → H → Type 0} {left now taken : Option (List ℕ)} {old new : H} {number : ℕ} {pending : List ℕ}
     (holds : K → Option (List ℕ)) (sink sink' : K) (later : H) (rest text said : List ℕ) (result : Option RunEnd) → said ≡ text → Progress answers left now taken (holds sink) old new number pending
     → ReadsLine (Ok EndOfInput) pending rest text → (text ≡ [] → ⊥) → IsAtEnd now
-    → Turns answers holds new later sink sink' number said result
-    → Ran answers left now taken (holds sink') old later (unwrap_or result ends.Done)
+    → Turns known answers holds new later sink sink' number said result
+    → Ran known answers left now taken (holds sink') old later (unwrap_or result ends.Done)
 last_ends {now = now} {pending = pending} holds sink sink' later rest text said None same p (one, short, is, none) some end answered =
     ran_past_line holds sink sink' later (Unended text) said p short (sym same) (next_of_last now pending text is one some end) answered
 last_ends {now = now} {pending = pending} holds sink sink' later rest text said (Some status) same p (one, short, is, none) some end answered =

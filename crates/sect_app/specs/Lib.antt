@@ -1,8 +1,13 @@
+pub mod AnswerLines
+pub mod Asks
+pub mod Audit
+pub mod Audited
 pub mod Desk
-pub mod First
 pub mod Help
 pub mod Lines
+pub mod Machine
 pub mod Progress
 pub mod Reading
 pub mod Run
+pub mod Step
 pub mod Words

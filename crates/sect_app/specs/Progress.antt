@@ -26,29 +26,25 @@ pub record Progress {H : Type 0} (answers : H → List ℕ → List ℕ → H �
   pub count : number ≡ length done + 1
 
 -- the run goes on with the next line, or it ended
-abbrev pub GoesOn : {H : Type 0} → (H → List ℕ → List ℕ → H → Type 0) → Option (List ℕ) → Option (List ℕ)
+abbrev pub GoesOn : {H : Type 0} → (List ℕ → Type 0) → (H → List ℕ → List ℕ → H → Type 0) → Option (List ℕ) → Option (List ℕ)
     → Option (List ℕ) → Option (List ℕ) → H → H → ℕ → List ℕ → Option RunEnd → Type 0
-GoesOn answers left left' taken taken' old new number pending None =
+GoesOn known answers left left' taken taken' old new number pending None =
     Progress answers left left' taken taken' old new (number + 1) pending
-GoesOn answers left left' taken taken' old new number pending (Some status) = Ran answers left left' taken taken' old new status
-
--- in this state the text has no answer
-abbrev pub IsUnanswered : {H : Type 0} → (H → List ℕ → List ℕ → H → Type 0) → H → List ℕ → Type 0
-IsUnanswered {H} answers state text = (bytes : List ℕ) (new : H) → answers state text bytes new → ⊥
+GoesOn known answers left left' taken taken' old new number pending (Some status) = Ran known answers left left' taken taken' old new status
 
 -- want of memory came before a line was answered, or after it and before its answer was written
 abbrev pub RunsOut : {H K : Type 0} → (H → List ℕ → List ℕ → H → Type 0) → H → H → K → K → List ℕ → Type 0
 RunsOut answers old new sink sink' line = MayAnswer answers old line new × (sink' ≡ sink)
 
 -- what came of answering one line
-abbrev pub Turns : {H K : Type 0} → (H → List ℕ → List ℕ → H → Type 0) → (K → Option (List ℕ)) → H → H → K → K
+abbrev pub Turns : {H K : Type 0} → (List ℕ → Type 0) → (H → List ℕ → List ℕ → H → Type 0) → (K → Option (List ℕ)) → H → H → K → K
     → ℕ → List ℕ → Option RunEnd → Type 0
-Turns answers taken old new sink sink' number line None = (number ≤ LINES_LIMIT)
+Turns known answers taken old new sink sink' number line None = (number ≤ LINES_LIMIT)
     × (bytes : List ℕ) × answers old line bytes new × Appends (taken sink) (taken sink') bytes
-Turns answers taken old new sink sink' number line (Some ends.Done) = ⊥
-Turns answers taken old new sink sink' number line (Some (ends.BadLine bad)) = (bad ≡ number) × (new ≡ old) × (sink' ≡ sink)
-    × ((LINES_LIMIT < number) ⊎ IsUnanswered answers old line)
-Turns answers taken old new sink sink' number line (Some ends.ReadFault) = ⊥
-Turns answers taken old new sink sink' number line (Some ends.WriteFault) =
+Turns known answers taken old new sink sink' number line (Some ends.Done) = ⊥
+Turns known answers taken old new sink sink' number line (Some (ends.BadLine bad)) = (bad ≡ number) × (new ≡ old) × (sink' ≡ sink)
+    × ((LINES_LIMIT < number) ⊎ (known line → ⊥))
+Turns known answers taken old new sink sink' number line (Some ends.ReadFault) = ⊥
+Turns known answers taken old new sink sink' number line (Some ends.WriteFault) =
     (bytes : List ℕ) × (n : ℕ) × answers old line bytes new × Appends (taken sink) (taken sink') (take n bytes)
-Turns answers taken old new sink sink' number line (Some ends.Memory) = RunsOut answers old new sink sink' line
+Turns known answers taken old new sink sink' number line (Some ends.Memory) = RunsOut answers old new sink sink' line

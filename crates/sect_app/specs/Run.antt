@@ -28,22 +28,22 @@ Answers {H} answers old (line ∷ lines) bytes new = (mid : H) × (first : List 
 abbrev pub Ahead : Option (List ℕ) → List Line → (List Line → Type 0) → Type 0
 Ahead told lines P = IfSome told (λ input. (rest : List Line) × (lines_of input ≡ lines ++ rest) × P rest)
 
--- in this state the line has no answer
-abbrev pub IsBad : {H : Type 0} → (H → List ℕ → List ℕ → H → Type 0) → H → Line → Type 0
-IsBad {H} answers state line = (bytes : List ℕ) (new : H) → AnswersLine answers state line bytes new → ⊥
+-- the line is too long, or its text is none of those that are known
+abbrev pub IsBad : (List ℕ → Type 0) → Line → Type 0
+IsBad known line = length (bytes_of line) ≤ LINE_LIMIT → known (text_of line) → ⊥
 
 -- the next of the lines is bad, or is one too many
-abbrev pub NextIsBad : {H : Type 0} → (H → List ℕ → List ℕ → H → Type 0) → H → ℕ → List Line → Type 0
-NextIsBad answers state before rest = (bad : Line) × (more : List Line) × (rest ≡ bad ∷ more)
-    × ((LINES_LIMIT ≤ before) ⊎ IsBad answers state bad)
+abbrev pub NextIsBad : (List ℕ → Type 0) → ℕ → List Line → Type 0
+NextIsBad known before rest = (bad : Line) × (more : List Line) × (rest ≡ bad ∷ more)
+    × ((LINES_LIMIT ≤ before) ⊎ IsBad known bad)
 
 -- which lines stand behind those that were answered, at each end
-abbrev pub IsRest : {H : Type 0} → (H → List ℕ → List ℕ → H → Type 0) → RunEnd → H → ℕ → List Line → Type 0
-IsRest answers ends.Done state before rest = rest ≡ []
-IsRest answers (ends.BadLine number) state before rest = NextIsBad answers state before rest
-IsRest answers ends.ReadFault state before rest = ⊤
-IsRest answers ends.WriteFault state before rest = ⊤
-IsRest answers ends.Memory state before rest = ⊤
+abbrev pub IsRest : (List ℕ → Type 0) → RunEnd → ℕ → List Line → Type 0
+IsRest known ends.Done before rest = rest ≡ []
+IsRest known (ends.BadLine number) before rest = NextIsBad known before rest
+IsRest known ends.ReadFault before rest = ⊤
+IsRest known ends.WriteFault before rest = ⊤
+IsRest known ends.Memory before rest = ⊤
 
 -- a bad line has the number behind those that were answered
 abbrev pub HasNumber : RunEnd → ℕ → Type 0
@@ -69,13 +69,13 @@ AreWhole ends.ReadFault old new lines = (read : List ℕ) × Consumes old new re
 AreWhole ends.WriteFault old new lines = ⊤
 AreWhole ends.Memory old new lines = ⊤
 
--- a run answered these lines, and wrote the answers
-pub record Ran {H : Type 0} (answers : H → List ℕ → List ℕ → H → Type 0)
+-- a run answered these lines, whose texts may be those that are known, and wrote the answers
+pub record Ran {H : Type 0} (known : List ℕ → Type 0) (answers : H → List ℕ → List ℕ → H → Type 0)
     (left left' taken taken' : Option (List ℕ)) (old new : H) (status : RunEnd) : Type 0 where
   pub lines : List Line
   pub bytes : List ℕ
   pub answered : Answers answers old lines bytes new
-  pub input : Ahead left lines (IsRest answers status new (length lines))
+  pub input : Ahead left lines (IsRest known status (length lines))
   pub number : HasNumber status (length lines)
   pub whole : AreWhole status left left' lines
   pub written : Writes status taken taken' bytes

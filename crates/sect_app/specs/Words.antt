@@ -7,5 +7,7 @@ use Rattle.sect_app.specs.declared.words.Words.TheVariants as asked
 abbrev pub word_list : Words → List (List ℕ)
 word_list asked.Run = codes "run" ∷ []
 word_list asked.RunHelp = codes "run" ∷ codes "--help" ∷ []
+word_list asked.Audit = codes "audit" ∷ []
+word_list asked.AuditHelp = codes "audit" ∷ codes "--help" ∷ []
 word_list asked.Help = codes "--help" ∷ []
 word_list asked.Version = codes "--version" ∷ []

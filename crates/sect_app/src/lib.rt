@@ -1,9 +1,13 @@
 //! Every command of the desk: its words, its loop over the input and its status.
 #![tactic(auto)]
 
-mod first;
+mod answer;
+mod asker;
+mod audit;
 mod help;
+mod over;
 mod reader;
+mod run;
 mod script;
 mod status;
 mod top;

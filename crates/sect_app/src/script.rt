@@ -32,14 +32,17 @@ pub enum RunEnd {
 
 /// What answers lines.
 pub trait Handler {
+    /// The line has an answer.
+    ghost known: { List ℕ → Type 0 };
+
     /// In one state the line is answered by these bytes, which leads to another state.
     ghost answers: { Self → List ℕ → List ℕ → Self → Type 0 };
 
-    /// Puts the answer to a line in place of what `into` held. `Bad` comes exactly where the line has none.
+    /// Puts the answer to a line in place of what `into` held. `Bad` comes only where the line has none.
     /// At `Memory` the line was answered or not, and what `into` holds is left open.
     fn answer(&mut self, line: &[u8], into: &mut Vec<u8>) -> Result<(), LineFault>
         ensures answered { OnOk result (answers self.old line.now into.new.items self.new) }
-        ensures bad { IsErrOf result faults.Bad → (bytes : List ℕ) (new : Self) → answers self.old line.now bytes new → ⊥ }
+        ensures bad { IsErrOf result faults.Bad → known line.now → ⊥ }
         ensures kept { IsErrOf result faults.Bad → self.new ≡ self.old }
         ensures memory { IsErrOf result faults.Memory → MayAnswer answers self.old line.now self.new };
 }
@@ -51,7 +54,7 @@ pub fn run_lines<S: Source, K: Sink, H: Handler>(
     sink: &mut K,
     handler: &mut H,
 ) -> RunEnd
-    ensures ran { Ran H.answers (S.left source.old) (S.left source.new) (K.taken sink.old) (K.taken sink.new)
+    ensures ran { Ran H.known H.answers (S.left source.old) (S.left source.new) (K.taken sink.old) (K.taken sink.new)
         handler.old handler.new result }
     ensures end { result ≡ ends.Done → IsAtEnd (S.left source.new) }
     ensures read_fault { result ≡ ends.ReadFault → Rose (S.faults source.old) (S.faults source.new) }
@@ -91,7 +94,7 @@ fn turn<S: Source, K: Sink, H: Handler>(
 ) -> Option<RunEnd>
     ensures ran { (left taken : Option (List ℕ)) (old : H)
         → Progress H.answers left (S.left source.old) taken (K.taken sink.old) old handler.old number reader.old
-        → GoesOn H.answers left (S.left source.new) taken (K.taken sink.new) old handler.new number reader.new result }
+        → GoesOn H.known H.answers left (S.left source.new) taken (K.taken sink.new) old handler.new number reader.new result }
     ensures few { IfNone result (number ≤ LINES_LIMIT) }
     ensures end { result ≡ Some ends.Done → IsAtEnd (S.left source.new) }
     ensures read_fault { result ≡ Some ends.ReadFault → Rose (S.faults source.old) (S.faults source.new) }
@@ -124,7 +127,7 @@ fn answer_line<K: Sink, H: Handler>(
     answer: &mut Vec<u8>,
     number: u64,
 ) -> Option<RunEnd>
-    ensures answered { Turns H.answers K.taken handler.old handler.new sink.old sink.new number line.now result }
+    ensures answered { Turns H.known H.answers K.taken handler.old handler.new sink.old sink.new number line.now result }
     ensures write_fault { result ≡ Some ends.WriteFault → Rose (K.faults sink.old) (K.faults sink.new) }
     ensures write_faults { K.faults sink.old ≤ K.faults sink.new }
 {

@@ -1,5 +1,10 @@
+// Calls of the desk over objects in memory.
+mod scripts;
+
 use super::*;
+use scripts::Script;
 use sect_edge::{MemClock, MemKeeper, MemLink, MemSink, MemSource, OpenGate};
+use sect_time::Day;
 use std::alloc::Global;
 use std::test::Fail;
 
@@ -13,11 +18,23 @@ s12 1 enrol 12 1";
 const ANSWERS: &[u8] =
     b"0 amended\n1 amended\n2 amended\n3 enrolled 1/-/1/7\n4 blocked 4 [[[[16:7]]]]\n";
 
+const OFFERING_ROW: &[u8] =
+    b"2025-09-01 r1 1 offering 1 course 1 - 3 config 1 - subpart 1 section 7 1 - - = amended";
+
+const STUDENT_ROW: &[u8] = b"2025-09-01 r1 2 student 11 max 18 = amended";
+
+const OTHER_STUDENT_ROW: &[u8] = b"2025-09-01 r1 3 student 12 max 18 = amended";
+
+const REFUSED_ROW: &[u8] = b"2025-09-01 r1 3 student 12 max 18 = refused NotYours";
+
+#[derive(Drop)]
 struct Case {
     input: &'static [u8],
     piece: usize,
     failing_read: u64,
     failing_write: u64,
+    failing_append: u64,
+    rows: &'static [&'static [u8]],
     status: Status,
     output: &'static [u8],
 }
@@ -27,11 +44,13 @@ const ALL: Case = Case {
     piece: 8_192,
     failing_read: 0,
     failing_write: 0,
+    failing_append: 0,
+    rows: &[],
     status: Status::Done,
     output: ANSWERS,
 };
 
-const CASES: [Case; 7] = [
+const CASES: [Case; 12] = [
     ALL,
     Case { piece: 1, ..ALL },
     Case {
@@ -59,15 +78,88 @@ const CASES: [Case; 7] = [
         ..ALL
     },
     Case {
-        input: b"r1 1 offering 1 course 1 - 3 config 1 - subpart 1 section 7 1 - -\nr1 2 student 011 max 18\n",
+        input: b"r1 1 student 11 max 18\ns11 x enrol 11 1\n",
         status: Status::BadLine { line: 2, field: 0 },
         output: b"0 amended\n",
         ..ALL
     },
+    Case {
+        input: b"r1 1 fly 11\n",
+        status: Status::BadLine { line: 1, field: 0 },
+        output: b"",
+        ..ALL
+    },
+    Case {
+        input: b"r1 1 offering 1 course 1 - 3 config 1 - subpart 1 section 7 1 - -\n\
+r1 2 student 11 max 18\n\
+r1 3 student 12 max 18\n\
+s11 1 enrol 11 1\n\
+s11 1 enrol 11 1\n",
+        failing_append: 4,
+        output: b"0 amended\n1 amended\n2 amended\nfault\n3 enrolled 1/-/1/7\n",
+        ..ALL
+    },
+    Case {
+        rows: &[OFFERING_ROW, STUDENT_ROW, REFUSED_ROW],
+        status: Status::BadEntry(2),
+        output: b"",
+        ..ALL
+    },
+    Case {
+        rows: &[OFFERING_ROW, STUDENT_ROW, OTHER_STUDENT_ROW],
+        ..ALL
+    },
+    Case {
+        input: b"s11 1 enrol 11 1\nr1 2 student 11 max 17\n",
+        rows: &[OFFERING_ROW, STUDENT_ROW, OTHER_STUDENT_ROW],
+        output: b"3 enrolled 1/-/1/7\nreused 1\n",
+        ..ALL
+    },
 ];
 
+// The first day of the clock.
+fn first_day() -> Day {
+    match Day::new(20_332) {
+        Some(day) => day,
+        None => unreachable!(),
+    }
+}
+
+// The day after it.
+fn next_day() -> Day {
+    match Day::new(20_333) {
+        Some(day) => day,
+        None => unreachable!(),
+    }
+}
+
+// A keeper with these rows, of which one append fails.
+fn keeper_of(alloc: Global, rows: &[&[u8]], failing: u64) -> Result<MemKeeper, Fail> {
+    let mut owned = Vec::new(alloc);
+    for row in rows {
+        owned.push(row.to_vec(alloc)?)?;
+    }
+    Ok(MemKeeper::new(owned, numbers(alloc, failing)?))
+}
+
+// The clocks of a desk that is used on the first day and a later one.
+fn clocks(alloc: Global) -> Result<Vec<MemClock>, Fail> {
+    let later = vec![in alloc; next_day()]?;
+    let mut clocks = Vec::new(alloc);
+    clocks.push(MemClock::new(first_day(), later))?;
+    Ok(clocks)
+}
+
+fn numbers(alloc: Global, number: u64) -> Result<Vec<u64>, Fail> {
+    Ok(vec![in alloc; number]?)
+}
+
 // Calls the desk over objects in memory, with a sink that takes a byte at a time.
-fn answer(rt: &HostRuntime, words: &[&str], case: &Case) -> Result<(Status, MemSink), Fail> {
+fn answer(
+    rt: &HostRuntime,
+    words: &[&str],
+    case: &Case,
+) -> Result<(Status, MemSink, MemKeeper), Fail> {
     let alloc = rt.alloc();
     let mut owned = Vec::new(alloc);
     for word in words {
@@ -78,13 +170,13 @@ fn answer(rt: &HostRuntime, words: &[&str], case: &Case) -> Result<(Status, MemS
         case.piece.max(1),
         numbers(alloc, case.failing_read)?,
     );
-    let Ok(mut sink) = MemSink::new(alloc, 1_000, 1, numbers(alloc, case.failing_write)?) else {
+    let Ok(mut sink) = MemSink::new(alloc, 4_000, 1, numbers(alloc, case.failing_write)?) else {
         return Err(Fail::from("no memory"));
     };
-    let keeper = MemKeeper::new(Vec::new(alloc), Vec::new(alloc));
+    let keeper = keeper_of(alloc, case.rows, case.failing_append)?;
     let links: Vec<MemLink> = Vec::new(alloc);
-    let clocks: Vec<MemClock> = Vec::new(alloc);
-    let (status, _keeper, _links) = desk(
+    let clocks = clocks(alloc)?;
+    let (status, keeper, _links) = desk(
         rt,
         &owned,
         &mut source,
@@ -94,17 +186,27 @@ fn answer(rt: &HostRuntime, words: &[&str], case: &Case) -> Result<(Status, MemS
         clocks,
         &OpenGate,
     );
-    Ok((status, sink))
+    match keeper {
+        Some(keeper) => Ok((status, sink, keeper)),
+        None => Err(Fail::from("no keeper")),
+    }
 }
 
-fn numbers(alloc: Global, number: u64) -> Result<Vec<u64>, Fail> {
-    Ok(vec![in alloc; number]?)
+// The script on a desk of its own is answered as it should be.
+fn is_answered(rt: &HostRuntime, script: &Script) -> Result<bool, Fail> {
+    let case = Case {
+        input: script.lines,
+        output: script.answers,
+        ..ALL
+    };
+    let (status, sink, _keeper) = answer(rt, &["run"], &case)?;
+    Ok(status == Status::Done && sink.bytes() == script.answers)
 }
 
 #[test]
 fn runs_end_as_they_should(rt: HostRuntime) -> Result<(), Fail> {
     for case in &CASES {
-        let (status, sink) = answer(&rt, &["run"], case)?;
+        let (status, sink, _keeper) = answer(&rt, &["run"], case)?;
         assert_eq!(rt; status, case.status);
         assert_eq!(rt; sink.bytes(), case.output);
     }
@@ -112,11 +214,87 @@ fn runs_end_as_they_should(rt: HostRuntime) -> Result<(), Fail> {
 }
 
 #[test]
+fn rows_have_the_days_of_the_clock(rt: HostRuntime) -> Result<(), Fail> {
+    let case = Case {
+        input: b"r1 1 student 11 max 18\n@2025-10-01 r1 2 student 12 max 18\nr1 1 student 11 max 18\nr1 3 student 13 max 18\n",
+        output: b"0 amended\n1 amended\n0 amended\n2 amended\n",
+        ..ALL
+    };
+    let (status, sink, keeper) = answer(&rt, &["run"], &case)?;
+    assert_eq!(rt; status, Status::Done);
+    assert_eq!(rt; sink.bytes(), case.output);
+    let rows = keeper.rows();
+    assert_eq!(rt; rows.len(), 3);
+    assert_eq!(rt; rows[0].as_slice(), b"2025-09-01 r1 1 student 11 max 18 = amended".as_slice());
+    assert_eq!(rt; rows[1].as_slice(), b"2025-10-01 r1 2 student 12 max 18 = amended".as_slice());
+    assert_eq!(rt; rows[2].as_slice(), b"2025-09-02 r1 3 student 13 max 18 = amended".as_slice());
+    Ok(())
+}
+
+#[test]
+fn places_are_found_or_refused(rt: HostRuntime) -> Result<(), Fail> {
+    for script in [
+        &scripts::FIRST_TO_FIFTH,
+        &scripts::TOUCHING,
+        &scripts::PARENTS,
+        &scripts::PARENTS_FULL,
+        &scripts::SPENT,
+        &scripts::ENOUGH,
+        &scripts::ORDINARY,
+    ] {
+        assert!(rt; is_answered(&rt, script)?);
+    }
+    Ok(())
+}
+
+#[test]
+fn reservations_and_permissions(rt: HostRuntime) -> Result<(), Fail> {
+    for script in [
+        &scripts::RESERVED,
+        &scripts::EXPIRED,
+        &scripts::OVER,
+        &scripts::OVERLAP,
+        &scripts::RESTRICTED,
+    ] {
+        assert!(rt; is_answered(&rt, script)?);
+    }
+    Ok(())
+}
+
+#[test]
+fn swaps_waits_and_batches(rt: HostRuntime) -> Result<(), Fail> {
+    for script in [
+        &scripts::SWAP,
+        &scripts::SWAP_BLOCKED,
+        &scripts::WAITING,
+        &scripts::WAITING_IN_ORDER,
+        &scripts::BATCH,
+        &scripts::BATCH_WAITING,
+    ] {
+        assert!(rt; is_answered(&rt, script)?);
+    }
+    Ok(())
+}
+
+#[test]
+fn bounds_and_refusals(rt: HostRuntime) -> Result<(), Fail> {
+    for script in [
+        &scripts::FREE_TIME,
+        &scripts::REFUSALS,
+        &scripts::CREDITS,
+        &scripts::CREDITS_HELD,
+    ] {
+        assert!(rt; is_answered(&rt, script)?);
+    }
+    Ok(())
+}
+
+#[test]
 fn words_are_read_exactly(rt: HostRuntime) -> Result<(), Fail> {
-    let (status, sink) = answer(&rt, &["run", "extra"], &ALL)?;
+    let (status, sink, _keeper) = answer(&rt, &["run", "extra"], &ALL)?;
     assert_eq!(rt; status, Status::BadWords);
     assert_eq!(rt; sink.bytes(), b"".as_slice());
-    let (status, sink) = answer(&rt, &["--version"], &ALL)?;
+    let (status, sink, _keeper) = answer(&rt, &["--version"], &ALL)?;
     assert_eq!(rt; status, Status::Done);
     assert_eq!(rt; sink.bytes(), b"desk 0.1.0\n".as_slice());
     Ok(())

@@ -8,6 +8,8 @@ ghost use Rattle.sect_app.specs.Words.{word_list};
 pub enum Words {
     Run,
     RunHelp,
+    Audit,
+    AuditHelp,
     Help,
     Version,
 }
@@ -33,6 +35,8 @@ fn read_word(word: &[u8]) -> Option<Words>
 {
     if word == b"run".as_slice() {
         Some(Words::Run)
+    } else if word == b"audit".as_slice() {
+        Some(Words::Audit)
     } else if word == b"--help".as_slice() {
         Some(Words::Help)
     } else if word == b"--version".as_slice() {
@@ -47,8 +51,12 @@ fn read_help(command: &[u8], word: &[u8]) -> Option<Words>
     ensures found { IfSome result (λ asked. command.now ∷ word.now ∷ [] ≡ word_list asked) }
     ensures only { (asked : Words) → command.now ∷ word.now ∷ [] ≡ word_list asked → result ≡ Some asked }
 {
-    if command == b"run".as_slice() && word == b"--help".as_slice() {
+    if word != b"--help".as_slice() {
+        None
+    } else if command == b"run".as_slice() {
         Some(Words::RunHelp)
+    } else if command == b"audit".as_slice() {
+        Some(Words::AuditHelp)
     } else {
         None
     }

@@ -3,6 +3,7 @@
 
 mod act;
 mod change;
+mod day;
 pub mod laws;
 mod limits;
 mod lines;

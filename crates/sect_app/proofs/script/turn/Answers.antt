@@ -14,7 +14,7 @@ returns-then-is_empty-clause-ran g c = λ left taken old p.
 pub returns-in-Ok-LineFeed-clause-ran : goal.returns-in-Ok-LineFeed-clause-ran
 returns-in-Ok-LineFeed-clause-ran g c = λ left taken old p.
     let read = rw c.in-Ok-LineFeed.field-0-is at c.in-Ok-LineFeed.ensures.read in
-    feed_goes_on g.K.Sink.taken c.args.sink.now c.answer_line.new.sink c.answer_line.new.handler c.read_line.new.self c.read_line.new.line.items
+    feed_goes_on g.H.Handler.known g.K.Sink.taken c.args.sink.now c.answer_line.new.sink c.answer_line.new.handler c.read_line.new.self c.read_line.new.line.items
     c.deref.result.now c.answer_line.result c.deref.ensures.value (progress_more _ read.0 p read.1) read.2 c.answer_line.ensures.answered
 
 pub returns-in-None-clause-ran : goal.returns-in-None-clause-ran

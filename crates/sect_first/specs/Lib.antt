@@ -1,4 +1,0 @@
-pub mod Machine
-pub mod Replies
-pub mod Standing
-pub mod Texts

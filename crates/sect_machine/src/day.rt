@@ -1,0 +1,16 @@
+// The machine's day.
+
+ghost use Rattle.std.specs.Prelude.{◌≡◌};
+ghost use Rattle.sect_machine.specs.Standing.{state_in};
+
+use crate::machine::Machine;
+use sect_time::Day;
+
+impl Machine {
+    /// The day of the world. It takes no memory.
+    pub fn day(&self) -> Day
+        ensures { result ≡ (state_in self.now).world.day }
+    {
+        self.world.day()
+    }
+}
