@@ -25,6 +25,3 @@ pub use machine::Machine;
 pub use sect_command::{Command, Query, Reply, View};
 pub use state::State;
 pub use undo::MachineUndo;
-
-#[cfg(test)]
-mod tests;
