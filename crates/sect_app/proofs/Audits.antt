@@ -101,7 +101,7 @@ all_verified keeps law s [] kept replay = refl
 all_verified keeps law s (e ∷ es) kept replay =
     let here : one_if (is_verified s e) ≡ one_if (is_blocked e) = ap one_if (same_test law s e e.reply kept refl replay.0) in
     let rest : verified_from (stepped s e.day e.id.caller e.command).0 es ≡ blocked es =
-        all_verified keeps law (stepped s e.day e.id.caller e.command).0 es (keeps s e.day e.id.caller e.command kept) replay.1 in
+    all_verified keeps law (stepped s e.day e.id.caller e.command).0 es (keeps s e.day e.id.caller e.command kept) replay.1 in
     λ i. here i + rest i
 
 -- ---- one entry more

@@ -143,7 +143,7 @@ module _ {O K : Type 0} (start : O) (stepped : O → ℕ → Caller → Command 
       → RunsLines start stepped is_row rows faults keeper back left left' taken taken' days status
   runs_lines keeper back opened first last left left' taken taken' days end status opens at ran sound is_back is_status =
       let ran' : Ran IsKnown (AnswersScript stepped is_row rows faults) left left' taken taken' (record { desk = opened; days = days }) last end =
-          subst (λ (s : Sitting O Command Reply K). Ran IsKnown (AnswersScript stepped is_row rows faults) left left' taken taken' s last end) at ran in
+      subst (λ (s : Sitting O Command Reply K). Ran IsKnown (AnswersScript stepped is_row rows faults) left left' taken taken' s last end) at ran in
       let grows : Grows is_row rows opened last.desk = grows_lines stepped is_row rows faults ran'.lines (record { desk = opened; days = days }) last ran'.bytes ran'.answered in
       record {
         opened = opened;

@@ -87,9 +87,7 @@ impl<O: Object<Command = Command, Reply = Reply>, K: Keeper, C: Clock> Asker<O, 
     }
 }
 
-impl<O: Object<Command = Command, Reply = Reply>, K: Keeper, C: Clock> Handler
-    for Asker<O, K, C>
-{
+impl<O: Object<Command = Command, Reply = Reply>, K: Keeper, C: Clock> Handler for Asker<O, K, C> {
     ghost known = { IsKnown };
 
     ghost answers = { AnswersScript O.stepped O.is_row K.rows K.faults };

@@ -17,13 +17,13 @@ use sect_once::{Desk, Object, OpenFault};
 use std::alloc::Global;
 
 /// Answers the lines of the source into the sink, over the history of the keeper's rows. The keeper comes back.
-pub(crate) fn run<O: Object<Command = Command, Reply = Reply>, S: Source, T: Sink, K: Keeper, C: Clock>(
-    alloc: Global,
-    source: &mut S,
-    sink: &mut T,
-    keeper: K,
-    clock: C,
-) -> (Status, K)
+pub(crate) fn run<
+    O: Object<Command = Command, Reply = Reply>,
+    S: Source,
+    T: Sink,
+    K: Keeper,
+    C: Clock,
+>(alloc: Global, source: &mut S, sink: &mut T, keeper: K, clock: C) -> (Status, K)
 where
     O: Drop,
     C: Drop,
@@ -44,13 +44,7 @@ where
 }
 
 // Answers the lines of the source over the desk to which a keeper opened.
-fn ask_lines<
-    O: Object<Command = Command, Reply = Reply>,
-    S: Source,
-    T: Sink,
-    K: Keeper,
-    C: Clock,
->(
+fn ask_lines<O: Object<Command = Command, Reply = Reply>, S: Source, T: Sink, K: Keeper, C: Clock>(
     alloc: Global,
     source: &mut S,
     sink: &mut T,

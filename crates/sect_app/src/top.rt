@@ -53,7 +53,6 @@ pub fn desk<R: AllocGlobal, S: Source, T: Sink, L: Link, K: Keeper, C: Clock + D
 {
     let _ = gate;
     let clock = first_of(clocks);
-    let (status, keeper) =
-        desk_over(rt.alloc(), words, source, sink, keeper, clock);
+    let (status, keeper) = desk_over(rt.alloc(), words, source, sink, keeper, clock);
     (status, Some(keeper), links)
 }
