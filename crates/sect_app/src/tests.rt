@@ -158,22 +158,11 @@ fn numbers(alloc: Global, number: u64) -> Result<Vec<u64>, Fail> {
     Ok(vec![in alloc; number]?)
 }
 
-// Calls the desk over objects in memory, on a keeper with the case's rows.
+// Calls the desk over objects in memory, with a sink that takes a byte at a time.
 fn answer(
     rt: &HostRuntime,
     words: &[&str],
     case: &Case,
-) -> Result<(Status, MemSink, MemKeeper), Fail> {
-    let keeper = keeper_of(rt.alloc(), case.rows, case.failing_append)?;
-    answer_over(rt, words, case, keeper)
-}
-
-// Calls the desk over objects in memory, with a sink that takes a byte at a time.
-fn answer_over(
-    rt: &HostRuntime,
-    words: &[&str],
-    case: &Case,
-    keeper: MemKeeper,
 ) -> Result<(Status, MemSink, MemKeeper), Fail> {
     let alloc = rt.alloc();
     let mut owned = Vec::new(alloc);
@@ -188,6 +177,7 @@ fn answer_over(
     let Ok(mut sink) = MemSink::new(alloc, 4_000, 1, numbers(alloc, case.failing_write)?) else {
         return Err(Fail::from("no memory"));
     };
+    let keeper = keeper_of(alloc, case.rows, case.failing_append)?;
     let links: Vec<MemLink> = Vec::new(alloc);
     let clocks = clocks(alloc)?;
     let (status, keeper, _links) = desk(
@@ -313,29 +303,6 @@ fn bounds_and_refusals(rt: HostRuntime) -> Result<(), Fail> {
 }
 
 #[test]
-fn audits_verify_what_is_blocked(rt: HostRuntime) -> Result<(), Fail> {
-    let (status, sink, keeper) = answer(&rt, &["audit"], &ALL)?;
-    assert_eq!(rt; status, Status::Done);
-    assert_eq!(rt;
-        sink.bytes(),
-        b"entries 0 blocked 0 verified 0 day 1970-01-01\n".as_slice()
-    );
-    let case = Case {
-        input: scripts::FIRST_TO_THIRD,
-        ..ALL
-    };
-    let (status, _sink, keeper) = answer_over(&rt, &["run"], &case, keeper)?;
-    assert_eq!(rt; status, Status::Done);
-    let (status, sink, _keeper) = answer_over(&rt, &["audit"], &ALL, keeper)?;
-    assert_eq!(rt; status, Status::Done);
-    assert_eq!(rt;
-        sink.bytes(),
-        b"entries 7 blocked 2 verified 2 day 2025-09-01\n".as_slice()
-    );
-    Ok(())
-}
-
-#[test]
 fn words_are_read_exactly(rt: HostRuntime) -> Result<(), Fail> {
     let (status, sink, _keeper) = answer(&rt, &["run", "extra"], &ALL)?;
     assert_eq!(rt; status, Status::BadWords);
@@ -343,7 +310,5 @@ fn words_are_read_exactly(rt: HostRuntime) -> Result<(), Fail> {
     let (status, sink, _keeper) = answer(&rt, &["--version"], &ALL)?;
     assert_eq!(rt; status, Status::Done);
     assert_eq!(rt; sink.bytes(), b"desk 0.1.0\n".as_slice());
-    let (status, _sink, _keeper) = answer(&rt, &["make", "101"], &ALL)?;
-    assert_eq!(rt; status, Status::BadWords);
     Ok(())
 }

@@ -415,13 +415,3 @@ r1 4 student 11 max 2\n",
 3 enrolled 1/-/1/7\n\
 4 refused LimitBelow 3\n",
 };
-
-/// Seven requests, two of which are blocked.
-pub(super) const FIRST_TO_THIRD: &[u8] =
-    b"r1 1 offering 1 course 1 - 3 config 1 - subpart 1 section 7 1 - -\n\
-r1 2 student 11 max 18\n\
-r1 3 student 12 max 18\n\
-s11 1 enrol 11 1\n\
-s12 1 enrol 12 1\n\
-s12 2 enrol 12 1 budget 3\n\
-s12 3 enrol 12 1 budget 4\n";
