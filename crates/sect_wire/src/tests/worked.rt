@@ -1,5 +1,6 @@
 // The lines, replies and rows of a registrar's worked examples, each as it stands.
 use super::*;
+use sect_base::Same;
 
 const LINES: [&str; 80] = [
     "r1 1 offering 1 course 1 - 3 config 1 - subpart 1 section 7 1 - -",
@@ -157,7 +158,7 @@ fn a_budget_written_out_is_the_same_command(rt: HostRuntime) -> Result<(), Fail>
     let alloc = rt.alloc();
     let plain = read_line(alloc, b"s12 1 enrol 12 1")?;
     let written = read_line(alloc, b"s12 1 enrol 12 1 budget 2000")?;
-    assert!(rt; plain.command == written.command);
+    assert!(rt; plain.command.same(&written.command));
     Ok(())
 }
 
