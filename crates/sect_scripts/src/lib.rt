@@ -5,4 +5,4 @@ mod script;
 #[cfg(test)]
 mod tests;
 
-pub use script::{first_other, replied};
+pub use script::{first_other, refutes, replied};

@@ -1,7 +1,13 @@
 // A machine is asked lines, and its replies are compared with texts.
 
-use sect_base::Memory;
+ghost use Rattle.std.specs.Prelude.{◌≡◌};
+ghost use Rattle.sect_model.specs.Step.{step as step_of};
+ghost use Rattle.sect_machine.specs.Standing.{state_in};
+
+use sect_base::{Block, Caller, Memory};
+use sect_command::{Command, Reply};
 use sect_machine::Machine;
+use sect_machine::laws::blocked_commands_are_taken;
 use sect_once::Object;
 use sect_text::print_reply;
 use sect_time::{Day, read_day};
@@ -44,4 +50,39 @@ pub fn first_other(alloc: Global, rows: &[(&str, &str)]) -> Result<Option<usize>
         }
     }
     Ok(None)
+}
+
+/// Whether a tree refutes a request that the machine would block, in the machine as it stands. None where it wouldn't block
+/// it. The machine is as before.
+pub fn refutes(
+    machine: &mut Machine,
+    day: Day,
+    ask: &LineAsk,
+    tree: &Block,
+) -> Result<Option<bool>, Memory>
+    ensures { state_in machine.new ≡ state_in machine.old }
+{
+    let (reply, undo) = machine.step(day, ask.id.caller, &ask.command)?;
+    machine.undo(undo);
+    checked(machine, day, ask.id.caller, &ask.command, &reply, tree)
+}
+
+/// The same, of a command whose reply is known.
+fn checked(
+    machine: &mut Machine,
+    day: Day,
+    caller: Caller,
+    command: &Command,
+    reply: &Reply,
+    tree: &Block,
+) -> Result<Option<bool>, Memory>
+    requires { (step_of (state_in machine.old) day caller command.now).reply ≡ reply.now }
+    ensures { state_in machine.new ≡ state_in machine.old }
+{
+    machine.is_kept();
+    blocked_commands_are_taken();
+    match reply {
+        Reply::Blocked(_, _) => Ok(Some(machine.recheck(day, command, tree)?)),
+        _ => Ok(None),
+    }
 }

@@ -6,4 +6,5 @@ mod full;
 mod looked;
 mod many;
 mod refused;
+mod trees;
 mod waited;

@@ -48,11 +48,14 @@ fn says(alloc: Global, machine: &Machine, query: Query, text: &str) -> Result<bo
     Ok(lines.as_slice() == text.as_bytes())
 }
 
-const OPEN: &str = "offering 1 limit 7 held 2 free 4\ncourse 2 limit 5 held 1\ncourse 1 limit - held 1\nconfig 1 limit 4 held 2 free 1\nsection 7 limit 1 held 1 free 0\nsection 8 limit 2 held 1 free 0\nconfig 2 limit 3 held 0 free 3\nsection 9 limit 3 held 0 free 3 cancelled\n";
+const OPEN: &str =
+    "offering 1 limit 7 held 2 free 4\ncourse 2 limit 5 held 1\ncourse 1 limit - held 1\nconfig 1 limit 4 held 2 free 1\nsection 7 limit 1 held 1 free 0\nsection 8 limit 2 held 1 free 0\nconfig 2 limit 3 held 0 free 3\nsection 9 limit 3 held 0 free 3 cancelled\n";
 
-const UNLIMITED: &str = "offering 4 limit - held 3 free -\ncourse 4 limit - held 3\nconfig 4 limit - held 3 free -\nsection 41 limit - held 3 free -\n";
+const UNLIMITED: &str =
+    "offering 4 limit - held 3 free -\ncourse 4 limit - held 3\nconfig 4 limit - held 3 free -\nsection 41 limit - held 3 free -\n";
 
-const SCHEDULE: &str = "student 11 credits 5 max 18\ncourse 2 reservation - config 1 sections 7\ncourse 4 reservation - config 4 sections 41\n";
+const SCHEDULE: &str =
+    "student 11 credits 5 max 18\ncourse 2 reservation - config 1 sections 7\ncourse 4 reservation - config 4 sections 41\n";
 
 const ROLL: &str = "section 8 limit 2 held 1\nstudent 13 course 1 reservation 5\n";
 
@@ -64,8 +67,22 @@ fn of_a_term(rt: HostRuntime) -> Result<(), Fail> {
     assert!(rt; says(alloc, &machine, Query::Open(OfferingId(1)), OPEN)?);
     assert!(rt; says(alloc, &machine, Query::Open(OfferingId(4)), UNLIMITED)?);
     assert!(rt; says(alloc, &machine, Query::Schedule(StudentId(11)), SCHEDULE)?);
-    assert!(rt; says(alloc, &machine, Query::Waiting, "ticket 1 student 12 courses 1 give 4\n")?);
-    assert!(rt; says(alloc, &machine, Query::Unmet, "student 12 rank 1 courses 1\n")?);
+    assert!(rt;
+        says(
+            alloc,
+            &machine,
+            Query::Waiting,
+            "ticket 1 student 12 courses 1 give 4\n"
+        )?
+    );
+    assert!(rt;
+        says(
+            alloc,
+            &machine,
+            Query::Unmet,
+            "student 12 rank 1 courses 1\n"
+        )?
+    );
     Ok(())
 }
 
@@ -73,9 +90,30 @@ fn of_a_term(rt: HostRuntime) -> Result<(), Fail> {
 fn of_what_nothing_has(rt: HostRuntime) -> Result<(), Fail> {
     let alloc = rt.alloc();
     let machine = Machine::empty(alloc);
-    assert!(rt; says(alloc, &machine, Query::Roll(SectionId(7)), "section 7 unknown\n")?);
-    assert!(rt; says(alloc, &machine, Query::Open(OfferingId(1)), "offering 1 unknown\n")?);
-    assert!(rt; says(alloc, &machine, Query::Schedule(StudentId(11)), "student 11 unknown\n")?);
+    assert!(rt;
+        says(
+            alloc,
+            &machine,
+            Query::Roll(SectionId(7)),
+            "section 7 unknown\n"
+        )?
+    );
+    assert!(rt;
+        says(
+            alloc,
+            &machine,
+            Query::Open(OfferingId(1)),
+            "offering 1 unknown\n"
+        )?
+    );
+    assert!(rt;
+        says(
+            alloc,
+            &machine,
+            Query::Schedule(StudentId(11)),
+            "student 11 unknown\n"
+        )?
+    );
     assert!(rt; says(alloc, &machine, Query::Waiting, "none\n")?);
     assert!(rt; says(alloc, &machine, Query::Unmet, "none\n")?);
     Ok(())
