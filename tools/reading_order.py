@@ -151,7 +151,7 @@ CHAPTERS = [
     ('The program',
      'The lines of an input, how the desk answers them, the audit, and what is done for the words.',
      ['sect_app/specs/' + n + '.antt'
-      for n in ('Lines', 'Reading', 'Run', 'AnswerLines', 'Asks', 'Desk', 'Step', 'Audit', 'Words', 'Help', 'Machine')]),
+      for n in ('Lines', 'Reading', 'Run', 'AnswerLines', 'Asks', 'Desk', 'Step', 'Audit', 'Generated', 'Made', 'Stages', 'Words', 'Help', 'Machine')]),
     ('The turn and the office',
      'One value under a turn, and the passes that share it.',
      ['sect_turn/specs/' + n + '.antt' for n in ('Seats', 'Rule', 'Steps', 'Passes')]

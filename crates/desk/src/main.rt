@@ -42,7 +42,7 @@ fn start(rt: HostRuntime) -> io::Result<Status> {
 fn print_status(rt: HostRuntime, status: Status) -> io::Result<()> {
     match status {
         Status::Done => Ok(()),
-        Status::BadWords => eprintln!(rt; "usage: desk run|audit"),
+        Status::BadWords => eprintln!(rt; "usage: desk run|make|audit"),
         Status::BadLine { line, field } => eprintln!(rt; "line {line} field {field}"),
         Status::ReadFault => eprintln!(rt; "read fault"),
         Status::WriteFault => eprintln!(rt; "write fault"),

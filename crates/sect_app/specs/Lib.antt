@@ -3,11 +3,14 @@ pub mod Asks
 pub mod Audit
 pub mod Audited
 pub mod Desk
+pub mod Generated
 pub mod Help
 pub mod Lines
 pub mod Machine
+pub mod Made
 pub mod Progress
 pub mod Reading
 pub mod Run
+pub mod Stages
 pub mod Step
 pub mod Words

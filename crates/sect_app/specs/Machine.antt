@@ -14,6 +14,7 @@ use Rattle.sect_app.specs.Step.{state_of, stepped}
 use Rattle.sect_app.specs.Audit.{Audits}
 use Rattle.sect_app.specs.Desk.{RunsLines, Says, StaysShut}
 use Rattle.sect_app.specs.Help.{help_text}
+use Rattle.sect_app.specs.Made.{Makes}
 
 -- at each front of the history no limit is passed, and no two sections of a student overlap but where a used reservation permits it
 abbrev pub IsGoodThroughout : List (Entry Command Reply) → Type 0
@@ -37,5 +38,7 @@ module _ {K : Type 0} (rows : K → Option (List (List ℕ))) (faults : K → �
       Audits rows faults keeper back taken taken' status ⊎ DeskStaysShut keeper back left left' taken taken' status
   DeskDoes asked.RunHelp keeper back left left' taken taken' days status = Says (help_text asked.RunHelp) taken taken' status × (back ≡ keeper)
   DeskDoes asked.AuditHelp keeper back left left' taken taken' days status = Says (help_text asked.AuditHelp) taken taken' status × (back ≡ keeper)
+  DeskDoes (asked.Make offerings) keeper back left left' taken taken' days status = Makes offerings days taken taken' status × (back ≡ keeper)
+  DeskDoes asked.MakeHelp keeper back left left' taken taken' days status = Says (help_text asked.MakeHelp) taken taken' status × (back ≡ keeper)
   DeskDoes asked.Help keeper back left left' taken taken' days status = Says (help_text asked.Help) taken taken' status × (back ≡ keeper)
   DeskDoes asked.Version keeper back left left' taken taken' days status = Says (help_text asked.Version) taken taken' status × (back ≡ keeper)

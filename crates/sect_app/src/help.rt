@@ -11,6 +11,7 @@ requests, reservations and a wait-list, and answers each request with a place or
 Commands:\n\
   desk run             reads requests from standard input, one a line, and answers each by a line\n\
   desk audit           checks each refusal of a history again, and tells how many there are\n\
+  desk make N          makes N offerings with their students, and tells how many requests are met\n\
   desk COMMAND --help  says more of a command\n\
   desk --help          prints this text\n\
   desk --version       prints the version\n\
@@ -37,6 +38,12 @@ const AUDIT_HELP: &[u8] =
   entries E blocked B verified V day D\n\
 E requests have acted, B of them were blocked, and V of these by a tree that refutes every choice. D is the day.\n";
 
+const MAKE_HELP: &[u8] =
+    b"desk make N: makes N offerings (1 to 100) and twenty students for each, meets their requests, and prints one line:\n\
+\n\
+  offerings N students M met A blocked B spent C\n\
+A requests were met, B were blocked, and C would have taken too long a search. No input is read and nothing is kept.\n";
+
 const VERSION: &[u8] = b"desk 0.1.0\n";
 
 /// The text that is printed for words that only ask for one.
@@ -47,6 +54,8 @@ pub fn help_of(words: Words) -> &'static [u8]
         Words::Run => b"",
         Words::Audit => b"",
         Words::AuditHelp => AUDIT_HELP,
+        Words::Make(_) => b"",
+        Words::MakeHelp => MAKE_HELP,
         Words::Help => HELP,
         Words::RunHelp => RUN_HELP,
         Words::Version => VERSION,

@@ -4,7 +4,10 @@
 mod answer;
 mod asker;
 mod audit;
+mod generate;
 mod help;
+mod make;
+mod number;
 mod over;
 mod reader;
 mod run;

@@ -1,5 +1,5 @@
 // What is done for the words.
-ghost use Rattle.std.specs.Prelude.{◌≡◌, ◌≢◌, ◌↔◌, ◌<◌, ℕ, length, map};
+ghost use Rattle.std.specs.Prelude.{◌≡◌, ◌≢◌, ◌↔◌, ◌<◌, ◌≤◌, ℕ, length, map};
 ghost use Rattle.std.specs.String.{string_bytes};
 ghost use Rattle.std.specs.Io.KnownBytes.{IsAtEnd};
 ghost use Rattle.sect_edge.specs.Causes.{Rose};
@@ -8,10 +8,12 @@ ghost use Rattle.sect_app.specs.declared.words.Words.{Words};
 ghost use Rattle.sect_app.specs.Desk.{Says, first_days};
 ghost use Rattle.sect_app.specs.Machine.{DeskDoes};
 ghost use Rattle.sect_app.specs.Help.{help_text};
-ghost use Rattle.sect_app.specs.Words.{word_list};
+ghost use Rattle.sect_app.specs.Made.{Makes};
+ghost use Rattle.sect_app.specs.Words.{AskFor, word_list};
 
 use crate::audit::audit;
 use crate::help::help_of;
+use crate::make::make;
 use crate::run::run;
 use crate::status::Status;
 use crate::words::{Words, read_words};
@@ -30,9 +32,9 @@ pub(crate) fn desk_over<S: Source, T: Sink, K: Keeper, C: Clock + Drop>(
     keeper: K,
     clock: C,
 ) -> (Status, K)
-    ensures bad_words { (result.0 ≡ Status.BadWords) ↔ ((asked : Words) → map string_bytes words.now ≡ word_list asked → ⊥) }
+    ensures bad_words { (result.0 ≡ Status.BadWords) ↔ ((asked : Words) → AskFor (map string_bytes words.now) asked → ⊥) }
     ensures untouched { result.0 ≡ Status.BadWords → (source.new ≡ source.old) × (sink.new ≡ sink.old) × (result.1 ≡ keeper) }
-    ensures does { (asked : Words) → map string_bytes words.now ≡ word_list asked
+    ensures does { (asked : Words) → AskFor (map string_bytes words.now) asked
         → DeskDoes K.rows K.faults asked keeper result.1
         (S.left source.old) (S.left source.new) (T.taken sink.old) (T.taken sink.new) (C.days clock) result.0 }
     ensures unread { (map string_bytes words.now ≡ word_list Words.Run → ⊥) → source.new ≡ source.old }
@@ -47,9 +49,28 @@ pub(crate) fn desk_over<S: Source, T: Sink, K: Keeper, C: Clock + Drop>(
     match read_words(words) {
         Some(Words::Run) => run_desk(alloc, source, sink, keeper, clock),
         Some(Words::Audit) => audit(alloc, sink, keeper),
+        Some(Words::Make(offerings)) => (make_on(alloc, offerings, sink, clock), keeper),
         Some(asked) => (say(asked, sink), keeper),
         None => (Status::BadWords, keeper),
     }
+}
+
+// Makes the offerings on the clock's day, and writes the summary.
+fn make_on<T: Sink, C: Clock + Drop>(
+    alloc: Global,
+    offerings: u32,
+    sink: &mut T,
+    clock: C,
+) -> Status
+    requires first { 1 ≤ offerings }
+    requires few { offerings ≤ 100 }
+    ensures makes { Makes offerings (C.days clock) (T.taken sink.old) (T.taken sink.new) result }
+    ensures write_fault { result ≡ Status.WriteFault → Rose (T.faults sink.old) (T.faults sink.new) }
+    ensures others { result ≢ Status.BadWords × (result ≢ Status.LinkFault) × (result ≢ Status.ReadFault) × (result ≢ Status.KeeperFault) }
+    ensures no_entry { (row : ℕ) → result ≢ Status.BadEntry row }
+{
+    let mut clock = clock;
+    make(alloc, offerings, sink, &mut clock)
 }
 
 // Answers the lines of the source over the machine's history.

@@ -7,7 +7,7 @@ ghost use Rattle.sect_app.specs.declared.status.Status.{Status};
 ghost use Rattle.sect_app.specs.declared.words.Words.{Words};
 ghost use Rattle.sect_app.specs.Desk.{IsUnfaulted, first_days};
 ghost use Rattle.sect_app.specs.Machine.{DeskDoes};
-ghost use Rattle.sect_app.specs.Words.{word_list};
+ghost use Rattle.sect_app.specs.Words.{AskFor, word_list};
 
 use crate::over::{desk_over, first_of};
 use crate::status::Status;
@@ -29,9 +29,9 @@ pub fn desk<R: AllocGlobal, S: Source, T: Sink, L: Link, K: Keeper, C: Clock + D
     requires { 0 < length clocks.items }
 
     // The words.
-    ensures bad_words { (result.0 ≡ Status.BadWords) ↔ ((asked : Words) → map string_bytes words.now ≡ word_list asked → ⊥) }
+    ensures bad_words { (result.0 ≡ Status.BadWords) ↔ ((asked : Words) → AskFor (map string_bytes words.now) asked → ⊥) }
     ensures untouched { result.0 ≡ Status.BadWords → (source.new ≡ source.old) × (sink.new ≡ sink.old) × (result.1 ≡ Some keeper) }
-    ensures does { (asked : Words) → map string_bytes words.now ≡ word_list asked
+    ensures does { (asked : Words) → AskFor (map string_bytes words.now) asked
         → IfSome result.1 (λ back. DeskDoes K.rows K.faults asked keeper back
         (S.left source.old) (S.left source.new) (T.taken sink.old) (T.taken sink.new) (first_days C.days clocks.items) result.0) }
     ensures unread { (map string_bytes words.now ≡ word_list Words.Run → ⊥) → source.new ≡ source.old }
