@@ -196,6 +196,7 @@ SENTENCES = {
     ('sect_turn/specs/Steps.antt', 'Looked'): 'the seat has the turn where its ticket is served, and else nothing has changed',
     ('sect_turn/specs/Passes.antt', 'share'): 'the share of a pass',
     ('sect_turn/specs/Passes.antt', 'HoldsTurn'): 'the pass has the turn, and the slot stands empty in its hands',
+    ('sect_app/specs/Generated.antt', 'batch_command'): 'the batch of this number, from 0',
     ('sect_people/specs/Changes.antt', 'students_by_id'): 'the students in rising order of their ids',
     ('sect_command/specs/TreeText.antt', 'HaveTexts'): 'each of the trees has a text with at most so many brackets',
     (BASE + 'Padded.antt', 'no_section'): 'the section of id 0, which fills cells',
