@@ -2,5 +2,4 @@
 
 mod acted;
 mod refused;
-mod trees;
 mod waited;
