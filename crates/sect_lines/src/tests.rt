@@ -205,9 +205,10 @@ fn courses_asked_for(rt: HostRuntime) -> Result<(), Fail> {
 #[test]
 fn a_free_time(rt: HostRuntime) -> Result<(), Fail> {
     let row = ByteRecord::from_fields(rt.alloc(), &FREE)?;
-    let free = match read_ask(rt.alloc(), 12, &row) {
-        Ok((_, Ask::Free(meeting))) => meeting.slots() == 15,
-        _ => false,
+    let (_, ask) = read_ask(rt.alloc(), 12, &row).ok().ok_or("a request")?;
+    let free = match &ask {
+        Ask::Free(meeting) => meeting.slots() == 15,
+        Ask::Course(_) => false,
     };
     assert!(rt; free);
     Ok(())
