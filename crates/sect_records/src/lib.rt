@@ -1,0 +1,6 @@
+// The rows of a CSV text that comes in pieces.
+#![tactic(auto)]
+
+mod records;
+
+pub use records::Records;
