@@ -1,6 +1,7 @@
 // The rows of a CSV text that comes in pieces.
 #![tactic(auto)]
 
+mod past;
 mod records;
 
 pub use records::Records;
