@@ -59,7 +59,7 @@ through_last_feed (c ∷ rest) = if list_any (λ b. b == line_feed) (c ∷ rest)
 -- of the bytes that came so far, the rows that are read: those that ended within the bytes through the last line feed,
 -- one byte order mark at the very start passed over
 unfoldable pub shown_rows : List ℕ → List (List (List ℕ))
-shown_rows text = rows_within at_start (through_last_feed (strip_bom text))
+shown_rows text = rows_within at_start (strip_bom (through_last_feed text))
 
 -- every row of the whole text, one byte order mark at its very start passed over
 unfoldable pub all_rows : List ℕ → List (List (List ℕ))

@@ -2,6 +2,7 @@
 #![tactic(auto)]
 
 mod past;
+mod read;
 mod records;
 
 pub use records::Records;
