@@ -25,7 +25,7 @@ within-append p (c ∷ xs) ys =
     ap (λ rows. ended ++ rows) (within-append (after_byte p c) xs ys) ∙ sym (append_assoc ended _ _)
 
 -- every row of a text from a place on
-pub rows_from : Place → List ℕ → List (List (List ℕ))
+unfoldable pub rows_from : Place → List ℕ → List (List (List ℕ))
 rows_from p xs = rows_within p xs ++ rows_left (place_after p xs)
 
 pub from-nil : (p : Place) → rows_from p [] ≡ rows_left p

@@ -1,5 +1,5 @@
 -- The rows of a CSV text that comes in pieces.
-use Rattle.std.specs.Prelude.{ℕ, List, [], ◌∷◌, ◌++◌, ◌==◌, if◌then◌else◌}
+use Rattle.std.specs.Prelude.{Bool, ℕ, List, [], ◌∷◌, ◌++◌, ◌==◌, if◌then◌else◌}
 use Rattle.std.specs.List.{list_any}
 use Rattle.csv.specs.Machine.{step, fields_after, field_after, ends_at_end, line_feed}
 use Rattle.csv.specs.Reading.{default_config, strip_bom}
@@ -51,10 +51,14 @@ rows_within p (c ∷ rest) =
 abbrev pub rows_left : Place → List (List (List ℕ))
 rows_left p = if ends_at_end p.state then (p.fields ++ (p.field ∷ [])) ∷ [] else []
 
+-- whether a line feed stands among these bytes
+abbrev pub has_feed : List ℕ → Bool
+has_feed bytes = list_any (λ b. b == line_feed) bytes
+
 -- the bytes through the last line feed
 unfoldable pub through_last_feed : List ℕ → List ℕ
 through_last_feed [] = []
-through_last_feed (c ∷ rest) = if list_any (λ b. b == line_feed) (c ∷ rest) then c ∷ through_last_feed rest else []
+through_last_feed (c ∷ rest) = if has_feed (c ∷ rest) then c ∷ through_last_feed rest else []
 
 -- of the bytes that came so far, the rows that are read: those that ended within the bytes through the last line feed,
 -- one byte order mark at the very start passed over
