@@ -1,6 +1,10 @@
 -- Where the machine of csv stands behind a line feed, and what one more byte shows of it.
 use Rattle.std.proofs.Common.{◌≡◌, ◌≢◌, ◌<◌, ◌≤◌, ◌+◌, ℕ, List, [], ◌∷◌, ◌++◌, ◌==◌, ◌||◌, ◌⊎◌, inl, inr, Bool, true, false, if◌then◌else◌, ◌&&◌, refl, sym, ap, ◌∙◌, append_assoc, length, length-append, arith}
-use Rattle.std.specs.Prelude.{⊤}
+use Rattle.std.proofs.lemmas.Bool.{false≢true}
+use Rattle.std.specs.Prelude.{⊤, Option, Some, None, unwrap_or, get_or, drop, map}
+use Rattle.std.specs.Option.{option_to_list, is_some}
+use Rattle.std.proofs.lemmas.List.{map-append}
+use Rattle.csv.specs.Records.{Row, field_at, fields_of}
 use Rattle.csv.specs.Machine.{step, after_end}
 use Rattle.csv.specs.Reading.{default_config, strip_bom}
 use Rattle.csv.specs.declared.parser.State.{State}
@@ -150,3 +154,42 @@ with-stop v =
       ap (rows_from at_start) text ∙ from-append at_start s (120 ∷ []) ∙ ap (λ rows. rows_within at_start s ++ rows) t.1,
       t.2,
     )
+
+-- one field that is the one byte
+pub only-field : (fields : List (List ℕ)) → length fields ≡ 1 → field_at fields 0 ≡ Some (120 ∷ []) → fields ≡ stop_row
+unfolding field_at
+only-field [] one first = cc
+only-field (x ∷ []) one first = ap (λ o. unwrap_or o [] ∷ []) first
+only-field (x ∷ y ∷ rest) one first = absurd (omega (arith, one))
+
+-- lists that end in one element each are equal part by part
+same-front : {A : Type 0} (xs ys : List A) (a b : A) → xs ++ (a ∷ []) ≡ ys ++ (b ∷ []) → (xs ≡ ys) × (a ≡ b)
+same-front [] [] a b same = (refl, ap (λ l. get_or l 0 a) same)
+same-front [] (y ∷ ys) a b same =
+    absurd (omega (arith, ap length same, length-append ys (b ∷ [])))
+same-front (x ∷ xs) [] a b same =
+    absurd (omega (arith, ap length same, length-append xs (a ∷ [])))
+same-front (x ∷ xs) (y ∷ ys) a b same =
+    let rest = same-front xs ys a b (ap (drop 1) same) in
+    ((λ i. get_or (same i) 0 x ∷ rest.0 i), rest.1)
+
+-- what is left of some rows without the last
+pub popped-rows : (all left : List Row) (o : Option Row) (rows : List (List (List ℕ))) (last : List (List ℕ))
+    → all ≡ left ++ option_to_list o → (is_some o ≡ false → all ≡ []) → map fields_of all ≡ rows ++ (last ∷ [])
+    → map fields_of left ≡ rows
+popped-rows all left None rows last is none same =
+    let empty = sym (ap (map fields_of) (none refl)) ∙ same in
+    absurd (omega (arith, ap length empty, length-append rows (last ∷ [])))
+popped-rows all left (Some row) rows last is none same =
+    (same-front (map fields_of left) rows (fields_of row) last (sym (map-append fields_of left (row ∷ [])) ∙ sym (ap (map fields_of) is) ∙ same)).0
+
+pub popped-last : (all left : List Row) (row : Row) (rows : List (List (List ℕ))) (last : List (List ℕ))
+    → all ≡ left ++ (row ∷ []) → map fields_of all ≡ rows ++ (last ∷ [])
+    → fields_of row ≡ last
+popped-last all left row rows last is same =
+    (same-front (map fields_of left) rows (fields_of row) last (sym (map-append fields_of left (row ∷ [])) ∙ sym (ap (map fields_of) is) ∙ same)).1
+
+-- a vector that gave nothing had nothing
+pub nothing-left : {A : Type 0} (all : List A) (n : ℕ) (some : Bool) → n ≡ length all → (0 < n → some ≡ true) → some ≡ false → all ≡ []
+nothing-left [] n some long gives none = refl
+nothing-left (x ∷ all) n some long gives none = absurd (false≢true (sym none ∙ gives (omega (arith, long))))

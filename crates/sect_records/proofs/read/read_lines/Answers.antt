@@ -1,14 +1,28 @@
-use Rattle.std.proofs.Common.{rules, ◌≡◌, ◌++◌, ◌∷◌, [], map, IfOk, IsTrue, ℕ, ◌+◌, ◌-◌, ◌*◌, ◌<◌, ◌≤◌, length, ◌/◌, ◌%◌, Bool, true, false, nat_eq, nat_lt, List, slice_index_or, slice_set, bit_and, bit_or, Fits, w8, w32, w64, Bor, MutBor}
+use Rattle.std.proofs.Common.{◌≡◌, ◌∷◌, ◌++◌, ◌∙◌, [], ap, sym, map, refl, false, true, append-nil}
+use Rattle.std.proofs.lemmas.Bool.{false≢true}
+use Rattle.std.specs.Option.{is_some}
 use Rattle.csv.specs.Reading.{strip_bom}
 use Rattle.csv.specs.Records.{fields_of}
-use Rattle.sect_records.specs.Lines.{AreLines, IsWhole}
+use Rattle.sect_records.specs.Lines.{IsWhole}
 use Rattle.sect_records.specs.Rows.{all_rows, at_start, rows_within}
+use Rattle.sect_records.proofs.RowLemmas.{with-stop, popped-rows, popped-last, nothing-left}
 use Rattle.sect_records.proofs.read.read_lines.Goals as goal
+use Rattle.sect_records.proofs.read.read_lines.Goals.{in-Some, in-None}
 
--- src/read.rt:23:1
 pub returns-clause-rows : goal.returns-clause-rows
-returns-clause-rows c = ?
+returns-clause-rows c =
+    let w = with-stop c.requires.0 in
+    popped-rows c.in_ok-rows.rows.items c.pop.new.self.items c.pop.result (rows_within at_start (strip_bom c.args.lines.now)) w.0 c.pop.ensures.items
+      (nothing-left c.in_ok-rows.rows.items c.in_ok-rows.rows.len (is_some c.pop.result) c.in_ok-rows.rows.ok.0 c.pop.ensures.variant.1)
+      (c.in_ok-rows.ensures ∙ rw c.requires.1 w.1)
 
--- src/read.rt:23:1
 pub returns-clause-whole : goal.returns-clause-whole
-returns-clause-whole c = ?
+returns-clause-whole c =
+    elim c.match-pop.branch [
+      | in-Some w ↦ λ whole.
+          let s = with-stop c.requires.0 in
+          let last = popped-last c.in_ok-rows.rows.items c.pop.new.self.items w.in-Some.last (rows_within at_start (strip_bom c.args.lines.now)) s.0
+            (rw w.in-Some.is at c.pop.ensures.items) (c.in_ok-rows.ensures ∙ rw c.requires.1 s.1) in
+          rw c.requires.1 (s.2 (sym last ∙ w.is_one_byte-whole.ensures (rw w.whole-is at whole)))
+      | in-None w ↦ λ whole. absurd (false≢true (sym w.whole-is ∙ whole))
+    ]
