@@ -2,6 +2,7 @@
 use Rattle.std.proofs.Common.{◌≡◌, ◌≢◌, ◌<◌, ◌≤◌, ◌+◌, ◌-◌, length, take, get_or, arith, ℕ, List, [], ◌∷◌, ◌++◌, ◌==◌, ◌||◌, ◌⊎◌, inl, inr, Bool, true, false, if◌then◌else◌, ◌&&◌, refl, sym, ap, ◌∙◌, append_assoc}
 use Rattle.std.proofs.lemmas.Bool.{eqb-true, ne_eqb}
 use Rattle.std.proofs.lemmas.List.{take_more}
+use Rattle.std.proofs.lemmas.List.Folds.{list_any-append}
 use Rattle.csv.specs.Reading.{strip_bom, is_bom}
 use Rattle.sect_records.specs.Rows.{has_feed, through_last_feed}
 
@@ -120,3 +121,6 @@ pub through-found : (xs : List ℕ) (n : ℕ) → 0 < n → n ≤ length xs → 
 through-found xs n some within feed =
     let back = take-back xs n some within ∙ ap (λ b. take (n - 1) xs ++ (b ∷ [])) feed in
     ap through_last_feed back ∙ through-at (take (n - 1) xs) [] ∙ ap (λ rest. take (n - 1) xs ++ (10 ∷ rest)) (through-none [] refl) ∙ sym back
+
+pub feed-none : (xs ys : List ℕ) → has_feed xs ≡ false → has_feed ys ≡ false → has_feed (xs ++ ys) ≡ false
+feed-none xs ys first second = list_any-append (λ b. b == 10) xs ys ∙ (λ i. first i || second i)

@@ -1,6 +1,7 @@
 // The rows of a CSV text that comes in pieces.
 #![tactic(auto)]
 
+mod kept;
 mod lines;
 mod past;
 mod read;
