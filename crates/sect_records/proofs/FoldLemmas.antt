@@ -50,7 +50,7 @@ ByNext (Some r) rows = rows ≡ r.0 ∷ rows_from (fresh r.1) r.2
 by-told : (told : State × Action) (s : State) (f : List (List ℕ)) (p : List ℕ) (c : ℕ) (xs : List ℕ)
     → ByNext (next_record default_config told.0 (fields_after told.1 f p) (field_after told.1 c p) xs) (rows_from (record { state = told.0; fields = fields_after told.1 f p; field = field_after told.1 c p }) xs)
     → ByNext (if is_end told.1 then Some (fields_after told.1 f p, told.0, xs) else next_record default_config told.0 (fields_after told.1 f p) (field_after told.1 c p) xs)
-      (rows_ended told.1 f p ++ rows_from (moved told (record { state = s; fields = f; field = p }) c) xs)
+    (rows_ended told.1 f p ++ rows_from (moved told (record { state = s; fields = f; field = p }) c) xs)
 by-told (s2, act.EndRecord) s f p c xs more = refl
 by-told (s2, act.EndField) s f p c xs more = more
 by-told (s2, act.Copy) s f p c xs more = more
@@ -74,7 +74,7 @@ by-next s f p [] = rw (from-nil (record { state = s; fields = f; field = p })) (
 by-next s f p (c ∷ xs) =
     let told = step default_config s c in
     rw (from-byte (record { state = s; fields = f; field = p }) c xs)
-      (by-told told s f p c xs (by-next told.0 (fields_after told.1 f p) (field_after told.1 c p) xs))
+    (by-told told s f p c xs (by-next told.0 (fields_after told.1 f p) (field_after told.1 c p) xs))
 
 by-some : (o : Option Read) (r : Read) (rows : List (List (List ℕ))) → o ≡ Some r → ByNext o rows → rows ≡ r.0 ∷ rows_from (fresh r.1) r.2
 by-some o r rows is h = rw is at h

@@ -1,5 +1,6 @@
 -- What the kept bytes show when a piece comes, and what may go by.
 use Rattle.std.proofs.Common.{◌≡◌, ◌<◌, ◌≤◌, ◌+◌, ◌-◌, ℕ, List, [], ◌∷◌, ◌++◌, refl, sym, ap, ◌∙◌, append_assoc, append-nil, length, length-append, take, drop, arith, inl, inr, ◌⊎◌, false}
+use Rattle.std.specs.Prelude.{Result, Ok, Err, IfOk}
 use Rattle.std.proofs.Math.Seq.{take-append-add, drop-append_seam}
 use Rattle.std.proofs.lemmas.List.{length-take-le}
 use Rattle.csv.specs.Reading.{strip_bom}
@@ -80,8 +81,7 @@ shown-lines k p n lines within some = ap (λ xs. rows_within at_start (strip_bom
 rows-behind : (v m : List ℕ) → (more : List (List (List ℕ)))
     × (rows_within at_start (strip_bom (v ++ (10 ∷ m))) ≡ rows_within at_start (strip_bom (v ++ (10 ∷ []))) ++ more)
 rows-behind v m =
-    let s = strip_bom (v ++ (10 ∷ [])) in
-    (
+    let s = strip_bom (v ++ (10 ∷ [])) in (
       rows_within (place_after at_start s) m,
       ap (rows_within at_start) (strip-at v m) ∙ within-append at_start s m,
     )
@@ -122,7 +122,7 @@ shown-more k p = by (last-of k)
     by (inr l) =
         let m = shown-at l.before (l.behind ++ p) in
         rest-of (shown_rows (k ++ p)) (shown_rows k) m.0
-          (ap (λ xs. shown_rows (xs ++ p)) l.is ∙ ap shown_rows (append_assoc l.before (10 ∷ l.behind) p) ∙ m.1 ∙ ap (λ rows. rows ++ m.0) (sym (shown-last k l)))
+        (ap (λ xs. shown_rows (xs ++ p)) l.is ∙ ap shown_rows (append_assoc l.before (10 ∷ l.behind) p) ∙ m.1 ∙ ap (λ rows. rows ++ m.0) (sym (shown-last k l)))
 
 -- every row of a text is one that was shown, or comes behind those
 pub all-more : (k : List ℕ) → all_rows k ≡ shown_rows k ++ drop (length (shown_rows k)) (all_rows k)
@@ -193,17 +193,15 @@ pub whole-stands : (xs : List ℕ) (end : ℕ) → end ≤ length xs → AreLine
     → IsWhole (take end xs) → StandsFor xs (drop (end - 1) xs)
 whole-stands xs end within are lines whole =
     let l = text-last xs end are lines in
-    let whole-too : IsWhole (l.before ++ (10 ∷ [])) = rw (sym lines ∙ through-last xs l) at whole in
-    (
+    let whole-too : IsWhole (l.before ++ (10 ∷ [])) = rw (sym lines ∙ through-last xs l) at whole in (
       rows_within at_start (strip_bom (l.before ++ (10 ∷ []))),
       λ more.
-        let text = ap (λ ys. ys ++ more) l.is ∙ append_assoc l.before (10 ∷ l.behind) more in
-        let kept = ap (λ ys. ys ++ more) (dropped xs end l within lines) in
-        let gone = rows_within at_start (strip_bom (l.before ++ (10 ∷ []))) in
-        (
-          ap shown_rows text ∙ shown-whole l.before (l.behind ++ more) whole-too ∙ ap (λ ys. gone ++ shown_rows ys) (sym kept),
-          ap all_rows text ∙ all-whole l.before (l.behind ++ more) whole-too ∙ ap (λ ys. gone ++ all_rows ys) (sym kept),
-        ),
+          let text = ap (λ ys. ys ++ more) l.is ∙ append_assoc l.before (10 ∷ l.behind) more in
+          let kept = ap (λ ys. ys ++ more) (dropped xs end l within lines) in
+          let gone = rows_within at_start (strip_bom (l.before ++ (10 ∷ []))) in (
+            ap shown_rows text ∙ shown-whole l.before (l.behind ++ more) whole-too ∙ ap (λ ys. gone ++ shown_rows ys) (sym kept),
+            ap all_rows text ∙ all-whole l.before (l.behind ++ more) whole-too ∙ ap (λ ys. gone ++ all_rows ys) (sym kept),
+          ),
     )
 
 pub whole-shows : (xs : List ℕ) (end : ℕ) → end ≤ length xs → AreLines (take end xs) → through_last_feed xs ≡ take end xs
@@ -213,3 +211,39 @@ whole-shows xs end within are lines =
     let l = text-last xs end are lines in
     ap (λ ys. rows_within at_start (strip_bom (through_last_feed ys))) (dropped xs end l within lines)
     ∙ ap (λ ys. rows_within at_start (strip_bom ys)) (through-at [] l.behind ∙ ap (λ ys. 10 ∷ ys) (through-none l.behind l.none))
+
+-- what stands for the kept bytes with a piece stands for the text with it
+pub stands-with : (text kept p left : List ℕ) → StandsFor text kept → StandsFor (kept ++ p) left → StandsFor (text ++ p) left
+stands-with text kept p left first second = (
+  first.0 ++ second.0,
+  λ more. (
+    ap shown_rows (append_assoc text p more) ∙ (first.1 (p ++ more)).0
+        ∙ ap (λ rows. first.0 ++ rows) (ap shown_rows (sym (append_assoc kept p more)) ∙ (second.1 more).0)
+        ∙ sym (append_assoc first.0 second.0 (shown_rows (left ++ more))),
+    ap all_rows (append_assoc text p more) ∙ (first.1 (p ++ more)).1
+        ∙ ap (λ rows. first.0 ++ rows) (ap all_rows (sym (append_assoc kept p more)) ∙ (second.1 more).1)
+        ∙ sym (append_assoc first.0 second.0 (all_rows (left ++ more))),
+  ),
+)
+
+-- what the text has shown
+text-shown : (text kept : List ℕ) (s : StandsFor text kept) → shown_rows text ≡ s.0 ++ shown_rows kept
+text-shown text kept s =
+    ap shown_rows (sym (append-nil text)) ∙ (s.1 []).0 ∙ ap (λ xs. s.0 ++ shown_rows xs) (append-nil kept)
+
+-- the rows that a piece shows, of the text as of the kept bytes
+pub text-rows : (text kept p : List ℕ) (rows : List (List (List ℕ))) → StandsFor text kept → shown_rows (kept ++ p) ≡ shown_rows kept ++ rows
+    → shown_rows (text ++ p) ≡ shown_rows text ++ rows
+text-rows text kept p rows s is =
+    (s.1 p).0 ∙ ap (λ xs. s.0 ++ xs) is ∙ sym (append_assoc s.0 (shown_rows kept) rows) ∙ ap (λ xs. xs ++ rows) (sym (text-shown text kept s))
+
+pub text-end : (text kept : List ℕ) (rows : List (List (List ℕ))) → StandsFor text kept → all_rows kept ≡ shown_rows kept ++ rows
+    → all_rows text ≡ shown_rows text ++ rows
+text-end text kept rows s is =
+    ap all_rows (sym (append-nil text)) ∙ (s.1 []).1 ∙ ap (λ xs. s.0 ++ all_rows xs) (append-nil kept)
+    ∙ ap (λ xs. s.0 ++ xs) is ∙ sym (append_assoc s.0 (shown_rows kept) rows) ∙ ap (λ xs. xs ++ rows) (sym (text-shown text kept s))
+
+pub text-end-if : {V E : Type 0} (text kept : List ℕ) (rows : V → List (List (List ℕ))) (r : Result V E) → StandsFor text kept
+    → IfOk r (λ v. all_rows kept ≡ shown_rows kept ++ rows v) → IfOk r (λ v. all_rows text ≡ shown_rows text ++ rows v)
+text-end-if text kept rows (Ok v) s is = text-end text kept (rows v) s is
+text-end-if text kept rows (Err e) s is = tt

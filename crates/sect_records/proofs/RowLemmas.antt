@@ -42,7 +42,7 @@ good-field false false back s f p c = tt
 -- what a byte at the start of a record does
 good-record : (ends quote comma back : Bool) (s : State) (f : List (List ℕ)) (p : List ℕ) (c : ℕ) → f ≡ [] → p ≡ []
     → IsGood (moved (if ends then (st.StartRecord, act.Skip) else if quote then (st.InQuoted, act.Skip)
-      else if comma then (st.StartField, act.EndField) else if ends then (if back then st.AfterCr else st.StartRecord, act.EndRecord) else (st.InField, act.Copy)) (record { state = s; fields = f; field = p }) c)
+    else if comma then (st.StartField, act.EndField) else if ends then (if back then st.AfterCr else st.StartRecord, act.EndRecord) else (st.InField, act.Copy)) (record { state = s; fields = f; field = p }) c)
 good-record true quote comma back s f p c no_fields no_field = (no_fields, no_field)
 good-record false true comma back s f p c no_fields no_field = tt
 good-record false false comma back s f p c no_fields no_field = good-field comma false back s f p c
@@ -148,8 +148,7 @@ unfolding all_rows rows_from
 with-stop v =
     let s = strip_bom (v ++ (10 ∷ [])) in
     let t = tells (place_after at_start s) (behind-lines v) in
-    let text = ap strip_bom (append_assoc v (10 ∷ []) (120 ∷ [])) ∙ strip-at v (120 ∷ []) in
-    (
+    let text = ap strip_bom (append_assoc v (10 ∷ []) (120 ∷ [])) ∙ strip-at v (120 ∷ []) in (
       t.0,
       ap (rows_from at_start) text ∙ from-append at_start s (120 ∷ []) ∙ ap (λ rows. rows_within at_start s ++ rows) t.1,
       t.2,

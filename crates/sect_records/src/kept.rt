@@ -6,7 +6,7 @@ ghost use Rattle.sect_records.specs.Kept.{StandsFor};
 ghost use Rattle.sect_records.specs.Rows.{all_rows, shown_rows};
 
 use crate::lines::lines_len;
-use crate::read::{read_all, read_lines, Ended};
+use crate::read::{Ended, read_all, read_lines};
 use csv::ByteRecord;
 use sect_base::Memory;
 use std::alloc::Global;
@@ -41,11 +41,7 @@ impl Kept {
     }
 
     // Takes the next piece, and gives the rows that it shows. What the rows to come don't need goes by.
-    pub(crate) fn feed(
-        &mut self,
-        alloc: Global,
-        piece: &[u8],
-    ) -> Result<Vec<ByteRecord>, Memory>
+    pub(crate) fn feed(&mut self, alloc: Global, piece: &[u8]) -> Result<Vec<ByteRecord>, Memory>
         ensures rows { IfOk result (λ rows. shown_rows (self.old ++ piece.now) ≡ shown_rows self.old ++ map fields_of rows.items) }
         ensures stands { OnOk result (StandsFor (self.old ++ piece.now) self.new) }
         ensures memory { OnErr result (self.new ≡ self.old) }

@@ -27,6 +27,5 @@ impl Past {
 
     pub(crate) fn note(&mut self, _piece: &[u8])
         ensures { self.new.bytes ≡ self.old.bytes ++ _piece.now }
-    {
-    }
+    {}
 }

@@ -43,11 +43,7 @@ fn is_one_byte(row: &ByteRecord) -> bool
 }
 
 // Every row of a text that stands in two parts.
-pub(crate) fn read_all(
-    alloc: Global,
-    text: &[u8],
-    tail: &[u8],
-) -> Result<Vec<ByteRecord>, Memory>
+pub(crate) fn read_all(alloc: Global, text: &[u8], tail: &[u8]) -> Result<Vec<ByteRecord>, Memory>
     ensures { IfOk result (λ rows. map fields_of rows.items ≡ all_rows (text.now ++ tail.now)) }
 {
     let reader = ReaderBuilder::new()

@@ -4,6 +4,8 @@ ghost use Rattle.std.specs.Prelude.{◌≡◌, ◌++◌, [], map, IfOk, OnOk, On
 ghost use Rattle.csv.specs.Records.{fields_of};
 ghost use Rattle.sect_records.specs.Rows.{all_rows, shown_rows};
 
+use crate::kept::Kept;
+use crate::past::Past;
 use csv::ByteRecord;
 use sect_base::Memory;
 use std::alloc::Global;
@@ -12,15 +14,20 @@ use std::marker::Model;
 /// The rows of a text that comes in pieces. Contracts see the bytes that came.
 #[derive(Drop)]
 pub struct Records {
-    kept: Vec<u8>,
+    alloc: Global,
+    kept: Kept,
+    past: Past,
 }
 
 impl Model for Records {
     ghost use Rattle.std.specs.Prelude.{List, ℕ};
+    ghost use Rattle.sect_records.specs.Kept.{StandsFor};
 
     ghost Value = { List ℕ };
 
-    ghost view = { λ r. r.kept.items };
+    ghost view = { λ r. r.past.bytes };
+
+    ghost invariant = { λ r. StandsFor r.past.bytes r.kept };
 }
 
 impl Records {
@@ -29,7 +36,9 @@ impl Records {
         ensures { result ≡ [] }
     {
         Records {
-            kept: Vec::new(alloc),
+            alloc,
+            kept: Kept::new(alloc),
+            past: Past::new(),
         }
     }
 
@@ -39,8 +48,9 @@ impl Records {
         ensures rows { IfOk result (λ rows. shown_rows (self.old ++ piece.now) ≡ shown_rows self.old ++ map fields_of rows.items) }
         ensures memory { OnErr result (self.new ≡ self.old) }
     {
-        let _ = piece;
-        Err(Memory)
+        let rows = self.kept.feed(self.alloc, piece)?;
+        self.past.note(piece);
+        Ok(rows)
     }
 
     /// The rows that are left, the text being at its end.
@@ -48,6 +58,6 @@ impl Records {
         ensures rows { IfOk result (λ rows. all_rows self.old ≡ shown_rows self.old ++ map fields_of rows.items) }
         ensures same { self.new ≡ self.old }
     {
-        Err(Memory)
+        self.kept.end(self.alloc)
     }
 }

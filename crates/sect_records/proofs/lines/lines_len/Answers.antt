@@ -5,8 +5,7 @@ use Rattle.sect_records.proofs.lines.lines_len.Goals as goal
 
 pub loop-end-preserved : goal.loop-end-preserved
 loop-end-preserved c =
-    let inv = c.loop-end.invariant in
-    (
+    let inv = c.loop-end.invariant in (
       omega (arith, inv.0),
       inv.1 ∙ through-back c.args.bytes.now c.loop-end.end c.loop-end-test.true inv.0 c.if-bytes-end-ne10.true,
     )

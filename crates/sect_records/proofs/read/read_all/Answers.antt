@@ -42,4 +42,4 @@ returns c =
     let inv = c.loop-row.invariant in
     let s = rw c.in-None.is at ((c.next.ensures.steps inv.2 inv.0).0 inv.1) in
     are-all-rows (c.args.text.now ++ c.args.tail.now) (map fields_of c.loop-row.rows.items)
-      (c.loop-row.row-iterator.rdr.state, inv.4, inv.6, rows-end (chain_remaining (λ (s : Bor (List ℕ)). Some s.now) (λ (s : Bor (List ℕ)). Some s.now)) c.loop-row.row-iterator.rdr c.next.new.self.rdr [] default_config inv.4 inv.3 inv.5 s)
+    (c.loop-row.row-iterator.rdr.state, inv.4, inv.6, rows-end (chain_remaining (λ (s : Bor (List ℕ)). Some s.now) (λ (s : Bor (List ℕ)). Some s.now)) c.loop-row.row-iterator.rdr c.next.new.self.rdr [] default_config inv.4 inv.3 inv.5 s)

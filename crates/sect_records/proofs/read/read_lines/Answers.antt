@@ -13,8 +13,8 @@ pub returns-clause-rows : goal.returns-clause-rows
 returns-clause-rows c =
     let w = with-stop c.requires.0 in
     popped-rows c.in_ok-rows.rows.items c.pop.new.self.items c.pop.result (rows_within at_start (strip_bom c.args.lines.now)) w.0 c.pop.ensures.items
-      (nothing-left c.in_ok-rows.rows.items c.in_ok-rows.rows.len (is_some c.pop.result) c.in_ok-rows.rows.ok.0 c.pop.ensures.variant.1)
-      (c.in_ok-rows.ensures ∙ rw c.requires.1 w.1)
+    (nothing-left c.in_ok-rows.rows.items c.in_ok-rows.rows.len (is_some c.pop.result) c.in_ok-rows.rows.ok.0 c.pop.ensures.variant.1)
+    (c.in_ok-rows.ensures ∙ rw c.requires.1 w.1)
 
 pub returns-clause-whole : goal.returns-clause-whole
 returns-clause-whole c =
@@ -22,7 +22,7 @@ returns-clause-whole c =
       | in-Some w ↦ λ whole.
           let s = with-stop c.requires.0 in
           let last = popped-last c.in_ok-rows.rows.items c.pop.new.self.items w.in-Some.last (rows_within at_start (strip_bom c.args.lines.now)) s.0
-            (rw w.in-Some.is at c.pop.ensures.items) (c.in_ok-rows.ensures ∙ rw c.requires.1 s.1) in
+          (rw w.in-Some.is at c.pop.ensures.items) (c.in_ok-rows.ensures ∙ rw c.requires.1 s.1) in
           rw c.requires.1 (s.2 (sym last ∙ w.is_one_byte-whole.ensures (rw w.whole-is at whole)))
       | in-None w ↦ λ whole. absurd (false≢true (sym w.whole-is ∙ whole))
     ]

@@ -18,8 +18,8 @@ returns c =
     let rows = c.in_ok-rows.rows.items in
     let read : map fields_of rows ≡ all_rows bytes = c.in_ok-rows.ensures ∙ ap all_rows (append-nil c.deref.result.now ∙ c.deref.ensures.value) in
     rw (← c.self.view_is) (
-      all-more bytes
-      ∙ ap (λ left. shown_rows bytes ++ left)
-        (sym (ap (drop (length (shown_rows bytes))) read) ∙ drop-map fields_of (length (shown_rows bytes)) rows
-        ∙ ap (map fields_of) (ap (λ n. drop n rows) (sym c.self.invariant) ∙ sym c.drop_first.ensures))
+    all-more bytes
+    ∙ ap (λ left. shown_rows bytes ++ left)
+    (sym (ap (drop (length (shown_rows bytes))) read) ∙ drop-map fields_of (length (shown_rows bytes)) rows
+    ∙ ap (map fields_of) (ap (λ n. drop n rows) (sym c.self.invariant) ∙ sym c.drop_first.ensures))
     )

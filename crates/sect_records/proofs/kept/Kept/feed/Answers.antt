@@ -39,7 +39,7 @@ drop_first-requires c =
     let before : c.len-before.result ≡ length bytes = c.len-before.ensures ∙ c.self.inside.bytes.ok.0 in
     let text : c.deref.result.now ≡ bytes ++ piece = c.deref.ensures.value ∙ c.in_ok-extend_from_slice.ensures.items in
     let shown : map fields_of c.in-Ok.ended.rows.items ≡ shown_rows (bytes ++ piece)
-        = c.in-Ok.ensures.rows ∙ (λ i. rows_within at_start (strip_bom (take (before i + n) (text i)))) ∙ shown-lines bytes piece n c.lines_len-lines.ensures.lines c.lines_len-lines.ensures.within some in
+    = c.in-Ok.ensures.rows ∙ (λ i. rows_within at_start (strip_bom (take (before i + n) (text i)))) ∙ shown-lines bytes piece n c.lines_len-lines.ensures.lines c.lines_len-lines.ensures.within some in
     omega (arith, c.self.invariant, shown-fewer bytes piece, ap length shown, length-map c.in-Ok.ended.rows.items fields_of)
 
 pub invariant_of-self-then-whole : goal.invariant_of-self-then-whole
@@ -51,8 +51,8 @@ invariant_of-self-then-whole c =
     let before : c.len-before.result ≡ length bytes = c.len-before.ensures ∙ c.self.inside.bytes.ok.0 in
     let within : length bytes + n ≤ length (bytes ++ piece) = omega (arith, length-append bytes piece, c.lines_len-lines.ensures.within) in
     let empty = whole-shows (bytes ++ piece) (length bytes + n) within
-        (are-lines bytes piece n c.lines_len-lines.ensures.lines c.lines_len-lines.ensures.within some)
-        (through-joined bytes piece n c.lines_len-lines.ensures.lines c.lines_len-lines.ensures.within some) in
+    (are-lines bytes piece n c.lines_len-lines.ensures.lines c.lines_len-lines.ensures.within some)
+    (through-joined bytes piece n c.lines_len-lines.ensures.lines c.lines_len-lines.ensures.within some) in
     sym (ap (λ xs. length (shown_rows xs)) (c.drop_first-then-whole.ensures ∙ (λ i. drop (before i + n - 1) (c.in_ok-extend_from_slice.ensures.items i))) ∙ ap length empty)
 
 pub invariant_of-self-else-whole : goal.invariant_of-self-else-whole
@@ -64,7 +64,7 @@ invariant_of-self-else-whole c =
     let before : c.len-before.result ≡ length bytes = c.len-before.ensures ∙ c.self.inside.bytes.ok.0 in
     let text : c.deref.result.now ≡ bytes ++ piece = c.deref.ensures.value ∙ c.in_ok-extend_from_slice.ensures.items in
     let shown : map fields_of c.in-Ok.ended.rows.items ≡ shown_rows (bytes ++ piece)
-        = c.in-Ok.ensures.rows ∙ (λ i. rows_within at_start (strip_bom (take (before i + n) (text i)))) ∙ shown-lines bytes piece n c.lines_len-lines.ensures.lines c.lines_len-lines.ensures.within some in
+    = c.in-Ok.ensures.rows ∙ (λ i. rows_within at_start (strip_bom (take (before i + n) (text i)))) ∙ shown-lines bytes piece n c.lines_len-lines.ensures.lines c.lines_len-lines.ensures.within some in
     c.len-count.ensures ∙ c.in-Ok.ended.rows.ok.0 ∙ sym (length-map c.in-Ok.ended.rows.items fields_of) ∙ ap length shown
     ∙ ap (λ xs. length (shown_rows xs)) (sym c.in_ok-extend_from_slice.ensures.items)
 
@@ -78,12 +78,12 @@ returns-clause-rows c =
     let before : c.len-before.result ≡ length bytes = c.len-before.ensures ∙ c.self.inside.bytes.ok.0 in
     let text : c.deref.result.now ≡ bytes ++ piece = c.deref.ensures.value ∙ c.in_ok-extend_from_slice.ensures.items in
     let shown : map fields_of rows ≡ shown_rows (bytes ++ piece)
-        = c.in-Ok.ensures.rows ∙ (λ i. rows_within at_start (strip_bom (take (before i + n) (text i)))) ∙ shown-lines bytes piece n c.lines_len-lines.ensures.lines c.lines_len-lines.ensures.within some in
+    = c.in-Ok.ensures.rows ∙ (λ i. rows_within at_start (strip_bom (take (before i + n) (text i)))) ∙ shown-lines bytes piece n c.lines_len-lines.ensures.lines c.lines_len-lines.ensures.within some in
     rw (← c.self.view_is) (
-      shown-more bytes piece
-      ∙ ap (λ left. shown_rows bytes ++ left)
-        (sym (ap (drop (length (shown_rows bytes))) shown) ∙ drop-map fields_of (length (shown_rows bytes)) rows
-        ∙ ap (map fields_of) (ap (λ k. drop k rows) (sym c.self.invariant) ∙ sym c.drop_first.ensures))
+    shown-more bytes piece
+    ∙ ap (λ left. shown_rows bytes ++ left)
+    (sym (ap (drop (length (shown_rows bytes))) shown) ∙ drop-map fields_of (length (shown_rows bytes)) rows
+    ∙ ap (map fields_of) (ap (λ k. drop k rows) (sym c.self.invariant) ∙ sym c.drop_first.ensures))
     )
 
 pub returns-clause-stands : goal.returns-clause-stands
@@ -98,11 +98,11 @@ returns-clause-stands c =
     elim c.if-whole.branch [
       | then-whole w ↦
           let kept : c.if-whole.self ≡ drop (length bytes + n - 1) (bytes ++ piece)
-              = w.self-is ∙ w.drop_first-then-whole.ensures ∙ (λ i. drop (before i + n - 1) (c.in_ok-extend_from_slice.ensures.items i)) in
+          = w.self-is ∙ w.drop_first-then-whole.ensures ∙ (λ i. drop (before i + n - 1) (c.in_ok-extend_from_slice.ensures.items i)) in
           let whole : IsWhole (take (length bytes + n) (bytes ++ piece)) = rw (before, text) at (c.in-Ok.ensures.whole w.if-whole.true) in
           rw (← c.self.view_is, kept) (whole-stands (bytes ++ piece) (length bytes + n) within
-            (are-lines bytes piece n c.lines_len-lines.ensures.lines c.lines_len-lines.ensures.within some)
-            (through-joined bytes piece n c.lines_len-lines.ensures.lines c.lines_len-lines.ensures.within some) whole)
+          (are-lines bytes piece n c.lines_len-lines.ensures.lines c.lines_len-lines.ensures.within some)
+          (through-joined bytes piece n c.lines_len-lines.ensures.lines c.lines_len-lines.ensures.within some) whole)
       | else-whole w ↦
           rw (← c.self.view_is, w.self-is, c.in_ok-extend_from_slice.ensures.items) (same-stands (bytes ++ piece))
     ]
