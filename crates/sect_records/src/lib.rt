@@ -8,3 +8,6 @@ mod read;
 mod records;
 
 pub use records::Records;
+
+#[cfg(test)]
+mod tests;
