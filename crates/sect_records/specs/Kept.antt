@@ -1,5 +1,5 @@
 -- What the bytes that are kept say of the whole text.
-use Rattle.std.specs.Prelude.{ℕ, List, ◌++◌, ◌≡◌, length}
+use Rattle.std.specs.Prelude.{ℕ, List, ◌++◌, ◌≡◌}
 use Rattle.sect_records.specs.Rows.{shown_rows, all_rows}
 
 -- whatever follows, the rows of the text are some that are gone by, and then the rows of the bytes that are kept

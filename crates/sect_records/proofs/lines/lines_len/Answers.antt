@@ -1,4 +1,4 @@
-use Rattle.std.proofs.Common.{◌≡◌, ◌≤◌, ◌∙◌, ◌-◌, length, take, arith, ap, refl}
+use Rattle.std.proofs.Common.{◌≡◌, ◌∙◌, arith, refl}
 use Rattle.sect_records.specs.Rows.{through_last_feed}
 use Rattle.sect_records.proofs.LineLemmas.{through-back, through-found}
 use Rattle.sect_records.proofs.lines.lines_len.Goals as goal

@@ -1,5 +1,4 @@
-use Rattle.std.proofs.Common.{◌≡◌, ◌∷◌, ◌∙◌, [], ap, sym, Some, refl, rules}
-use Rattle.std.specs.Prelude.{option_map}
+use Rattle.std.proofs.Common.{◌≡◌, ◌∷◌, ◌∙◌, [], ap, sym, Some, rules}
 use Rattle.csv.specs.Records.{fields_of}
 use Rattle.sect_records.proofs.RowLemmas.{only-field}
 use Rattle.sect_records.proofs.read.is_one_byte.Goals as goal

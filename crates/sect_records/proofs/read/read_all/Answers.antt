@@ -1,4 +1,4 @@
-use Rattle.std.proofs.Common.{Bor, List, ℕ, ◌≡◌, ◌++◌, ◌∙◌, sym, refl, ap, rules, inl, inr, true, map, Some, ◌∷◌, []}
+use Rattle.std.proofs.Common.{Bor, List, ℕ, ◌≡◌, ◌++◌, ◌∙◌, sym, refl, rules, inl, inr, true, map, Some, ◌∷◌, []}
 use Rattle.std.specs.Result.{is_ok}
 use Rattle.std.specs.Io.Chain.{chain_remaining}
 use Rattle.std.proofs.lemmas.List.{map-append}

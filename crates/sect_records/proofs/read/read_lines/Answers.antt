@@ -1,10 +1,8 @@
-use Rattle.std.proofs.Common.{◌≡◌, ◌∷◌, ◌++◌, ◌∙◌, [], ap, sym, map, refl, false, true, append-nil}
+use Rattle.std.proofs.Common.{◌∙◌, sym}
 use Rattle.std.proofs.lemmas.Bool.{false≢true}
 use Rattle.std.specs.Option.{is_some}
 use Rattle.csv.specs.Reading.{strip_bom}
-use Rattle.csv.specs.Records.{fields_of}
-use Rattle.sect_records.specs.Lines.{IsWhole}
-use Rattle.sect_records.specs.Rows.{all_rows, at_start, rows_within}
+use Rattle.sect_records.specs.Rows.{at_start, rows_within}
 use Rattle.sect_records.proofs.RowLemmas.{with-stop, popped-rows, popped-last, nothing-left}
 use Rattle.sect_records.proofs.read.read_lines.Goals as goal
 use Rattle.sect_records.proofs.read.read_lines.Goals.{in-Some, in-None}

@@ -1,4 +1,4 @@
-use Rattle.std.proofs.Common.{◌≡◌, ◌≤◌, ◌++◌, ◌∙◌, [], ap, sym, map, drop, length, arith, append-nil}
+use Rattle.std.proofs.Common.{◌≡◌, ◌++◌, ◌∙◌, ap, sym, map, drop, length, arith, append-nil}
 use Rattle.std.proofs.lemmas.List.{drop-map, length-map}
 use Rattle.csv.specs.Records.{fields_of}
 use Rattle.sect_records.specs.Rows.{all_rows, shown_rows}

@@ -1,8 +1,8 @@
-use Rattle.std.proofs.Common.{◌≡◌, ◌<◌, ◌≤◌, ◌+◌, ◌-◌, ◌++◌, ◌∙◌, ℕ, List, [], ap, sym, map, drop, take, length, arith, append-nil}
+use Rattle.std.proofs.Common.{◌≡◌, ◌<◌, ◌≤◌, ◌+◌, ◌-◌, ◌++◌, ◌∙◌, [], ap, sym, map, drop, take, length, arith, append-nil}
 use Rattle.std.proofs.lemmas.List.{drop-map, length-map, length-append}
 use Rattle.csv.specs.Reading.{strip_bom}
 use Rattle.csv.specs.Records.{fields_of}
-use Rattle.sect_records.specs.Lines.{AreLines, IsWhole}
+use Rattle.sect_records.specs.Lines.{IsWhole}
 use Rattle.sect_records.specs.Rows.{at_start, rows_within, shown_rows, through_last_feed}
 use Rattle.sect_records.proofs.KeptLemmas.{shown-same, shown-more, shown-fewer, shown-lines, are-lines, through-joined, same-stands, whole-stands, whole-shows}
 use Rattle.sect_records.proofs.kept.Kept.feed.Goals as goal

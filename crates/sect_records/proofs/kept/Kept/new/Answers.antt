@@ -1,4 +1,4 @@
-use Rattle.std.proofs.Common.{◌≡◌, ap, length, refl, sym}
+use Rattle.std.proofs.Common.{refl}
 use Rattle.csv.specs.Reading.{strip_bom}
 use Rattle.sect_records.specs.Rows.{rows_within, shown_rows, through_last_feed}
 use Rattle.sect_records.proofs.kept.Kept.new.Goals as goal

@@ -1,6 +1,5 @@
-use Rattle.std.proofs.Common.{◌≡◌, ◌++◌, map}
+use Rattle.std.proofs.Common.{map}
 use Rattle.csv.specs.Records.{fields_of}
-use Rattle.sect_records.specs.Rows.{all_rows, shown_rows}
 use Rattle.sect_records.proofs.KeptLemmas.{stands-with, text-rows}
 use Rattle.sect_records.proofs.records.Records.feed.Goals as goal
 
