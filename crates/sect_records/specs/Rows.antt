@@ -1,7 +1,7 @@
 -- The rows of a CSV text that comes in pieces.
 use Rattle.std.specs.Prelude.{Bool, ℕ, List, [], ◌∷◌, ◌++◌, ◌==◌, if◌then◌else◌}
 use Rattle.std.specs.List.{list_any}
-use Rattle.csv.specs.Machine.{step, fields_after, field_after, ends_at_end, line_feed}
+use Rattle.csv.specs.Machine.{step, field_after, ends_at_end, line_feed}
 use Rattle.csv.specs.Reading.{default_config, strip_bom}
 use Rattle.csv.specs.declared.parser.State.{State}
 use Rattle.csv.specs.declared.parser.State.TheVariants as st
@@ -21,7 +21,7 @@ at_start = record { state = st.StartRecord; fields = []; field = [] }
 -- the fields at hand after an action, none behind the end of a row
 abbrev pub open_fields : Action → List (List ℕ) → List ℕ → List (List ℕ)
 open_fields act.EndRecord fields field = []
-open_fields act.EndField fields field = fields_after act.EndField fields field
+open_fields act.EndField fields field = fields ++ (field ∷ [])
 open_fields act.Copy fields field = fields
 open_fields act.Skip fields field = fields
 
@@ -60,11 +60,10 @@ unfoldable pub through_last_feed : List ℕ → List ℕ
 through_last_feed [] = []
 through_last_feed (c ∷ rest) = if has_feed (c ∷ rest) then c ∷ through_last_feed rest else []
 
--- of the bytes that came so far, the rows that are read: those that ended within the bytes through the last line feed,
--- one byte order mark at the very start passed over
+-- of the bytes that came so far, the rows that end within the bytes through the last line feed, a mark at the start passed over
 unfoldable pub shown_rows : List ℕ → List (List (List ℕ))
 shown_rows text = rows_within at_start (strip_bom (through_last_feed text))
 
--- every row of the whole text, one byte order mark at its very start passed over
+-- every row of the whole text, a byte order mark at its start passed over
 unfoldable pub all_rows : List ℕ → List (List (List ℕ))
 all_rows text = rows_within at_start (strip_bom text) ++ rows_left (place_after at_start (strip_bom text))
