@@ -34,7 +34,7 @@ command_of (groups.Offering so_far) = commands.Offering so_far.row
 command_of (groups.Requests so_far) = commands.Requests so_far.student so_far.asks
 
 -- the command at hand, where there is one, with the number of its first row
-abbrev pub given_of : Option AtHand → List Given
+unfoldable pub given_of : Option AtHand → List Given
 given_of None = []
 given_of (Some hand) = record { row = hand.first; command = command_of hand.group } ∷ []
 
@@ -64,7 +64,7 @@ header_read p false None = (record p { header = Some Whole }, [])
 header_read p false (Some field) = failed p field
 
 -- the first row
-abbrev pub first_row : Progress → List (List ℕ) → Step
+unfoldable pub first_row : Progress → List (List ℕ) → Step
 first_row p row = header_read p (is_old_header p.table row) (first_difference row (names_of p.table))
 
 -- the offering of this text, with its first row
@@ -74,7 +74,7 @@ offering_in first (groups.Row command) name = None
 offering_in first (groups.Requests so_far) name = None
 
 -- the offering at hand, where it is the one of this text
-abbrev pub same_offering : Option AtHand → List ℕ → Option (ℕ × OfferingSoFar)
+unfoldable pub same_offering : Option AtHand → List ℕ → Option (ℕ × OfferingSoFar)
 same_offering None name = None
 same_offering (Some hand) name = offering_in hand.first hand.group name
 
@@ -89,7 +89,7 @@ offering_next p row first so_far (Err field) = failed p field
 offering_next p row first so_far (Ok line) = gone_on p first (groups.Offering (offering_with so_far row line))
 
 -- a row of offerings, with the offering that it goes on with
-abbrev pub offering_row : Progress → List (List ℕ) → Option (ℕ × OfferingSoFar) → Step
+unfoldable pub offering_row : Progress → List (List ℕ) → Option (ℕ × OfferingSoFar) → Step
 offering_row p row None = offering_first p row (section_line p.term None row)
 offering_row p row (Some (first, so_far)) = offering_next p row first so_far (section_line p.term (Some so_far.before) row)
 
@@ -100,7 +100,7 @@ requests_in first (groups.Row command) name = None
 requests_in first (groups.Offering so_far) name = None
 
 -- the requests at hand, where they are those of the student of this text
-abbrev pub same_student : Option AtHand → List ℕ → Option (ℕ × RequestsSoFar)
+unfoldable pub same_student : Option AtHand → List ℕ → Option (ℕ × RequestsSoFar)
 same_student None name = None
 same_student (Some hand) name = requests_in hand.first hand.group name
 
@@ -115,17 +115,17 @@ requests_next p first so_far (Err field) = failed p field
 requests_next p first so_far (Ok line) = gone_on p first (groups.Requests (requests_with so_far line))
 
 -- a row of requests, with the requests that it goes on with
-abbrev pub requests_row : Progress → List (List ℕ) → Option (ℕ × RequestsSoFar) → Step
+unfoldable pub requests_row : Progress → List (List ℕ) → Option (ℕ × RequestsSoFar) → Step
 requests_row p row None = requests_first p row (ask_line 1 row)
 requests_row p row (Some (first, so_far)) = requests_next p first so_far (ask_line (next_rank so_far) row)
 
 -- a row of students
-abbrev pub student_row : Progress → Result StudentRow ℕ → Step
+unfoldable pub student_row : Progress → Result StudentRow ℕ → Step
 student_row p (Err field) = failed p field
 student_row p (Ok student) = begun p (groups.Row (commands.Student student))
 
 -- a row of reservations
-abbrev pub reservation_row : Progress → Result ReserveRow ℕ → Step
+unfoldable pub reservation_row : Progress → Result ReserveRow ℕ → Step
 reservation_row p (Err field) = failed p field
 reservation_row p (Ok reservation) = begun p (groups.Row (commands.Reserve reservation))
 
@@ -135,7 +135,7 @@ has_first Whole = true
 has_first WithoutFirst = false
 
 -- a row behind the header
-abbrev pub table_row : Table → Progress → Header → List (List ℕ) → Step
+unfoldable pub table_row : Table → Progress → Header → List (List ℕ) → Step
 table_row Offerings p header row = offering_row p row (same_offering p.at_hand (field_of row 1))
 table_row Students p header row = student_row p (student_line row)
 table_row Requests p header row = requests_row p row (same_student p.at_hand (field_of row 1))
