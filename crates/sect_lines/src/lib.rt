@@ -7,6 +7,7 @@ mod line;
 mod reservation;
 mod section;
 mod student;
+mod values;
 
 pub use ask::read_ask;
 pub use fields::field;

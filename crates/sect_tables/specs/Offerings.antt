@@ -42,13 +42,15 @@ config_with line config =
 
 -- the offering that a row begins
 unfoldable pub offering_begun : List (List ℕ) → SectionLine → OfferingSoFar
-offering_begun fields line = record
-  { name = field_of fields 1;
-    before = before_of line.config.0 fields;
-    row = record { id = line.offering; courses = line.courses; configs = config_of line ∷ [] } }
+offering_begun fields line = record {
+  name = field_of fields 1;
+  before = before_of line.config.0 fields;
+  row = record { id = line.offering; courses = line.courses; configs = config_of line ∷ [] };
+}
 
 -- the offering with another row of its own
 unfoldable pub offering_with : OfferingSoFar → List (List ℕ) → SectionLine → OfferingSoFar
-offering_with so_far fields line = record so_far
-  { before = before_of line.config.0 fields;
-    row = record { id = so_far.row.id; courses = so_far.row.courses; configs = at_last (config_with line) so_far.row.configs } }
+offering_with so_far fields line = record so_far {
+  before = before_of line.config.0 fields;
+  row = record { id = so_far.row.id; courses = so_far.row.courses; configs = at_last (config_with line) so_far.row.configs };
+}

@@ -51,10 +51,12 @@ pub fn offering_of_row(
     ensures { MatchResult result (λ same. same_offering hand (field_of (fields_of row.now) 1) ≡ Some same) (λ kept. (same_offering hand (field_of (fields_of row.now) 1) ≡ None) × (kept ≡ hand)) }
 {
     match hand {
-        Some(AtHand {
-            first,
-            group: Group::Offering(so_far),
-        }) => {
+        Some(
+            AtHand {
+                first,
+                group: Group::Offering(so_far),
+            },
+        ) => {
             if so_far.has_row(row) {
                 Ok((first, so_far))
             } else {
@@ -78,10 +80,12 @@ pub fn requests_of_row(
     ensures { MatchResult result (λ same. same_student hand (field_of (fields_of row.now) 1) ≡ Some same) (λ kept. (same_student hand (field_of (fields_of row.now) 1) ≡ None) × (kept ≡ hand)) }
 {
     match hand {
-        Some(AtHand {
-            first,
-            group: Group::Requests(so_far),
-        }) => {
+        Some(
+            AtHand {
+                first,
+                group: Group::Requests(so_far),
+            },
+        ) => {
             if so_far.has_row(row) {
                 Ok((first, so_far))
             } else {

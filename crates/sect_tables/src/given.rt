@@ -14,10 +14,7 @@ pub struct Given {
 pub enum CsvFault {
     /// The first row that isn't in its form, and its first field that isn't, from 1; 0 where the number of fields is
     /// another.
-    BadRow {
-        row: u64,
-        field: u32,
-    },
+    BadRow { row: u64, field: u32 },
     /// Want of memory.
     Memory,
 }

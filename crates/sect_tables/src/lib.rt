@@ -13,3 +13,6 @@ mod subpart;
 
 pub use given::{CsvFault, Given};
 pub use reading::Reading;
+
+#[cfg(test)]
+mod tests;

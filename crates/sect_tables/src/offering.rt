@@ -40,11 +40,7 @@ impl Model for OpenOffering {
 impl OpenOffering {
     /// The offering that a row begins.
     #[tactic(auto, unfolding(crate::specs::Offerings::offering_begun))]
-    pub fn begin(
-        alloc: Global,
-        row: &ByteRecord,
-        line: SectionLine,
-    ) -> Result<OpenOffering, Memory>
+    pub fn begin(alloc: Global, row: &ByteRecord, line: SectionLine) -> Result<OpenOffering, Memory>
         ensures { IfOk result (λ so_far. so_far ≡ offering_begun (fields_of row.now) line) }
     {
         let name = Vec::from_slice(alloc, field(row, 1))?;

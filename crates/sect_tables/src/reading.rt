@@ -244,12 +244,7 @@ impl Reading {
 
     // Takes a row that goes on with a student's requests.
     #[tactic(auto, unfolding(crate::specs::Rows::requests_row))]
-    fn next_ask(
-        &mut self,
-        first: u64,
-        so_far: OpenRequests,
-        row: &ByteRecord,
-    ) -> Result<(), Memory>
+    fn next_ask(&mut self, first: u64, so_far: OpenRequests, row: &ByteRecord) -> Result<(), Memory>
         ensures { OnOk result (self.new ≡ (requests_row self.old (fields_of row.now) (Some (first, so_far))).0) }
     {
         match read_ask(self.alloc, so_far.next_rank()?, row) {
@@ -310,7 +305,8 @@ impl Reading {
         ensures given { OnOk result (out.new.items ≡ out.old.items ++ (begun self.old group).1) }
         ensures memory { OnErr result (out.new.items ≡ out.old.items) }
     {
-        give(self.at_hand.take(), out)?;
+        let complete = self.at_hand.take();
+        give(complete, out)?;
         self.at_hand = Some(AtHand {
             first: self.rows,
             group,
