@@ -1,0 +1,147 @@
+// Rows of the table of offerings, of which each is a section.
+
+ghost use Rattle.std.specs.Prelude.{◌≡◌, IfOk, option_copied};
+ghost use Rattle.csv.specs.Records.{fields_of};
+ghost use Rattle.sect_lines.specs.Fields.{field_of};
+ghost use Rattle.sect_lines.specs.Lines.{before_of, config_limit_of, courses_of, section_fields, section_id_of, section_line};
+ghost use Rattle.sect_lines.specs.Told.{Tells, told};
+ghost use Rattle.sect_words.specs.Reading.{list_of, optional_of};
+ghost use Rattle.sect_words.specs.Times.{term_meeting_of};
+
+use crate::fields::field;
+use crate::line::{Before, LineFault, SectionLine};
+use crate::values::{id_at, limit_at};
+use csv::ByteRecord;
+use sect_base::{ConfigId, Items, Limit, Memory, OfferingId, SectionId, SubpartId};
+use sect_catalog::{CourseRow, SectionRow};
+use sect_time::{Day, Meeting};
+use sect_words::{dash, read_joined, read_meetings, same_bytes};
+use std::alloc::Global;
+
+/// The section of a row, which is compared with the row before it in the same offering.
+#[tactic(auto, unfolding(crate::specs::Lines::section_line))]
+pub fn read_section(
+    alloc: Global,
+    term: Option<Day>,
+    before: Option<&Before>,
+    row: &ByteRecord,
+) -> Result<SectionLine, LineFault>
+    ensures { Tells result (section_line term (option_copied before.entry) (fields_of row.now)) }
+{
+    if row.len() != 9 {
+        return Err(LineFault::Field(0));
+    }
+    section(alloc, term, before, row)
+}
+
+// The section of a row with the table's number of fields.
+#[tactic(auto, unfolding(crate::specs::Lines::section_fields))]
+fn section(
+    alloc: Global,
+    term: Option<Day>,
+    before: Option<&Before>,
+    row: &ByteRecord,
+) -> Result<SectionLine, LineFault>
+    ensures { Tells result (section_fields term (option_copied before.entry) (fields_of row.now)) }
+{
+    let offering = id_at(row, 1)?;
+    let courses = courses_at(alloc, before, row, 2)?;
+    let config = id_at(row, 3)?;
+    let config_limit = config_limit_at(before, config, row, 4)?;
+    let subpart = id_at(row, 5)?;
+    let id = id_at(row, 6)?;
+    let limit = limit_at(row, 7)?;
+    let parent = parent_at(row, 8)?;
+    let meetings = meetings_at(alloc, term, row, 9)?;
+    Ok(SectionLine {
+        offering: OfferingId(offering),
+        courses,
+        config: ConfigId(config),
+        config_limit,
+        subpart: SubpartId(subpart),
+        section: SectionRow {
+            id: SectionId(id),
+            limit,
+            parent,
+            meetings,
+        },
+    })
+}
+
+// The courses of the offering, which the row before has word for word.
+fn courses_at(
+    alloc: Global,
+    before: Option<&Before>,
+    row: &ByteRecord,
+    number: u32,
+) -> Result<Items<CourseRow>, LineFault>
+    ensures { Tells result (told number (courses_of (option_copied before.entry) (field_of (fields_of row.now) number))) }
+{
+    let text = field(row, number as usize);
+    if let Some(before) = before {
+        if !same_bytes(before.courses.as_slice(), text) {
+            return Err(LineFault::Field(number));
+        }
+    }
+    match read_joined(alloc, b'+', text)? {
+        Some(courses) => Ok(Items::from_vec(courses)),
+        None => Err(LineFault::Field(number)),
+    }
+}
+
+// The limit of the configuration, which the row before has word for word where its configuration is the same.
+fn config_limit_at(
+    before: Option<&Before>,
+    config: u32,
+    row: &ByteRecord,
+    number: u32,
+) -> Result<Limit, LineFault>
+    ensures { Tells result (told number (config_limit_of (option_copied before.entry) config (field_of (fields_of row.now) number))) }
+{
+    if let Some(before) = before {
+        let text = field(row, number as usize);
+        if before.config.0 == config && !same_bytes(before.limit.as_slice(), text) {
+            return Err(LineFault::Field(number));
+        }
+    }
+    limit_at(row, number)
+}
+
+// The section's parent, or none for a dash.
+fn parent_at(row: &ByteRecord, number: u32) -> Result<Option<SectionId>, LineFault>
+    ensures { Tells result (told number (optional_of section_id_of (field_of (fields_of row.now) number))) }
+{
+    if dash(field(row, number as usize)) {
+        return Ok(None);
+    }
+    let id = id_at(row, number)?;
+    Ok(Some(SectionId(id)))
+}
+
+// When the section meets.
+fn meetings_at(
+    alloc: Global,
+    term: Option<Day>,
+    row: &ByteRecord,
+    number: u32,
+) -> Result<Items<Meeting>, LineFault>
+    ensures { Tells result (told number (list_of (term_meeting_of term) 43 (field_of (fields_of row.now) number))) }
+{
+    match read_meetings(alloc, term, field(row, number as usize))? {
+        Some(meetings) => Ok(Items::from_vec(meetings)),
+        None => Err(LineFault::Field(number)),
+    }
+}
+
+/// What the next row of the same offering is compared with, of a row whose configuration this is.
+pub fn before_next(alloc: Global, config: ConfigId, row: &ByteRecord) -> Result<Before, Memory>
+    ensures { IfOk result (λ before. before ≡ before_of config.0 (fields_of row.now)) }
+{
+    let courses = Vec::from_slice(alloc, field(row, 2))?;
+    let limit = Vec::from_slice(alloc, field(row, 4))?;
+    Ok(Before {
+        courses: Items::from_vec(courses),
+        config,
+        limit: Items::from_vec(limit),
+    })
+}
