@@ -29,13 +29,15 @@ unfoldable pub read_so_far : Table → Option ℕ → List ℕ → Bool → Step
 read_so_far table term bytes false = rows_read (opening table term) (shown_rows bytes)
 read_so_far table term bytes true = with_end (rows_read (opening table term) (all_rows bytes))
 
--- the reading of an import, and the commands that it has given
+-- the reading of an import, beside the commands that it has given
 abbrev pub step_of : Intake → Step
 step_of i = read_so_far i.table i.term i.bytes i.ended
 
+-- the reading of an import
 abbrev pub reading_of : Intake → Progress
 reading_of i = (step_of i).0
 
+-- the commands that it has given
 abbrev pub commands_of : Intake → List Given
 commands_of i = (step_of i).1
 
@@ -51,13 +53,15 @@ settled i = record i { fault = fault_of (reading_of i) }
 abbrev pub is_over : Intake → Bool
 is_over i = i.ended || is_some i.fault
 
--- the import with another piece, with the end of its bytes, and with want of memory, none of which changes one that is over
+-- the import with another piece, which changes none that is over
 abbrev pub fed : Intake → List ℕ → Intake
 fed i piece = if is_over i then i else settled (record i { bytes = i.bytes ++ piece })
 
+-- the import with the end of its bytes
 abbrev pub finished : Intake → Intake
 finished i = if is_over i then i else settled (record i { ended = true })
 
+-- the import where memory is wanting
 abbrev pub starved : Intake → Intake
 starved i = if is_over i then i else record i { fault = Some Memory }
 

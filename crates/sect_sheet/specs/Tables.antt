@@ -62,13 +62,15 @@ reservation_fields r =
 abbrev pub written : List (List ℕ) → List ℕ
 written fields = row_text default_writer fields
 
--- the rows of a subpart, of a configuration and of an offering, one for each section
+-- the rows of a subpart, one for each section
 abbrev pub subpart_text : OfferingRow → ConfigRow → SubpartRow → List ℕ
 subpart_text o g p = flat_map (λ s. written (section_fields o g p s)) p.sections
 
+-- the rows of a configuration
 abbrev pub config_text : OfferingRow → ConfigRow → List ℕ
 config_text o g = flat_map (subpart_text o g) g.subparts
 
+-- the rows of an offering
 abbrev pub offering_text : OfferingRow → List ℕ
 offering_text o = flat_map (config_text o) o.configs
 

@@ -6,6 +6,7 @@ use Rattle.sect_base.specs.declared.limit.Limit.TheVariants.{Unlimited, Places}
 use Rattle.sect_command.specs.Reading.{number_in}
 use Rattle.sect_words.specs.First.{only_where}
 
+-- no byte stands there
 abbrev pub is_nothing : List ℕ → Bool
 is_nothing [] = true
 is_nothing (b ∷ bs) = false
