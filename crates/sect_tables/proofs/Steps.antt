@@ -7,7 +7,7 @@ use Rattle.sect_people.specs.declared.row.Ask.{Ask}
 use Rattle.sect_tables.specs.Offerings.{OfferingSoFar}
 use Rattle.sect_tables.specs.Progress.{Progress}
 use Rattle.sect_tables.specs.Requests.{RequestsSoFar, next_rank}
-use Rattle.sect_tables.specs.Rows.{Step, offering_next, offering_row, requests_next, requests_row, same_offering, same_student}
+use Rattle.sect_tables.specs.Rows.{Step, offering_next, offering_row, requests_next, requests_row}
 use Rattle.sect_tables.specs.declared.hand.AtHand.{AtHand}
 
 -- what a table has become is what one step and another one alike make of it, where a call has succeeded
