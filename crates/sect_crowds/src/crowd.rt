@@ -1,6 +1,6 @@
 // A machine with one student, and one with very many.
 
-use crate::asking::{Unasked, asked};
+use crate::asking::{Unasked, asked, first_other};
 use crate::lines::{joined, numbered};
 use sect_machine::Machine;
 use sect_once::Object;
@@ -20,7 +20,7 @@ const REQUESTS: &str =
     "r1 1 requests # course 1 wait course 2 wait course 3 wait course 4 wait course 5 wait course 6 wait course 7 wait course 8 wait course 9 wait course 10 wait course 11 wait course 12 wait course 13 wait course 14 wait course 15 wait course 16 wait course 17 wait course 18 wait course 19 wait course 20 wait";
 
 /// A machine with a section of one place, which student 11 has.
-pub fn begun(alloc: Global) -> Result<Machine, Unasked> {
+fn begun(alloc: Global) -> Result<Machine, Unasked> {
     let mut machine = Machine::empty(alloc);
     for line in BEFORE.lines() {
         let _reply = asked(alloc, &mut machine, line.as_bytes())?;
@@ -29,7 +29,7 @@ pub fn begun(alloc: Global) -> Result<Machine, Unasked> {
 }
 
 /// The first of the numbers with which the line isn't answered `amended`.
-pub fn first_untaken(
+fn first_untaken(
     alloc: Global,
     machine: &mut Machine,
     line: &str,
@@ -57,11 +57,37 @@ fn five_batches(alloc: Global, machine: &mut Machine) -> Result<(), Unasked> {
 
 /// A machine in which 10,000 requests wait: twenty of each of the students 1,001 to 1,500. The students 1,501 and 1,502 wait
 /// for nothing.
-pub fn waiting(alloc: Global) -> Result<Machine, Unasked> {
+fn waiting(alloc: Global) -> Result<Machine, Unasked> {
     let mut machine = Machine::empty(alloc);
     let _all = first_untaken(alloc, &mut machine, OFFERING, 1..21)?;
     let _all = first_untaken(alloc, &mut machine, "r1 1 student # max 18", 1_001..1_503)?;
     let _all = first_untaken(alloc, &mut machine, REQUESTS, 1_001..1_501)?;
     five_batches(alloc, &mut machine)?;
     Ok(machine)
+}
+
+/// The first line of the script that isn't answered by the text behind its ` = `, where student 11 has the one place.
+pub fn other_begun(alloc: Global, script: &str) -> Result<Option<&str>, Unasked> {
+    let mut machine = begun(alloc)?;
+    first_other(alloc, &mut machine, script)
+}
+
+/// The same, where the line was asked before with each of the numbers. It is that line, where it wasn't answered `amended`.
+pub fn other_after<'a>(
+    alloc: Global,
+    line: &'a str,
+    numbers: Range<u64>,
+    script: &'a str,
+) -> Result<Option<&'a str>, Unasked> {
+    let mut machine = begun(alloc)?;
+    match first_untaken(alloc, &mut machine, line, numbers)? {
+        Some(_) => Ok(Some(line)),
+        None => first_other(alloc, &mut machine, script),
+    }
+}
+
+/// The same, where 10,000 requests wait.
+pub fn other_in_crowd(alloc: Global, script: &str) -> Result<Option<&str>, Unasked> {
+    let mut machine = waiting(alloc)?;
+    first_other(alloc, &mut machine, script)
 }

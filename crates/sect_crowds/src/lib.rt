@@ -7,7 +7,7 @@ mod full;
 mod lines;
 
 pub use asking::{Unasked, asked, first_other};
-pub use crowd::{begun, first_untaken, waiting};
+pub use crowd::{other_after, other_begun, other_in_crowd};
 pub use full::{MOST, Sums, add, ones};
 pub use lines::{joined, numbered, unfolded};
 

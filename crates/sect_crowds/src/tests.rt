@@ -1,6 +1,6 @@
 // What is refused by its number.
 
-use crate::{MOST, add, begun, first_other, first_untaken, ones, waiting};
+use crate::{MOST, add, ones, other_after, other_begun, other_in_crowd};
 use sect_once::Answer;
 use std::test::Fail;
 
@@ -50,69 +50,55 @@ r1 1 batch 1501 = refused TooMany 10002";
 
 #[test]
 fn of_a_student(rt: HostRuntime) -> Result<(), Fail> {
-    let mut machine = begun(rt.alloc())?;
-    assert_eq!(rt; first_other(rt.alloc(), &mut machine, STUDENT)?, None);
+    assert!(rt; other_begun(rt.alloc(), STUDENT)?.is_none());
     Ok(())
 }
 
 #[test]
 fn of_sections(rt: HostRuntime) -> Result<(), Fail> {
-    let mut machine = begun(rt.alloc())?;
-    assert_eq!(rt; first_other(rt.alloc(), &mut machine, SECTIONS)?, None);
+    assert!(rt; other_begun(rt.alloc(), SECTIONS)?.is_none());
     Ok(())
 }
 
 #[test]
 fn of_a_batch(rt: HostRuntime) -> Result<(), Fail> {
-    let mut machine = begun(rt.alloc())?;
-    assert_eq!(rt; first_other(rt.alloc(), &mut machine, BATCH)?, None);
+    assert!(rt; other_begun(rt.alloc(), BATCH)?.is_none());
     Ok(())
 }
 
 #[test]
 fn of_a_reservation(rt: HostRuntime) -> Result<(), Fail> {
-    let mut machine = begun(rt.alloc())?;
-    assert_eq!(rt; first_other(rt.alloc(), &mut machine, RESERVATION)?, None);
+    assert!(rt; other_begun(rt.alloc(), RESERVATION)?.is_none());
     Ok(())
 }
 
 #[test]
 fn of_the_reservations_of_an_offering(rt: HostRuntime) -> Result<(), Fail> {
-    let mut machine = begun(rt.alloc())?;
     let line = "r1 5 reserve # 1 students:11 - -";
-    assert_eq!(rt; first_untaken(rt.alloc(), &mut machine, line, 1..51)?, None);
     let more = "r1 5 reserve 51 1 students:11 - - = refused TooMany 51";
-    assert_eq!(rt; first_other(rt.alloc(), &mut machine, more)?, None);
+    assert!(rt; other_after(rt.alloc(), line, 1..51, more)?.is_none());
     Ok(())
 }
 
 #[test]
 fn of_the_restrictions_of_an_offering(rt: HostRuntime) -> Result<(), Fail> {
-    let mut machine = begun(rt.alloc())?;
     let line = "r1 5 restrict # 1 students:11";
-    assert_eq!(rt; first_untaken(rt.alloc(), &mut machine, line, 1..51)?, None);
     let more = "r1 5 restrict 51 1 students:11 = refused TooMany 51";
-    assert_eq!(rt; first_other(rt.alloc(), &mut machine, more)?, None);
+    assert!(rt; other_after(rt.alloc(), line, 1..51, more)?.is_none());
     Ok(())
 }
 
 #[test]
 fn of_students(rt: HostRuntime) -> Result<(), Fail> {
-    let mut machine = begun(rt.alloc())?;
     let line = "r1 5 student # max 18";
-    assert_eq!(rt;
-        first_untaken(rt.alloc(), &mut machine, line, 1_001..51_000)?,
-        None
-    );
     let more = "r1 5 student 51000 max 18 = refused TooMany 50001";
-    assert_eq!(rt; first_other(rt.alloc(), &mut machine, more)?, None);
+    assert!(rt; other_after(rt.alloc(), line, 1_001..51_000, more)?.is_none());
     Ok(())
 }
 
 #[test]
 fn of_who_waits(rt: HostRuntime) -> Result<(), Fail> {
-    let mut machine = waiting(rt.alloc())?;
-    assert_eq!(rt; first_other(rt.alloc(), &mut machine, CROWD)?, None);
+    assert!(rt; other_in_crowd(rt.alloc(), CROWD)?.is_none());
     Ok(())
 }
 

@@ -10,5 +10,5 @@ mod trees;
 
 pub use history::counts;
 pub use looked::{has_rows, says};
-pub use script::{after, first_other, refutes, replied};
+pub use script::{first_other, refutes, replied};
 pub use trees::is_refuted;

@@ -53,7 +53,7 @@ pub fn first_other(alloc: Global, rows: &[(&str, &str)]) -> Result<Option<usize>
 }
 
 /// The machine after the lines of a text, each of which acts twice: once it is taken back.
-pub fn after(alloc: Global, lines: &str) -> Result<Machine, WireFault> {
+pub(crate) fn after(alloc: Global, lines: &str) -> Result<Machine, WireFault> {
     let mut machine = Machine::empty(alloc);
     for line in lines.lines() {
         let ask = read_line(alloc, line.as_bytes())?;

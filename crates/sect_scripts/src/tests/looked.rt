@@ -1,10 +1,8 @@
 // What queries are answered.
 
-use crate::{after, has_rows, says};
+use crate::{has_rows, says};
 use sect_base::{OfferingId, SectionId, StudentId};
 use sect_command::{Query, Table};
-use sect_machine::Machine;
-use sect_once::Object;
 use std::test::Fail;
 
 /// Two offerings, three students who ask, hold and wait, and two reservations.
@@ -58,60 +56,46 @@ const UNMET: &str = "student 12 rank 1 courses 1\n";
 
 #[test]
 fn a_roll(rt: HostRuntime) -> Result<(), Fail> {
-    let machine = after(rt.alloc(), TERM)?;
-    assert!(rt; says(rt.alloc(), &machine, Query::Roll(SectionId(8)), ROLL)?);
+    assert!(rt; says(rt.alloc(), TERM, Query::Roll(SectionId(8)), ROLL)?);
     Ok(())
 }
 
 #[test]
 fn places_with_limits(rt: HostRuntime) -> Result<(), Fail> {
-    let machine = after(rt.alloc(), TERM)?;
-    assert!(rt; says(rt.alloc(), &machine, Query::Open(OfferingId(1)), OPEN)?);
+    assert!(rt; says(rt.alloc(), TERM, Query::Open(OfferingId(1)), OPEN)?);
     Ok(())
 }
 
 #[test]
 fn places_without_limits(rt: HostRuntime) -> Result<(), Fail> {
-    let machine = after(rt.alloc(), TERM)?;
-    assert!(rt; says(rt.alloc(), &machine, Query::Open(OfferingId(4)), UNLIMITED)?);
+    assert!(rt; says(rt.alloc(), TERM, Query::Open(OfferingId(4)), UNLIMITED)?);
     Ok(())
 }
 
 #[test]
 fn a_schedule(rt: HostRuntime) -> Result<(), Fail> {
-    let machine = after(rt.alloc(), TERM)?;
-    assert!(rt;
-        says(
-            rt.alloc(),
-            &machine,
-            Query::Schedule(StudentId(11)),
-            SCHEDULE
-        )?
-    );
+    assert!(rt; says(rt.alloc(), TERM, Query::Schedule(StudentId(11)), SCHEDULE)?);
     Ok(())
 }
 
 #[test]
 fn who_waits(rt: HostRuntime) -> Result<(), Fail> {
-    let machine = after(rt.alloc(), TERM)?;
-    assert!(rt; says(rt.alloc(), &machine, Query::Waiting, WAITING)?);
+    assert!(rt; says(rt.alloc(), TERM, Query::Waiting, WAITING)?);
     Ok(())
 }
 
 #[test]
 fn unmet_requests(rt: HostRuntime) -> Result<(), Fail> {
-    let machine = after(rt.alloc(), TERM)?;
-    assert!(rt; says(rt.alloc(), &machine, Query::Unmet, UNMET)?);
+    assert!(rt; says(rt.alloc(), TERM, Query::Unmet, UNMET)?);
     Ok(())
 }
 
 #[test]
 fn what_nothing_has(rt: HostRuntime) -> Result<(), Fail> {
-    let machine = Machine::empty(rt.alloc());
     assert!(rt;
         says(
             rt.alloc(),
-            &machine,
+            "",
             Query::Roll(SectionId(7)),
             "section 7 unknown\n"
         )?
@@ -119,7 +103,7 @@ fn what_nothing_has(rt: HostRuntime) -> Result<(), Fail> {
     assert!(rt;
         says(
             rt.alloc(),
-            &machine,
+            "",
             Query::Open(OfferingId(1)),
             "offering 1 unknown\n"
         )?
@@ -127,7 +111,7 @@ fn what_nothing_has(rt: HostRuntime) -> Result<(), Fail> {
     assert!(rt;
         says(
             rt.alloc(),
-            &machine,
+            "",
             Query::Schedule(StudentId(11)),
             "student 11 unknown\n"
         )?
@@ -137,18 +121,16 @@ fn what_nothing_has(rt: HostRuntime) -> Result<(), Fail> {
 
 #[test]
 fn nobody(rt: HostRuntime) -> Result<(), Fail> {
-    let machine = Machine::empty(rt.alloc());
-    assert!(rt; says(rt.alloc(), &machine, Query::Waiting, "none\n")?);
-    assert!(rt; says(rt.alloc(), &machine, Query::Unmet, "none\n")?);
+    assert!(rt; says(rt.alloc(), "", Query::Waiting, "none\n")?);
+    assert!(rt; says(rt.alloc(), "", Query::Unmet, "none\n")?);
     Ok(())
 }
 
 #[test]
 fn tables(rt: HostRuntime) -> Result<(), Fail> {
-    let machine = after(rt.alloc(), TERM)?;
-    assert!(rt; has_rows(rt.alloc(), &machine, Table::Offerings, " 1 4")?);
-    assert!(rt; has_rows(rt.alloc(), &machine, Table::Students, " 11 12 13")?);
-    assert!(rt; has_rows(rt.alloc(), &machine, Table::Requests, " 11 12 13")?);
-    assert!(rt; has_rows(rt.alloc(), &machine, Table::Reservations, " 3 5")?);
+    assert!(rt; has_rows(rt.alloc(), TERM, Table::Offerings, " 1 4")?);
+    assert!(rt; has_rows(rt.alloc(), TERM, Table::Students, " 11 12 13")?);
+    assert!(rt; has_rows(rt.alloc(), TERM, Table::Requests, " 11 12 13")?);
+    assert!(rt; has_rows(rt.alloc(), TERM, Table::Reservations, " 3 5")?);
     Ok(())
 }
