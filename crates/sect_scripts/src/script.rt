@@ -15,7 +15,7 @@ use sect_wire::{LineAsk, WireFault, read_line};
 use std::alloc::Global;
 
 /// The day of lines that name none.
-fn usual_day() -> Option<Day> {
+pub(crate) fn usual_day() -> Option<Day> {
     read_day(b"2025-09-01").ok()
 }
 
@@ -50,6 +50,18 @@ pub fn first_other(alloc: Global, rows: &[(&str, &str)]) -> Result<Option<usize>
         }
     }
     Ok(None)
+}
+
+/// The machine after the lines of a text, each of which acts twice: once it is taken back.
+pub(crate) fn after(alloc: Global, lines: &str) -> Result<Machine, WireFault> {
+    let mut machine = Machine::empty(alloc);
+    for line in lines.lines() {
+        let ask = read_line(alloc, line.as_bytes())?;
+        if replied(alloc, &mut machine, &ask).is_err() {
+            return Err(WireFault::Memory);
+        }
+    }
+    Ok(machine)
 }
 
 /// Whether a tree refutes a request that the machine would block, in the machine as it stands. None where it wouldn't block

@@ -1,0 +1,13 @@
+//! Whole runs of the desk over objects in memory: tests alone.
+#![tactic(auto)]
+
+mod case;
+mod runs;
+mod script;
+
+pub use case::{Case, RUN};
+pub use runs::{Ended, answers, ends, is_audited, run_desk};
+pub use script::{Script, script_of};
+
+#[cfg(test)]
+mod tests;

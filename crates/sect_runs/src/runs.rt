@@ -1,0 +1,120 @@
+// Runs of the desk.
+
+ghost use Rattle.std.specs.Prelude.{◌<◌, IfOk, length};
+
+use crate::case::{Case, RUN};
+use crate::script::script_of;
+use sect_app::{Status, desk};
+use sect_base::Memory;
+use sect_edge::{MemClock, MemKeeper, MemLink, MemSink, MemSource, OpenGate};
+use sect_time::Day;
+use std::alloc::Global;
+
+/// What a run left.
+#[derive(Drop)]
+pub struct Ended {
+    pub status: Status,
+    pub sink: MemSink,
+    pub keeper: Option<MemKeeper>,
+}
+
+fn number_alone(alloc: Global, number: u64) -> Result<Vec<u64>, Memory> {
+    let mut numbers = Vec::new(alloc);
+    numbers.push(number)?;
+    Ok(numbers)
+}
+
+fn words_of(alloc: Global, text: &str) -> Result<Vec<String>, Memory> {
+    let mut words = Vec::new(alloc);
+    for word in text.split_whitespace() {
+        words.push(word.to_string(alloc)?)?;
+    }
+    Ok(words)
+}
+
+fn rows_of(alloc: Global, text: &str) -> Result<Vec<Vec<u8>>, Memory> {
+    let mut rows = Vec::new(alloc);
+    for row in text.lines() {
+        rows.push(row.as_bytes().to_vec(alloc)?)?;
+    }
+    Ok(rows)
+}
+
+/// A clock that gives 2025-09-01.
+fn clocks(alloc: Global) -> Result<Vec<MemClock>, Memory>
+    ensures { IfOk result (λ clocks. 0 < length clocks.items) }
+{
+    let day = Day::new(20_332).ok_or(Memory)?;
+    let mut clocks = Vec::new(alloc);
+    clocks.push(MemClock::new(day, Vec::new(alloc)))?;
+    Ok(clocks)
+}
+
+/// Runs the desk by the case's words over these bytes and this keeper, with a sink that takes a byte at a time.
+fn run_over<R: AllocGlobal>(
+    rt: &R,
+    case: &Case<'_>,
+    input: Vec<u8>,
+    keeper: MemKeeper,
+) -> Result<Ended, Memory> {
+    let alloc = rt.alloc();
+    let words = words_of(alloc, case.words)?;
+    let mut source = MemSource::new(
+        input,
+        case.piece.max(1),
+        number_alone(alloc, case.failing_read)?,
+    );
+    let mut sink = MemSink::new(alloc, 4_000, 1, number_alone(alloc, case.failing_write)?)?;
+    let links: Vec<MemLink> = Vec::new(alloc);
+    let (status, keeper, _links) = desk(
+        rt,
+        &words,
+        &mut source,
+        &mut sink,
+        links,
+        keeper,
+        clocks(alloc)?,
+        &OpenGate,
+    );
+    Ok(Ended {
+        status,
+        sink,
+        keeper,
+    })
+}
+
+/// Runs the desk over these bytes and a keeper with the case's rows.
+pub fn run_desk<R: AllocGlobal>(rt: &R, case: &Case<'_>, input: Vec<u8>) -> Result<Ended, Memory> {
+    let alloc = rt.alloc();
+    let keeper = MemKeeper::new(
+        rows_of(alloc, case.rows)?,
+        number_alone(alloc, case.failing_append)?,
+    );
+    run_over(rt, case, input, keeper)
+}
+
+/// Whether the desk ends and answers as the case says.
+pub fn ends<R: AllocGlobal>(rt: &R, case: &Case<'_>) -> Result<bool, Memory> {
+    let script = script_of(rt.alloc(), case.script)?;
+    let ended = run_desk(rt, case, script.input)?;
+    Ok(ended.status == case.status && ended.sink.bytes() == script.output.as_slice())
+}
+
+/// Whether `run` over a keeper with no rows answers each line of the parts as it stands there, and ends Done.
+pub fn answers<R: AllocGlobal>(rt: &R, script: &[&str]) -> Result<bool, Memory> {
+    ends(rt, &Case { script, ..RUN })
+}
+
+/// Whether `audit` over the keeper that a run of the parts left writes this text.
+pub fn is_audited<R: AllocGlobal>(rt: &R, script: &[&str], text: &str) -> Result<bool, Memory> {
+    let alloc = rt.alloc();
+    let script = script_of(alloc, script)?;
+    let ended = run_desk(rt, &RUN, script.input)?;
+    let keeper = ended.keeper.ok_or(Memory)?;
+    let audit = Case {
+        words: "audit",
+        ..RUN
+    };
+    let audited = run_over(rt, &audit, Vec::new(alloc), keeper)?;
+    Ok(audited.status == Status::Done && audited.sink.bytes() == text.as_bytes())
+}

@@ -1,0 +1,6 @@
+// Runs with the answers that the rules give, worked by hand.
+
+mod ends;
+mod found;
+mod held;
+mod rules;
