@@ -1,8 +1,6 @@
 // Scripts with the replies that each line must have.
 
 mod acted;
-mod logged;
-mod looked;
 mod refused;
 mod trees;
 mod waited;

@@ -13,6 +13,3 @@ mod subpart;
 
 pub use given::{CsvFault, Given};
 pub use reading::Reading;
-
-#[cfg(test)]
-mod tests;
