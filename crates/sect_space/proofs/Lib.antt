@@ -5,7 +5,6 @@ pub mod Lists
 pub mod MarkLemmas
 pub mod ReadyLemmas
 pub mod Steps
-pub mod SampleLemmas
 pub mod StudentBack
 pub mod Sums
 pub mod TakenBack

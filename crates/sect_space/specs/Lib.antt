@@ -5,6 +5,5 @@ pub mod Parts
 pub mod Recorded
 pub mod Room
 pub mod Roomed
-pub mod Sample
 pub mod Undo
 pub mod Undoing

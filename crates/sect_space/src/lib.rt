@@ -23,6 +23,3 @@ pub use sect_model::{Change, Enrolment};
 pub use space::names;
 pub use undo::Undo;
 pub use world::World;
-
-#[cfg(test)]
-mod tests;

@@ -1,8 +1,8 @@
 -- nothing is changed at first
 use Rattle.std.proofs.Common.{length, ap, subst, sym}
 use Rattle.sect_space.specs.Undo.{Undoable}
-use Rattle.sect_space.proofs.SampleLemmas.{starts}
-use Rattle.sect_space.proofs.tests.sample.desk_after.Goals as goal
+use Rattle.sect_sample.proofs.SampleLemmas.{starts}
+use Rattle.sect_sample.proofs.tests.sample.desk_after.Goals as goal
 
 pub loop-i-init : goal.loop-i-init
 loop-i-init c = record {

@@ -1,8 +1,8 @@
 -- so many of the changes are made
 use Rattle.std.proofs.Common.{◌≡◌, length}
-use Rattle.sect_space.specs.Sample.{sample_world}
+use Rattle.sect_sample.specs.Sample.{sample_world}
 use Rattle.sect_space.specs.Undo.{Undoable}
-use Rattle.sect_space.proofs.tests.sample.desk_after.Given as goal
+use Rattle.sect_sample.proofs.tests.sample.desk_after.Given as goal
 
 abbrev pub invariant-loop-i : goal.invariant-loop-i
 invariant-loop-i l = record {

@@ -1,12 +1,12 @@
 // The sample: changes that fit one after the other, and the desk after so many of them.
 
 ghost use Rattle.std.specs.Prelude.{◌≡◌, ◌<◌, ◌≤◌, ◌+◌, [], length, IfOk, OnOk};
-ghost use Rattle.sect_space.specs.Sample.{sample_change, sample_world};
+ghost use Rattle.sect_sample.specs.Sample.{sample_change, sample_world};
 ghost use Rattle.sect_space.specs.Undo.{Undoable};
 
 use super::rows;
-use crate::{Change, Enrolment, Undo, World, laws};
 use sect_base::{Cap, CourseId, Items, Limit, ReservationId, RestrictionId, SectionId, StudentId};
+use sect_space::{Change, Enrolment, Undo, World, laws};
 use std::alloc::Global;
 use std::test::Fail;
 

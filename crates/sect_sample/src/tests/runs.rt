@@ -2,9 +2,9 @@
 
 use super::rows::{day, enrolment};
 use super::sample::desk_after;
-use crate::{Enrolment, World};
 use sect_base::{CourseId, Level, OfferingId, ReservationId, RestrictionId, SectionId, StudentId};
 use sect_reserve::{Reservation, Restriction};
+use sect_space::{Enrolment, World};
 use std::test::Fail;
 
 fn reservations(rows: &[Reservation], ids: &[u32]) -> bool {

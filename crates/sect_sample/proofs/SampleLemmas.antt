@@ -9,7 +9,7 @@ use Rattle.sect_model.specs.World.{World, empty_world}
 use Rattle.sect_model.specs.Fits.{Fits, changed}
 use Rattle.sect_model.specs.Allowed.{is_allowed}
 use Rattle.sect_space.specs.Undo.{AllFit, all_changed}
-use Rattle.sect_space.specs.Sample.{sample_changes, sample_change, sample_world}
+use Rattle.sect_sample.specs.Sample.{sample_changes, sample_change, sample_world}
 
 -- a want of one course
 abbrev want : CourseId → Want

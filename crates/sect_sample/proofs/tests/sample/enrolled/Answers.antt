@@ -1,8 +1,8 @@
 -- the enrolment of each number
 use Rattle.std.proofs.Common.{◌≡◌, arith, rules}
-use Rattle.sect_space.specs.Sample.{sample_change}
-use Rattle.sect_space.proofs.SampleLemmas.{of-number}
-use Rattle.sect_space.proofs.tests.sample.enrolled.Goals as goal
+use Rattle.sect_sample.specs.Sample.{sample_change}
+use Rattle.sect_sample.proofs.SampleLemmas.{of-number}
+use Rattle.sect_sample.proofs.tests.sample.enrolled.Goals as goal
 
 pub returns-in-8 : goal.returns-in-8
 unfolding sample_change

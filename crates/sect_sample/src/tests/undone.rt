@@ -4,8 +4,8 @@ ghost use Rattle.std.specs.Prelude.{◌≤◌};
 
 use super::rows::day;
 use super::sample::{Desk, desk_after};
-use crate::{Mark, World};
 use sect_base::{Level, OfferingId, SectionId, StudentId};
+use sect_space::{Mark, World};
 use std::alloc::Global;
 use std::test::Fail;
 

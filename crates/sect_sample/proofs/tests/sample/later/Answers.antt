@@ -1,8 +1,8 @@
 -- the change of each number
 use Rattle.std.proofs.Common.{◌≡◌, arith, rules}
-use Rattle.sect_space.specs.Sample.{sample_change}
-use Rattle.sect_space.proofs.SampleLemmas.{of-number}
-use Rattle.sect_space.proofs.tests.sample.later.Goals as goal
+use Rattle.sect_sample.specs.Sample.{sample_change}
+use Rattle.sect_sample.proofs.SampleLemmas.{of-number}
+use Rattle.sect_sample.proofs.tests.sample.later.Goals as goal
 
 pub returns-in_ok-reservation-in-11 : goal.returns-in_ok-reservation-in-11
 unfolding sample_change

@@ -1,8 +1,8 @@
 // What is counted, and the space that is left.
 
 use super::sample::desk_after;
-use crate::names;
 use sect_base::{ConfigId, CourseId, Level, OfferingId, ReservationId, SectionId, StudentId};
+use sect_space::names;
 use std::test::Fail;
 
 const SMALL: Level = Level::Section(SectionId(11));

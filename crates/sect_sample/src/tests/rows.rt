@@ -1,9 +1,8 @@
 // Rows of the sample.
 
 ghost use Rattle.std.specs.Prelude.{◌≡◌, [], ◌∷◌, IfOk};
-ghost use Rattle.sect_space.specs.Sample.{a_section, an_offering, a_student, an_ask, both, a_permit, a_reservation, a_restriction, an_enrolment};
+ghost use Rattle.sect_sample.specs.Sample.{a_section, an_offering, a_student, an_ask, both, a_permit, a_reservation, a_restriction, an_enrolment};
 
-use crate::Enrolment;
 use sect_base::{
     Choice, ConfigId, CourseId, Items, Limit, OfferingId, ReservationId, RestrictionId, SectionId,
     Sections, StudentId, SubpartId,
@@ -11,6 +10,7 @@ use sect_base::{
 use sect_catalog::{ConfigRow, CourseRow, OfferingRow, SectionRow, SubpartRow};
 use sect_people::{Ask, CourseAsk, StudentRow};
 use sect_reserve::{Audience, Includes, Place, Reservation, Restriction};
+use sect_space::Enrolment;
 use sect_time::{Day, Meeting};
 use std::alloc::Global;
 use std::test::Fail;

@@ -1,8 +1,8 @@
 -- the row of each number
 use Rattle.std.proofs.Common.{◌≡◌, arith, rules}
-use Rattle.sect_space.specs.Sample.{sample_change}
-use Rattle.sect_space.proofs.SampleLemmas.{of-number}
-use Rattle.sect_space.proofs.tests.sample.row.Goals as goal
+use Rattle.sect_sample.specs.Sample.{sample_change}
+use Rattle.sect_sample.proofs.SampleLemmas.{of-number}
+use Rattle.sect_sample.proofs.tests.sample.row.Goals as goal
 
 pub returns-in_ok-offering-in-0 : goal.returns-in_ok-offering-in-0
 unfolding sample_change
