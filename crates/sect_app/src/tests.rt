@@ -1,10 +1,7 @@
 // Calls of the desk over objects in memory.
 ghost use Rattle.std.specs.Prelude.{◌<◌, IfOk, length};
 
-mod scripts;
-
 use super::*;
-use scripts::Script;
 use sect_edge::{MemClock, MemKeeper, MemLink, MemSink, MemSource, OpenGate};
 use sect_time::Day;
 use std::alloc::Global;
@@ -196,17 +193,6 @@ fn answer(
     }
 }
 
-// The script on a desk of its own is answered as it should be.
-fn is_answered(rt: &HostRuntime, script: &Script) -> Result<bool, Fail> {
-    let case = Case {
-        input: script.lines,
-        output: script.answers,
-        ..ALL
-    };
-    let (status, sink, _keeper) = answer(rt, &["run"], &case)?;
-    Ok(status == Status::Done && sink.bytes() == script.answers)
-}
-
 #[test]
 fn runs_end_as_they_should(rt: HostRuntime) -> Result<(), Fail> {
     for case in &CASES {
@@ -241,64 +227,6 @@ fn rows_have_the_days_of_the_clock(rt: HostRuntime) -> Result<(), Fail> {
         rows[2].as_slice(),
         b"2025-09-02 r1 3 student 13 max 18 = amended".as_slice()
     );
-    Ok(())
-}
-
-#[test]
-fn places_are_found_or_refused(rt: HostRuntime) -> Result<(), Fail> {
-    for script in [
-        &scripts::FIRST_TO_FIFTH,
-        &scripts::TOUCHING,
-        &scripts::PARENTS,
-        &scripts::PARENTS_FULL,
-        &scripts::SPENT,
-        &scripts::ENOUGH,
-        &scripts::ORDINARY,
-    ] {
-        assert!(rt; is_answered(&rt, script)?);
-    }
-    Ok(())
-}
-
-#[test]
-fn reservations_and_permissions(rt: HostRuntime) -> Result<(), Fail> {
-    for script in [
-        &scripts::RESERVED,
-        &scripts::EXPIRED,
-        &scripts::OVER,
-        &scripts::OVERLAP,
-        &scripts::RESTRICTED,
-    ] {
-        assert!(rt; is_answered(&rt, script)?);
-    }
-    Ok(())
-}
-
-#[test]
-fn swaps_waits_and_batches(rt: HostRuntime) -> Result<(), Fail> {
-    for script in [
-        &scripts::SWAP,
-        &scripts::SWAP_BLOCKED,
-        &scripts::WAITING,
-        &scripts::WAITING_IN_ORDER,
-        &scripts::BATCH,
-        &scripts::BATCH_WAITING,
-    ] {
-        assert!(rt; is_answered(&rt, script)?);
-    }
-    Ok(())
-}
-
-#[test]
-fn bounds_and_refusals(rt: HostRuntime) -> Result<(), Fail> {
-    for script in [
-        &scripts::FREE_TIME,
-        &scripts::REFUSALS,
-        &scripts::CREDITS,
-        &scripts::CREDITS_HELD,
-    ] {
-        assert!(rt; is_answered(&rt, script)?);
-    }
     Ok(())
 }
 
