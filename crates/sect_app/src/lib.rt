@@ -23,6 +23,3 @@ pub use status::Status;
 pub use top::desk;
 pub use words::{Words, read_words};
 pub use write::write_all;
-
-#[cfg(test)]
-mod tests;
