@@ -2,6 +2,7 @@
 
 python3 tools/definitions.py            writes the document
 python3 tools/definitions.py --missing  lists the definitions without a sentence
+python3 tools/definitions.py --check    compares the document with what would be written; the status is 1 where they differ
 """
 import os
 import re
@@ -63,10 +64,17 @@ def main():
             path = f'{crate}/specs/{name}'
             if path not in seen and definitions(path) and not name.startswith(('Lib', 'Examples')):
                 print('not in the order:', path, file=sys.stderr)
-    if not missing:
-        os.makedirs(os.path.join(ROOT, 'docs'), exist_ok=True)
-        with open(os.path.join(ROOT, 'docs', 'DEFINITIONS.md'), 'w') as file:
-            file.write('\n'.join(out).rstrip() + '\n')
+    document = os.path.join(ROOT, 'docs', 'DEFINITIONS.md')
+    text = '\n'.join(out).rstrip() + '\n'
+    if sys.argv[1:] == ['--check']:
+        with open(document) as file:
+            if file.read() != text:
+                print('docs/DEFINITIONS.md is not what tools/definitions.py writes')
+                return 1
+    elif not missing:
+        with open(document, 'w') as file:
+            file.write(text)
+    return 0
 
 
-main()
+sys.exit(main())

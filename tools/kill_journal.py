@@ -24,7 +24,7 @@ PROGRAM = r'''// Appends rows to a journal in a file, or lists them.
 
 use sect_edge::Keeper;
 use sect_journal::Journal;
-use sect_real::FileDisk;
+use sect_system::FileDisk;
 use std::io::Write;
 use std::process::ExitCode;
 use std::{env, io};
@@ -80,7 +80,7 @@ def build():
     with open(os.path.join(crate, 'src', 'main.rt'), 'w') as file:
         file.write(PROGRAM)
     with open(os.path.join(copy, 'crates.txt'), 'a') as file:
-        file.write('journal_trial: sect_base sect_edge sect_journal sect_real\n')
+        file.write('journal_trial: sect_base sect_edge sect_journal sect_system\n')
     made = subprocess.run(['rt', 'run', '--', '/tmp/kill_journal_first', '1'], cwd=crate, capture_output=True, text=True)
     if made.returncode:
         sys.exit(made.stdout + made.stderr)

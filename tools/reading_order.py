@@ -103,9 +103,15 @@ CHAPTERS = [
      model('Look')),
     ('The good world',
      'What holds at every moment, whatever is asked.',
-     model('GoodWorld', 'Premises', 'Kept', 'Fits', 'Accepted')),
+     model('GoodWorld', 'Premises', 'Stands', 'Kept', 'Fits', 'Accepted')),
+    ('The rest of a path',
+     'What is left of a path, as a path of a move that takes one want, in the world that has the choices done.',
+     model('Rest')),
+    ('What a change may open',
+     'When a world is no freer for a waiting entry than another, and which changes may give it a move.',
+     model('Freer')),
     ('Histories',
-     'The log, what a replay of it gives, when it is legal, and which requests act.',
+     'Requests that acted, with their replies; what a replay of them gives, and which requests act.',
      model('History')),
     ('Laws',
      'What follows. Each stands on a function of `crates/sect_model/src/laws.rt`, which does nothing: its contract '
@@ -115,6 +121,9 @@ CHAPTERS = [
      'What the containers of enrolments, reservations and restrictions show, and what undoing a change of them gives '
      'back.',
      ['sect_roster/specs/' + n + '.antt' for n in ('Listed', 'Last', 'Undone')]),
+    ('Numbers beside the enrolments',
+     'Counts by id, the numbers of a world, and what one enrolment more, one less and each other change do to them.',
+     ['sect_numbers/specs/' + n + '.antt' for n in ('Tally', 'Numbers', 'OneMore', 'Laws', 'Quiet', 'Own', 'Held')]),
     ('The world with its room, and undoing',
      'A world beside the room that its lists have; what is kept of a change; and when recorded changes can be taken back.',
      ['sect_space/specs/' + n + '.antt' for n in ('Roomed', 'Room', 'Counting', 'Back', 'Recorded', 'Undo')]),
@@ -122,17 +131,17 @@ CHAPTERS = [
      'The nodes of the tree of a blocked search, and what a verified tree says.',
      ['sect_search/specs/' + n + '.antt' for n in ('Nodes', 'Refutes', 'Texts')]),
     ('The waiting list',
-     'The entries with the next ticket, and what taking changes of it back asks and gives.',
-     ['sect_wait/specs/' + n + '.antt' for n in ('Queued', 'Undo')]),
+     'The entries with the next ticket, what taking changes of it back asks and gives, and which entries must be tried.',
+     ['sect_wait/specs/' + n + '.antt' for n in ('Queued', 'Undo', 'Marked')]),
     ('Words',
-     'Ids, lists, limits, days and the parts of rows as words of reports and tables.',
-     ['sect_words/specs/' + n + '.antt' for n in ('First', 'Days', 'Words')]),
+     'Ids, lists, limits, days and what rows are made of, as words of lines, rows, tables and reports.',
+     ['sect_words/specs/' + n + '.antt' for n in ('Parts', 'Days', 'Words')]),
     ('Reports',
      'The text of each view.',
      ['sect_report/specs/' + n + '.antt' for n in ('Line', 'Report', 'Answer')]),
     ('Words read',
-     'The values of the words of tables.',
-     ['sect_words/specs/' + n + '.antt' for n in ('Reading', 'Rows', 'Times')]),
+     'The values of the words of lines, rows and tables.',
+     ['sect_words/specs/' + n + '.antt' for n in ('Reading', 'ReadingWords', 'Times')]),
     ('Tables as CSV',
      'The header of each table, and its rows as they are written.',
      ['sect_sheet/specs/' + n + '.antt' for n in ('Fields', 'Tables')]),
@@ -150,10 +159,10 @@ CHAPTERS = [
      ['sect_csv/specs/Intake.antt']),
     ('Texts of commands, replies and rows',
      'Each is a list of words, joined by single spaces.',
-     ['sect_text/specs/' + n + '.antt' for n in ('Parts', 'Days', 'Words', 'Commands', 'Replies', 'Rows')]),
+     ['sect_text/specs/' + n + '.antt' for n in ('Commands', 'Replies', 'Rows')]),
     ('Lines',
      'What has a text, and which request a line asks.',
-     ['sect_wire/specs/' + n + '.antt' for n in ('Fits', 'Lines')]),
+     ['sect_read/specs/' + n + '.antt' for n in ('Fits', 'Lines')]),
     ('Worked examples',
      'The files `Examples..` have scripts from the empty desk with what each line is answered, and the functions of '
      '`crates/sect_model/src/examples.rt` have them as contracts, which the check computes. They are written in '
@@ -162,18 +171,33 @@ CHAPTERS = [
     ('One history',
      'A log of any object, its history, and what each answer says of it.',
      ['sect_once/specs/' + n + '.antt' for n in ('History', 'Faults', 'Desks')]),
+    ('Throughout a history of the machine',
+     'The changes by which each entry leads from world to world, and what its blocked replies refute. The laws stand on '
+     'the functions of `crates/sect_history/src/laws.rt`.',
+     ['sect_history/specs/' + n + '.antt' for n in ('Step', 'Changes', 'BatchLines', 'Throughout', 'Laws')]),
+    ('Rows',
+     'What a state may hold so that each reply has a text, and that what is asked with a text gets an entry that has a row.',
+     ['sect_rows/specs/' + n + '.antt' for n in ('States', 'Laws')]),
     ('The machine',
-     'What contracts see of a machine, what a step records, and what a command that is not done leaves.',
-     ['sect_machine/specs/' + n + '.antt' for n in ('Standing', 'Tracked', 'Acting', 'Answering', 'Placed', 'NotDone')]
+     'What contracts see of a machine, what a step records, what a command that is not done leaves, and which entries a command may give a move.',
+     ['sect_machine/specs/' + n + '.antt' for n in ('Standing', 'Tracked', 'Acting', 'Answering', 'Placed', 'NotDone', 'Opening')]
      + ['sect_view/specs/' + n + '.antt' for n in ('Found', 'Unmet')]),
+    ('The words of the command line',
+     'Words cut into options and words that stand alone, what they ask for, and the laws of it.',
+     ['sect_usage/specs/' + n + '.antt' for n in ('Items', 'Grammar', 'Needs', 'Help', 'Laws', 'Spelling')]),
     ('The program',
-     'The lines of an input, how the desk answers them, the audit, and what is done for the words.',
-     ['sect_app/specs/' + n + '.antt'
-      for n in ('Lines', 'Reading', 'Run', 'AnswerLines', 'Asks', 'Desk', 'Step', 'Audit', 'Generated', 'Made', 'Stages', 'Words', 'Help', 'Machine')]),
+     'The lines of an input, how the desk answers them, the audit, the import of a table, and what is done for the words.',
+     ['sect_script/specs/' + n + '.antt' for n in ('Lines', 'Reading', 'Run', 'Statuses')]
+     + ['sect_asking/specs/' + n + '.antt' for n in ('AnswerLines', 'Asks', 'Desk')]
+     + ['sect_tell/specs/' + n + '.antt' for n in ('Told', 'Audit', 'Views')]
+     + ['sect_fit/specs/Fitting.antt']
+     + ['sect_intake/specs/' + n + '.antt' for n in ('Numbers', 'Asking', 'Table', 'Opened', 'Machine')]
+     + ['sect_making/specs/' + n + '.antt' for n in ('Generated', 'Made', 'Stages')]
+     + ['sect_app/specs/' + n + '.antt' for n in ('Top', 'Machine')]),
     ('The turn and the office',
      'One value under a turn, and the passes that share it.',
      ['sect_turn/specs/' + n + '.antt' for n in ('Seats', 'Rule', 'Steps', 'Passes')]
-     + ['sect_office/specs/Offices.antt', 'sect_office/specs/Works.antt']),
+     + ['sect_office/specs/Offices.antt', 'sect_office/specs/Calls.antt', 'sect_office/specs/Works.antt']),
     ('The journal',
      'What a crash may leave of a disk, the text of a journal and its rows.',
      ['sect_journal/specs/' + n + '.antt' for n in ('Disk', 'Text', 'Standing', 'Opening', 'Runs')]),
@@ -184,12 +208,12 @@ CHAPTERS = [
 
 # what private functions' contracts cite: a body's own words, which no public contract has
 INSIDE = ['sect_time/specs/WeekScan.antt', 'sect_catalog/specs/Place.antt', 'sect_catalog/specs/Rising.antt',
-          'sect_catalog/specs/Search.antt', 'sect_people/specs/Index.antt', 'sect_roster/specs/Filed.antt']
+          'sect_catalog/specs/Search.antt', 'sect_people/specs/Index.antt', 'sect_roster/specs/Filed.antt', 'sect_intake/specs/Underway.antt']
 
 BASE, CATALOG, PEOPLE = 'sect_base/specs/', 'sect_catalog/specs/', 'sect_people/specs/'
 # for definitions of the lower crates that have no sentence of their own
 SENTENCES = {
-    ('sect_app/specs/Audit.antt', 'verified'): 'how many of a whole history block so',
+    ('sect_tell/specs/Audit.antt', 'verified'): 'how many of a whole history block so',
     ('sect_catalog/specs/Limits.antt', 'config_limit'): 'the limit that a configuration has after the change',
     ('sect_catalog/specs/Limits.antt', 'section_limit'): 'the limit that a section has after the change',
     ('sect_catalog/specs/Limits.antt', 'capped_course'): 'the course with its limit after the change',
@@ -214,7 +238,7 @@ SENTENCES = {
     ('sect_turn/specs/Steps.antt', 'Looked'): 'the seat has the turn where its ticket is served, and else nothing has changed',
     ('sect_turn/specs/Passes.antt', 'share'): 'the share of a pass',
     ('sect_turn/specs/Passes.antt', 'HoldsTurn'): 'the pass has the turn, and the slot stands empty in its hands',
-    ('sect_app/specs/Generated.antt', 'batch_command'): 'the batch of this number, from 0',
+    ('sect_making/specs/Generated.antt', 'batch_command'): 'the batch of this number, from 0',
     ('sect_people/specs/Changes.antt', 'students_by_id'): 'the students in rising order of their ids',
     ('sect_command/specs/TreeText.antt', 'HaveTexts'): 'each of the trees has a text with at most so many brackets',
     (BASE + 'Padded.antt', 'no_section'): 'the section of id 0, which fills cells',

@@ -1,34 +1,126 @@
 //! The program: it makes the real objects, calls the desk, prints the status and ends with its number.
 #![tactic(auto)]
 
-use sect_app::{Status, desk};
-use sect_edge::{MemKeeper, MemLink, OpenGate};
-use sect_real::{RealClock, StdSink, StdSource};
+use sect_app::{Needs, Status, WordFault, desk, needs, number_of, print_status};
+use sect_edge::{KeepFault, MemKeeper, MemLink, OpenGate};
+use sect_journal::{Journal, JournalFault};
+use sect_real::{AnyKeeper, FileDisk, RealClock, SqliteKeeper, StdSink, StdSource};
+use std::io::Write;
 use std::process::ExitCode;
 use std::{env, io};
 
-fn main(rt: HostRuntime) -> io::Result<ExitCode> {
-    let status = start(rt)?;
-    print_status(rt, status)?;
-    Ok(ExitCode::from(number_of(status)))
+// How the program ended: as the desk did, or with a journal whose gate at this place has no byte or no whole row behind it.
+enum End {
+    Told(Status),
+    BadJournal(u64),
 }
 
-// Calls the desk over the process's own input and output, with a keeper that has no rows.
-fn start(rt: HostRuntime) -> io::Result<Status> {
-    let alloc = rt.alloc();
-    let mut words = Vec::new(alloc);
-    for word in env::args(&rt)?.skip(1) {
-        words.push(word)?;
+fn main(rt: HostRuntime) -> ExitCode {
+    let end = match start(rt) {
+        Ok(status) => End::Told(status),
+        Err(end) => end,
+    };
+    // The number tells the end also where its text can't be printed.
+    match end {
+        End::Told(status) => {
+            let _ = print_end(rt, status);
+            ExitCode::from(number_of(status))
+        }
+        End::BadJournal(place) => {
+            let _ = eprintln!(rt; "bad journal {place}");
+            ExitCode::from(7)
+        }
     }
+}
+
+// Prints the text of the status.
+fn print_end(rt: HostRuntime, status: Status) -> io::Result<()> {
+    let mut text = Vec::new(rt.alloc());
+    match print_status(status, &mut text) {
+        Ok(()) => rt.stderr().write_all(&text),
+        Err(_) => Ok(()),
+    }
+}
+
+// Reads the words, makes what they need and calls the desk.
+fn start(rt: HostRuntime) -> Result<Status, End> {
+    let words = words_of(rt).map_err(End::Told)?;
+    let needs = match needs(rt.alloc(), &words) {
+        Ok(needs) => needs,
+        Err(WordFault::BadWords) => return Err(End::Told(Status::BadWords)),
+        Err(WordFault::Memory) => return Err(End::Told(Status::Memory)),
+    };
+    let keeper = keeper_of(rt, needs)?;
+    Ok(run(rt, &words, keeper))
+}
+
+// The words behind the program's name. One that is no text is a bad word.
+fn words_of(rt: HostRuntime) -> Result<Vec<String>, Status> {
+    let args = match env::args(&rt) {
+        Ok(args) => args,
+        Err(error) if error.kind() == io::ErrorKind::OutOfMemory => return Err(Status::Memory),
+        Err(_) => return Err(Status::BadWords),
+    };
+    let mut words = Vec::new(rt.alloc());
+    for word in args.skip(1) {
+        if words.push(word).is_err() {
+            return Err(Status::Memory);
+        }
+    }
+    Ok(words)
+}
+
+// The keeper that the words name, or one without rows.
+fn keeper_of(rt: HostRuntime, needs: Needs) -> Result<AnyKeeper, End> {
+    let Needs { db, journal } = needs;
+    if let Some(path) = db {
+        return open_database(rt, path.as_str());
+    }
+    if let Some(path) = journal {
+        return open_journal(rt, path.as_str());
+    }
+    let alloc = rt.alloc();
+    Ok(AnyKeeper::Memory(MemKeeper::new(Vec::new(alloc), Vec::new(alloc))))
+}
+
+fn open_database(rt: HostRuntime, path: &str) -> Result<AnyKeeper, End> {
+    match SqliteKeeper::open(&rt, path) {
+        Ok(keeper) => Ok(AnyKeeper::Sqlite(keeper)),
+        Err(KeepFault::Failed) => Err(End::Told(Status::KeeperFault)),
+        Err(KeepFault::Memory) => Err(End::Told(Status::Memory)),
+    }
+}
+
+fn open_journal(rt: HostRuntime, path: &str) -> Result<AnyKeeper, End> {
+    let disk = match FileDisk::open(&rt, path) {
+        Ok(disk) => disk,
+        Err(error) if error.kind() == io::ErrorKind::OutOfMemory => {
+            return Err(End::Told(Status::Memory));
+        }
+        Err(_) => return Err(End::Told(Status::KeeperFault)),
+    };
+    match Journal::start(rt.alloc(), disk) {
+        Ok(journal) => Ok(AnyKeeper::Journal(journal)),
+        Err((JournalFault::Failed, _)) => Err(End::Told(Status::KeeperFault)),
+        Err((JournalFault::BadJournal(place), _)) => Err(End::BadJournal(place)),
+        Err((JournalFault::Memory, _)) => Err(End::Told(Status::Memory)),
+    }
+}
+
+// Calls the desk over the process's own input and output, and closes the keeper. Where that fails, no row is lost.
+fn run(rt: HostRuntime, words: &[String], keeper: AnyKeeper) -> Status {
+    let alloc = rt.alloc();
     let mut clocks = Vec::new(alloc);
-    clocks.push(RealClock::new(rt))?;
-    let keeper = MemKeeper::new(Vec::new(alloc), Vec::new(alloc));
+    if clocks.push(RealClock::new(rt)).is_err() {
+        let _ = keeper.close();
+        return Status::Memory;
+    }
     let links: Vec<MemLink> = Vec::new(alloc);
     let mut source = StdSource::new(rt.stdin());
     let mut sink = StdSink::new(rt.stdout());
-    let (status, _keeper, _links) = desk(
+    let (status, keeper, _links) = desk(
         &rt,
-        &words,
+        words,
         &mut source,
         &mut sink,
         links,
@@ -36,33 +128,8 @@ fn start(rt: HostRuntime) -> io::Result<Status> {
         clocks,
         &OpenGate,
     );
-    Ok(status)
-}
-
-fn print_status(rt: HostRuntime, status: Status) -> io::Result<()> {
-    match status {
-        Status::Done => Ok(()),
-        Status::BadWords => eprintln!(rt; "usage: desk run|make|audit"),
-        Status::BadLine { line, field } => eprintln!(rt; "line {line} field {field}"),
-        Status::ReadFault => eprintln!(rt; "read fault"),
-        Status::WriteFault => eprintln!(rt; "write fault"),
-        Status::KeeperFault => eprintln!(rt; "keeper fault"),
-        Status::BadEntry(row) => eprintln!(rt; "bad entry {row}"),
-        Status::LinkFault => eprintln!(rt; "link fault"),
-        Status::Memory => eprintln!(rt; "out of memory"),
+    if let Some(keeper) = keeper {
+        let _ = keeper.close();
     }
-}
-
-fn number_of(status: Status) -> u8 {
-    match status {
-        Status::Done => 0,
-        Status::BadWords => 2,
-        Status::BadLine { .. } => 3,
-        Status::ReadFault => 4,
-        Status::WriteFault => 5,
-        Status::KeeperFault => 6,
-        Status::BadEntry(_) => 7,
-        Status::LinkFault => 8,
-        Status::Memory => 9,
-    }
+    status
 }

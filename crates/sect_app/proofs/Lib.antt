@@ -1,12 +1,2 @@
-pub mod Asking
-pub mod Audits
-pub mod Gathered
 pub mod Good
-pub mod Grows
-pub mod LinesOf
-pub mod Making
-pub mod Ready
-pub mod Steps
 pub mod Unfaulted
-pub mod Writes
-pub mod Worded

@@ -1,8 +1,8 @@
 -- Where no count rose, the status tells of no fault.
 use Rattle.std.proofs.Common.{◌≡◌, ◌≢◌, refl}
-use Rattle.sect_app.specs.declared.status.Status.{Status}
-use Rattle.sect_app.specs.declared.status.Status.TheVariants as statuses
-use Rattle.sect_app.specs.Desk.{IsUnfaulted}
+use Rattle.sect_script.specs.declared.status.Status.{Status}
+use Rattle.sect_script.specs.declared.status.Status.TheVariants as statuses
+use Rattle.sect_app.specs.Top.{IsUnfaulted}
 
 pub unfaulted : (status : Status) (read write keep : Type 0) → (status ≡ statuses.ReadFault → read) → (status ≡ statuses.WriteFault → write)
     → (status ≡ statuses.KeeperFault → keep) → status ≢ statuses.LinkFault → (read → ⊥) → (write → ⊥) → (keep → ⊥) → IsUnfaulted status

@@ -1,25 +1,13 @@
-//! Every command of the desk: its words, its loop over the input and its status.
+//! Every command of the desk: what is done for its words.
 #![tactic(auto)]
 
-mod answer;
-mod asker;
-mod audit;
-mod generate;
-mod help;
-mod make;
-mod number;
 mod over;
-mod reader;
-mod run;
-mod script;
 mod status;
 mod top;
-mod words;
-mod write;
 
-pub use reader::{LineEnd, LineError, LineReader};
-pub use script::{Handler, LineFault, RunEnd, run_lines};
-pub use status::Status;
+pub use sect_script::{
+    Handler, LineEnd, LineError, LineFault, LineReader, RunEnd, Status, run_lines, write_all,
+};
+pub use sect_usage::{Needs, WordFault, Words, needs, read_words};
+pub use status::{number_of, print_status};
 pub use top::desk;
-pub use words::{Words, read_words};
-pub use write::write_all;

@@ -1,26 +1,27 @@
 // What is done for the words.
-ghost use Rattle.std.specs.Prelude.{◌≡◌, ◌≢◌, ◌↔◌, ◌<◌, ◌≤◌, ℕ, length, map};
+ghost use Rattle.std.specs.Prelude.{◌≡◌, ◌≢◌, ◌↔◌, ◌<◌, ◌≤◌, ℕ, true, false, None, Some, length, map};
 ghost use Rattle.std.specs.String.{string_bytes};
 ghost use Rattle.std.specs.Io.KnownBytes.{IsAtEnd};
 ghost use Rattle.sect_edge.specs.Causes.{Rose};
-ghost use Rattle.sect_app.specs.declared.status.Status.{Status};
-ghost use Rattle.sect_app.specs.declared.words.Words.{Words};
-ghost use Rattle.sect_app.specs.Desk.{Says, first_days};
+ghost use Rattle.sect_script.specs.declared.status.Status.{Status};
+ghost use Rattle.sect_usage.specs.declared.words.Words.{Words};
+ghost use Rattle.sect_script.specs.Statuses.{Says};
+ghost use Rattle.sect_app.specs.Top.{first_days, reads as reads_source, reads_for};
 ghost use Rattle.sect_app.specs.Machine.{DeskDoes};
-ghost use Rattle.sect_app.specs.Help.{help_text};
-ghost use Rattle.sect_app.specs.Made.{Makes};
-ghost use Rattle.sect_app.specs.Words.{AskFor, word_list};
+ghost use Rattle.sect_making.specs.Made.{Makes};
+ghost use Rattle.sect_usage.specs.Grammar.{words_of};
+ghost use Rattle.sect_usage.specs.Laws.{IsInRange};
 
-use crate::audit::audit;
-use crate::help::help_of;
-use crate::make::make;
-use crate::run::run;
-use crate::status::Status;
-use crate::words::{Words, read_words};
-use crate::write::write_all;
+use sect_asking::run;
 use sect_edge::{Clock, Failed, Keeper, Sink, Source};
+use sect_history::laws::replays_are_good;
+use sect_intake::import_table;
 use sect_machine::Machine;
-use sect_model::laws::steps_keep_the_world;
+use sect_making::make;
+use sect_script::{Status, write_all};
+use sect_tell::{Export, Report, audit, tell};
+use sect_usage::laws::what_is_asked_is_in_range;
+use sect_usage::{Words, help_of, read_words, version};
 use std::alloc::Global;
 
 /// Does what the words ask for. The keeper comes back.
@@ -32,13 +33,13 @@ pub(crate) fn desk_over<S: Source, T: Sink, K: Keeper, C: Clock + Drop>(
     keeper: K,
     clock: C,
 ) -> (Status, K)
-    ensures bad_words { (result.0 ≡ Status.BadWords) ↔ ((asked : Words) → AskFor (map string_bytes words.now) asked → ⊥) }
+    ensures bad_words { (result.0 ≡ Status.BadWords) ↔ (words_of (map string_bytes words.now) ≡ None) }
     ensures untouched { result.0 ≡ Status.BadWords → (source.new ≡ source.old) × (sink.new ≡ sink.old) × (result.1 ≡ keeper) }
-    ensures does { (asked : Words) → AskFor (map string_bytes words.now) asked
+    ensures does { (asked : Words) → words_of (map string_bytes words.now) ≡ Some asked
         → DeskDoes K.rows K.faults asked keeper result.1
         (S.left source.old) (S.left source.new) (T.taken sink.old) (T.taken sink.new) (C.days clock) result.0 }
-    ensures unread { (map string_bytes words.now ≡ word_list Words.Run → ⊥) → source.new ≡ source.old }
-    ensures end { map string_bytes words.now ≡ word_list Words.Run → result.0 ≡ Status.Done → IsAtEnd (S.left source.new) }
+    ensures unread { reads_for (words_of (map string_bytes words.now)) ≡ false → source.new ≡ source.old }
+    ensures end { reads_for (words_of (map string_bytes words.now)) ≡ true → result.0 ≡ Status.Done → IsAtEnd (S.left source.new) }
     ensures shut { result.0 ≡ Status.KeeperFault → (source.new ≡ source.old) × (sink.new ≡ sink.old) }
     ensures bad_entry { (row : ℕ) → result.0 ≡ Status.BadEntry row → (source.new ≡ source.old) × (sink.new ≡ sink.old) }
     ensures read_fault { result.0 ≡ Status.ReadFault → Rose (S.faults source.old) (S.faults source.new) }
@@ -46,12 +47,45 @@ pub(crate) fn desk_over<S: Source, T: Sink, K: Keeper, C: Clock + Drop>(
     ensures keeper_fault { result.0 ≡ Status.KeeperFault → Rose (K.faults keeper) (K.faults result.1) }
     ensures link_fault { result.0 ≢ Status.LinkFault }
 {
+    what_is_asked_is_in_range();
     match read_words(words) {
-        Some(Words::Run) => run_desk(alloc, source, sink, keeper, clock),
-        Some(Words::Audit) => audit(alloc, sink, keeper),
-        Some(Words::Make(offerings)) => (make_on(alloc, offerings, sink, clock), keeper),
-        Some(asked) => (say(asked, sink), keeper),
+        Some(asked) => do_asked(alloc, asked, source, sink, keeper, clock),
         None => (Status::BadWords, keeper),
+    }
+}
+
+// Does what is asked for. The keeper comes back.
+fn do_asked<S: Source, T: Sink, K: Keeper, C: Clock + Drop>(
+    alloc: Global,
+    asked: Words,
+    source: &mut S,
+    sink: &mut T,
+    keeper: K,
+    clock: C,
+) -> (Status, K)
+    requires { IsInRange asked }
+    ensures does { DeskDoes K.rows K.faults asked keeper result.1
+        (S.left source.old) (S.left source.new) (T.taken sink.old) (T.taken sink.new) (C.days clock) result.0 }
+    ensures unread { reads_source asked ≡ false → source.new ≡ source.old }
+    ensures end { reads_source asked ≡ true → result.0 ≡ Status.Done → IsAtEnd (S.left source.new) }
+    ensures shut { result.0 ≡ Status.KeeperFault → (source.new ≡ source.old) × (sink.new ≡ sink.old) }
+    ensures bad_entry { (row : ℕ) → result.0 ≡ Status.BadEntry row → (source.new ≡ source.old) × (sink.new ≡ sink.old) }
+    ensures read_fault { result.0 ≡ Status.ReadFault → Rose (S.faults source.old) (S.faults source.new) }
+    ensures write_fault { result.0 ≡ Status.WriteFault → Rose (T.faults sink.old) (T.faults sink.new) }
+    ensures keeper_fault { result.0 ≡ Status.KeeperFault → Rose (K.faults keeper) (K.faults result.1) }
+    ensures others { result.0 ≢ Status.BadWords × (result.0 ≢ Status.LinkFault) }
+{
+    match asked {
+        Words::Run => run_desk(alloc, source, sink, keeper, clock),
+        Words::Import { table, first, term } => {
+            import_table(alloc, table, term, first, source, sink, keeper, clock)
+        }
+        Words::Audit => audit(alloc, sink, keeper),
+        Words::Report(query) => tell(alloc, sink, keeper, &Report(query)),
+        Words::Export(table) => tell(alloc, sink, keeper, &Export(table)),
+        Words::Make(offerings) => (make_on(alloc, offerings, sink, clock), keeper),
+        Words::Help(topic) => (say(help_of(topic), sink), keeper),
+        Words::Version => (say(version(), sink), keeper),
     }
 }
 
@@ -91,7 +125,7 @@ fn run_desk<S: Source, T: Sink, K: Keeper, C: Clock + Drop>(
     ensures keeper_fault { result.0 ≡ Status.KeeperFault → Rose (K.faults keeper) (K.faults result.1) }
     ensures others { result.0 ≢ Status.BadWords × (result.0 ≢ Status.LinkFault) }
 {
-    steps_keep_the_world();
+    replays_are_good();
     run::<Machine, S, T, K, C>(alloc, source, sink, keeper, clock)
 }
 
@@ -104,12 +138,12 @@ pub(crate) fn first_of<C: Clock + Drop>(clocks: Vec<C>) -> C
     clocks.swap_remove(0)
 }
 
-// Writes the text that the words ask for.
-fn say<T: Sink>(asked: Words, sink: &mut T) -> Status
-    ensures says { Says (help_text asked) (T.taken sink.old) (T.taken sink.new) result }
+// Writes a text.
+fn say<T: Sink>(text: &[u8], sink: &mut T) -> Status
+    ensures says { Says text.now (T.taken sink.old) (T.taken sink.new) result }
     ensures write_fault { result ≡ Status.WriteFault → Rose (T.faults sink.old) (T.faults sink.new) }
 {
-    match write_all(sink, help_of(asked)) {
+    match write_all(sink, text) {
         Ok(()) => Status::Done,
         Err(Failed) => Status::WriteFault,
     }

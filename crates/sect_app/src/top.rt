@@ -1,17 +1,17 @@
 // The top call: what the program does.
-ghost use Rattle.std.specs.Prelude.{◌≡◌, ◌↔◌, ◌<◌, ℕ, List, Some, IfSome, IsSome, length, map};
+ghost use Rattle.std.specs.Prelude.{◌≡◌, ◌↔◌, ◌<◌, ℕ, true, false, List, None, Some, IfSome, IsSome, length, map};
 ghost use Rattle.std.specs.String.{string_bytes};
 ghost use Rattle.std.specs.Io.KnownBytes.{IsAtEnd};
 ghost use Rattle.sect_edge.specs.Causes.{Rose};
-ghost use Rattle.sect_app.specs.declared.status.Status.{Status};
-ghost use Rattle.sect_app.specs.declared.words.Words.{Words};
-ghost use Rattle.sect_app.specs.Desk.{IsUnfaulted, first_days};
+ghost use Rattle.sect_script.specs.declared.status.Status.{Status};
+ghost use Rattle.sect_usage.specs.declared.words.Words.{Words};
+ghost use Rattle.sect_app.specs.Top.{IsUnfaulted, first_days, reads_for};
 ghost use Rattle.sect_app.specs.Machine.{DeskDoes};
-ghost use Rattle.sect_app.specs.Words.{AskFor, word_list};
+ghost use Rattle.sect_usage.specs.Grammar.{words_of};
 
 use crate::over::{desk_over, first_of};
-use crate::status::Status;
 use sect_edge::{Clock, Gate, Keeper, Link, Sink, Source};
+use sect_script::Status;
 use std::alloc::AllocGlobal;
 
 /// Does what the words ask for, and tells how it ended. The words are the command line without the
@@ -29,13 +29,13 @@ pub fn desk<R: AllocGlobal, S: Source, T: Sink, L: Link, K: Keeper, C: Clock + D
     requires { 0 < length clocks.items }
 
     // The words.
-    ensures bad_words { (result.0 ≡ Status.BadWords) ↔ ((asked : Words) → AskFor (map string_bytes words.now) asked → ⊥) }
+    ensures bad_words { (result.0 ≡ Status.BadWords) ↔ (words_of (map string_bytes words.now) ≡ None) }
     ensures untouched { result.0 ≡ Status.BadWords → (source.new ≡ source.old) × (sink.new ≡ sink.old) × (result.1 ≡ Some keeper) }
-    ensures does { (asked : Words) → AskFor (map string_bytes words.now) asked
+    ensures does { (asked : Words) → words_of (map string_bytes words.now) ≡ Some asked
         → IfSome result.1 (λ back. DeskDoes K.rows K.faults asked keeper back
         (S.left source.old) (S.left source.new) (T.taken sink.old) (T.taken sink.new) (first_days C.days clocks.items) result.0) }
-    ensures unread { (map string_bytes words.now ≡ word_list Words.Run → ⊥) → source.new ≡ source.old }
-    ensures end { map string_bytes words.now ≡ word_list Words.Run → result.0 ≡ Status.Done → IsAtEnd (S.left source.new) }
+    ensures unread { reads_for (words_of (map string_bytes words.now)) ≡ false → source.new ≡ source.old }
+    ensures end { reads_for (words_of (map string_bytes words.now)) ≡ true → result.0 ≡ Status.Done → IsAtEnd (S.left source.new) }
 
     // Where the keeper doesn't open, nothing is read or written.
     ensures shut { result.0 ≡ Status.KeeperFault → (source.new ≡ source.old) × (sink.new ≡ sink.old) }

@@ -26,7 +26,8 @@ use std::marker::Brand;
 use std::sync::ledger::{Blank, Ledger};
 
 /// A line for each course request of the students, in their order and by position; free times make none. What is met is
-/// enrolled at once, so that later requests see it. Where memory runs out, the world and what is recorded are as before.
+/// enrolled at once, so that later requests see it. The students are known, and what is recorded in `undo` can be taken back.
+/// Where memory runs out, the world and what is recorded are as before.
 pub fn batch(
     alloc: Global,
     world: &mut World,

@@ -6,4 +6,5 @@ mod batching;
 mod lines;
 
 pub use batching::batch;
+pub use lines::is_unmet;
 pub use sect_command::{Line, LineResult};

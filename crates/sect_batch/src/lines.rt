@@ -110,8 +110,8 @@ fn marked(student: StudentId, answer: &Answer) -> Mark
     }
 }
 
-/// Whether the line is blocked or spent.
-fn is_unmet(line: &LineResult) -> bool
+/// Whether the line is blocked or spent. It takes no memory.
+pub fn is_unmet(line: &LineResult) -> bool
     ensures { result ≡ is_line_unmet line.now }
 {
     match line {

@@ -21,7 +21,7 @@ pub enum Unasked {
 impl From<WireFault> for Unasked {
     fn from(fault: WireFault) -> Unasked {
         match fault {
-            WireFault::BadLine | WireFault::UnknownVerb => Unasked::Line,
+            WireFault::BadLine | WireFault::UnknownVerb | WireFault::BadBody(_) => Unasked::Line,
             WireFault::Memory => Unasked::Memory,
         }
     }

@@ -10,7 +10,7 @@ use std::ops::Range;
 struct Folded<'a> {
     front: &'a str,
     item: &'a str,
-    count: u32,
+    count: u64,
     end: &'a str,
 }
 
@@ -18,7 +18,7 @@ fn fold_of(line: &str) -> Option<Folded<'_>> {
     let (front, rest) = line.split_once('{')?;
     let (part, end) = rest.split_once('}')?;
     let (item, count) = part.split_once('*')?;
-    let count = read_number(count.as_bytes(), 100_000)?;
+    let count = read_number(count.as_bytes(), 100_000).ok()?;
     Some(Folded {
         front,
         item,
@@ -27,7 +27,7 @@ fn fold_of(line: &str) -> Option<Folded<'_>> {
     })
 }
 
-fn print_times(item: &str, count: u32, into: &mut Vec<u8>) -> Result<(), Memory> {
+fn print_times(item: &str, count: u64, into: &mut Vec<u8>) -> Result<(), Memory> {
     for _ in 0..count {
         print_text(item, into)?;
     }

@@ -18,3 +18,4 @@ pub record IsImport (s : Inside) : Type 0 where
   pub whole : s.fault ≡ None → s.unread ≡ 0
   pub reads : s.ended ≡ false → s.fault ≡ None → s.reading ≡ reading_of (intake_of s)
   pub counts : s.rows ≡ (reading_of (intake_of s)).rows
+  pub opened : s.open_row ≡ (reading_of (intake_of s)).open_row

@@ -25,6 +25,7 @@ pub struct Import {
     unread: usize,
     reading: Reading,
     rows: u64,
+    open_row: Option<u64>,
     ended: bool,
     fault: Option<CsvFault>,
 }
@@ -54,6 +55,7 @@ impl Import {
             unread: 0,
             reading,
             rows: 0,
+            open_row: None,
             ended: false,
             fault: None,
         })
@@ -79,6 +81,7 @@ impl Import {
             return self.answer();
         }
         self.rows = self.reading.rows();
+        self.open_row = self.reading.open_row();
         self.fault = self.reading.fault();
         self.answer()
     }
@@ -102,6 +105,7 @@ impl Import {
             return self.answer();
         }
         self.rows = self.reading.rows();
+        self.open_row = self.reading.open_row();
         self.ended = true;
         self.fault = self.reading.fault();
         self.answer()
@@ -112,6 +116,14 @@ impl Import {
         ensures { result ≡ (reading_of self.now).rows }
     {
         self.rows
+    }
+
+    /// The first row of the command that was begun and not given, where there is one. It stays open where a later row of it is
+    /// bad, and none is after the end. It takes no memory.
+    pub fn open_row(&self) -> Option<u64>
+        ensures { result ≡ (reading_of self.now).open_row }
+    {
+        self.open_row
     }
 
     // The fault, if any.

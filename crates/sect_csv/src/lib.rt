@@ -7,6 +7,3 @@ mod rows;
 pub use import::Import;
 pub use sect_sheet::export;
 pub use sect_tables::{CsvFault, Given};
-
-#[cfg(test)]
-mod tests;

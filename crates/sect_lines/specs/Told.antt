@@ -2,6 +2,8 @@
 use Rattle.std.specs.Prelude.{◌≡◌, ℕ, ⊤, Option, None, Some, Result, Ok, Err}
 use Rattle.sect_lines.specs.declared.line.LineFault.{LineFault}
 use Rattle.sect_lines.specs.declared.line.LineFault.TheVariants.{Field, Memory}
+use Rattle.sect_words.specs.declared.fault.Fault.{Fault}
+use Rattle.sect_words.specs.declared.fault.Fault.TheVariants as words
 
 infixl 10 ◌>>=◌
 -- what a value leads to; the first fault stays
@@ -19,3 +21,8 @@ abbrev pub Tells : {A : Type 0} → Result A LineFault → Result A ℕ → Type
 Tells (Ok x) line = line ≡ Ok x
 Tells (Err (Field number)) line = line ≡ Err number
 Tells (Err Memory) line = ⊤
+
+-- the fault of the field with this number, whose word was not read
+abbrev pub field_fault : ℕ → Fault → LineFault
+field_fault number words.Bad = Field number
+field_fault number words.Memory = Memory

@@ -4,17 +4,15 @@ ghost use Rattle.csv.specs.Records.{fields_of};
 ghost use Rattle.sect_lines.specs.Fields.{field_of};
 ghost use Rattle.sect_lines.specs.Lines.{ask_fields, ask_line, course_fields, free_fields, kind_fields, no_of, rank_of};
 ghost use Rattle.sect_lines.specs.Told.{Tells, told};
-ghost use Rattle.sect_words.specs.Times.{meeting_of};
 
 use crate::fields::field;
 use crate::line::LineFault;
-use crate::values::{flag_at, id_at, list_at};
+use crate::values::{list_at, value_at};
 use csv::ByteRecord;
 use itoa::Buffer;
 use sect_base::StudentId;
 use sect_people::{Ask, CourseAsk};
-use sect_time::Meeting;
-use sect_words::{read_time, same_bytes};
+use sect_words::same_bytes;
 use std::alloc::Global;
 
 /// The request of a row and whose it is. Its rank has to be this one.
@@ -33,10 +31,10 @@ pub fn read_ask(alloc: Global, rank: u64, row: &ByteRecord) -> Result<(StudentId
 fn request(alloc: Global, rank: u64, row: &ByteRecord) -> Result<(StudentId, Ask), LineFault>
     ensures { Tells result (ask_fields rank (fields_of row.now)) }
 {
-    let student = id_at(row, 1)?;
+    let student = value_at(alloc, row, 1)?;
     rank_at(rank, row, 2)?;
     let ask = request_of_kind(alloc, field(row, 3), row)?;
-    Ok((StudentId(student), ask))
+    Ok((student, ask))
 }
 
 // The rank, where the field's text is its digits.
@@ -58,7 +56,7 @@ fn request_of_kind(alloc: Global, kind: &[u8], row: &ByteRecord) -> Result<Ask, 
     if same_bytes(kind, b"course") {
         course_request(alloc, row)
     } else if same_bytes(kind, b"free") {
-        free_request(row)
+        free_request(alloc, row)
     } else {
         Err(LineFault::Field(3))
     }
@@ -70,8 +68,8 @@ fn course_request(alloc: Global, row: &ByteRecord) -> Result<Ask, LineFault>
     ensures { Tells result (course_fields (fields_of row.now)) }
 {
     let courses = list_at(alloc, row, 4, b'+')?;
-    let wait = flag_at(row, 5)?;
-    let substitute = flag_at(row, 6)?;
+    let wait = value_at(alloc, row, 5)?;
+    let substitute = value_at(alloc, row, 6)?;
     Ok(Ask::Course(CourseAsk {
         courses,
         wait,
@@ -81,20 +79,13 @@ fn course_request(alloc: Global, row: &ByteRecord) -> Result<Ask, LineFault>
 
 // A time that is to be kept free, whose flags are no.
 #[tactic(auto, unfolding(crate::specs::Lines::free_fields))]
-fn free_request(row: &ByteRecord) -> Result<Ask, LineFault>
+fn free_request(alloc: Global, row: &ByteRecord) -> Result<Ask, LineFault>
     ensures { Tells result (free_fields (fields_of row.now)) }
 {
-    let meeting = meeting_at(row, 4)?;
+    let meeting = value_at(alloc, row, 4)?;
     no_at(row, 5)?;
     no_at(row, 6)?;
     Ok(Ask::Free(meeting))
-}
-
-// The meeting in a field, whose weeks stand by their numbers.
-fn meeting_at(row: &ByteRecord, number: u32) -> Result<Meeting, LineFault>
-    ensures { Tells result (told number (meeting_of (field_of (fields_of row.now) number))) }
-{
-    read_time(field(row, number as usize)).ok_or(LineFault::Field(number))
 }
 
 // No, where the field says it.

@@ -15,6 +15,3 @@ pub use line::{Before, LineFault, SectionLine};
 pub use reservation::read_reservation;
 pub use section::{before_next, read_section};
 pub use student::read_student;
-
-#[cfg(test)]
-mod tests;

@@ -3,19 +3,19 @@
 ghost use Rattle.std.specs.Prelude.{◌≡◌, IfOk, option_copied};
 ghost use Rattle.csv.specs.Records.{fields_of};
 ghost use Rattle.sect_lines.specs.Fields.{field_of};
-ghost use Rattle.sect_lines.specs.Lines.{before_of, config_limit_of, courses_of, section_fields, section_id_of, section_line};
+ghost use Rattle.sect_lines.specs.Lines.{before_of, config_limit_of, courses_of, section_fields, section_line};
 ghost use Rattle.sect_lines.specs.Told.{Tells, told};
-ghost use Rattle.sect_words.specs.Reading.{list_of, optional_of};
+ghost use Rattle.sect_words.specs.ReadingWords.{list_of};
 ghost use Rattle.sect_words.specs.Times.{term_meeting_of};
 
 use crate::fields::field;
 use crate::line::{Before, LineFault, SectionLine};
-use crate::values::{id_at, limit_at};
+use crate::values::{fault_at, value_at};
 use csv::ByteRecord;
-use sect_base::{ConfigId, Items, Limit, Memory, OfferingId, SectionId, SubpartId};
+use sect_base::{ConfigId, Items, Limit, Memory};
 use sect_catalog::{CourseRow, SectionRow};
 use sect_time::{Day, Meeting};
-use sect_words::{dash, read_joined, read_meetings, same_bytes};
+use sect_words::{read_all, read_meetings, same_bytes};
 use std::alloc::Global;
 
 /// The section of a row, which is compared with the row before it in the same offering.
@@ -44,23 +44,23 @@ fn section(
 ) -> Result<SectionLine, LineFault>
     ensures { Tells result (section_fields term (option_copied before.entry) (fields_of row.now)) }
 {
-    let offering = id_at(row, 1)?;
+    let offering = value_at(alloc, row, 1)?;
     let courses = courses_at(alloc, before, row, 2)?;
-    let config = id_at(row, 3)?;
-    let config_limit = config_limit_at(before, config, row, 4)?;
-    let subpart = id_at(row, 5)?;
-    let id = id_at(row, 6)?;
-    let limit = limit_at(row, 7)?;
-    let parent = parent_at(row, 8)?;
+    let config = value_at(alloc, row, 3)?;
+    let config_limit = config_limit_at(alloc, before, config, row, 4)?;
+    let subpart = value_at(alloc, row, 5)?;
+    let id = value_at(alloc, row, 6)?;
+    let limit = value_at(alloc, row, 7)?;
+    let parent = value_at(alloc, row, 8)?;
     let meetings = meetings_at(alloc, term, row, 9)?;
     Ok(SectionLine {
-        offering: OfferingId(offering),
+        offering,
         courses,
-        config: ConfigId(config),
+        config,
         config_limit,
-        subpart: SubpartId(subpart),
+        subpart,
         section: SectionRow {
-            id: SectionId(id),
+            id,
             limit,
             parent,
             meetings,
@@ -83,39 +83,29 @@ fn courses_at(
             return Err(LineFault::Field(number));
         }
     }
-    match read_joined(alloc, b'+', text)? {
-        Some(courses) => Ok(Items::from_vec(courses)),
-        None => Err(LineFault::Field(number)),
+    match read_all(alloc, text, b'+') {
+        Ok(courses) => Ok(courses),
+        Err(fault) => Err(fault_at(number, fault)),
     }
 }
 
 // The limit of the configuration, which the row before has word for word where its configuration is the same.
 fn config_limit_at(
+    alloc: Global,
     before: Option<&Before>,
-    config: u32,
+    config: ConfigId,
     row: &ByteRecord,
     number: u32,
 ) -> Result<Limit, LineFault>
-    ensures { Tells result (told number (config_limit_of (option_copied before.entry) config (field_of (fields_of row.now) number))) }
+    ensures { Tells result (told number (config_limit_of (option_copied before.entry) config.0 (field_of (fields_of row.now) number))) }
 {
     if let Some(before) = before {
         let text = field(row, number as usize);
-        if before.config.0 == config && !same_bytes(before.limit.as_slice(), text) {
+        if before.config.0 == config.0 && !same_bytes(before.limit.as_slice(), text) {
             return Err(LineFault::Field(number));
         }
     }
-    limit_at(row, number)
-}
-
-// The section's parent, or none for a dash.
-fn parent_at(row: &ByteRecord, number: u32) -> Result<Option<SectionId>, LineFault>
-    ensures { Tells result (told number (optional_of section_id_of (field_of (fields_of row.now) number))) }
-{
-    if dash(field(row, number as usize)) {
-        return Ok(None);
-    }
-    let id = id_at(row, number)?;
-    Ok(Some(SectionId(id)))
+    value_at(alloc, row, number)
 }
 
 // When the section meets.
@@ -125,11 +115,11 @@ fn meetings_at(
     row: &ByteRecord,
     number: u32,
 ) -> Result<Items<Meeting>, LineFault>
-    ensures { Tells result (told number (list_of (term_meeting_of term) 43 (field_of (fields_of row.now) number))) }
+    ensures { Tells result (told number (list_of 43 (term_meeting_of term) (field_of (fields_of row.now) number))) }
 {
-    match read_meetings(alloc, term, field(row, number as usize))? {
-        Some(meetings) => Ok(Items::from_vec(meetings)),
-        None => Err(LineFault::Field(number)),
+    match read_meetings(alloc, term, field(row, number as usize)) {
+        Ok(meetings) => Ok(meetings),
+        Err(fault) => Err(fault_at(number, fault)),
     }
 }
 

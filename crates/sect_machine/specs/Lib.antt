@@ -1,6 +1,7 @@
 pub mod Acting
 pub mod Answering
 pub mod NotDone
+pub mod Opening
 pub mod Placed
 pub mod Standing
 pub mod Tracked

@@ -8,6 +8,7 @@ pub mod laws;
 mod limits;
 mod lines;
 mod machine;
+mod marking;
 mod moves;
 mod object;
 mod place;
@@ -17,7 +18,6 @@ mod reserved;
 mod rows;
 mod state;
 mod stepping;
-mod tickets;
 mod undo;
 mod waits;
 

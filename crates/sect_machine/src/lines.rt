@@ -8,7 +8,7 @@ ghost use Rattle.sect_command.specs.declared.reply.Line.{Line as BatchLine};
 ghost use Rattle.sect_command.specs.declared.reply.LineResult.TheVariants.{Waiting};
 ghost use Rattle.sect_command.specs.declared.reply.Reply.TheVariants.{Batched};
 ghost use Rattle.sect_people.specs.Student.{find_student};
-ghost use Rattle.sect_model.specs.Batch.{asks_of as requests_of, is_unmet as is_line_unmet, join_by as waits_by, join_line as joined_by, join_lines as joined_by_all, ticket_of as least_ticket, want_of, with_result};
+ghost use Rattle.sect_model.specs.Batch.{asks_of as requests_of, join_by as waits_by, join_line as joined_by, join_lines as joined_by_all, ticket_of as least_ticket, want_of, with_result};
 ghost use Rattle.sect_model.specs.Step.{batched};
 ghost use Rattle.sect_model.specs.World.{World as SectionedWorld};
 ghost use Rattle.sect_space.specs.Undo.{Undoable};
@@ -17,11 +17,11 @@ ghost use Rattle.sect_wait.specs.Undo.{Since as QueueSince, Undoable as QueueUnd
 ghost use Rattle.sect_machine.specs.Answering.{answered_of, course_ask, waiting_line};
 ghost use Rattle.sect_machine.specs.Tracked.{Tracked};
 
-use crate::tickets::ticket_of;
 use sect_base::{Duplicate, Items, Memory, StudentId, Want};
-use sect_batch::batch;
+use sect_batch::{batch, is_unmet};
 use sect_command::{Line, LineResult};
 use sect_people::{Ask, CourseAsk};
+use sect_refuse::ticket_of;
 use sect_space::{Undo, World};
 use sect_wait::{Queue, QueueUndo};
 use std::alloc::Global;
@@ -187,18 +187,4 @@ fn want_for(alloc: Global, rank: u8, ask: &CourseAsk) -> Result<Want, Memory>
         only: Items::from_vec(Vec::new(alloc)),
         rank,
     })
-}
-
-/// Whether the line is blocked or spent.
-fn is_unmet(line: &LineResult) -> bool
-    ensures { result ≡ is_line_unmet line.now }
-{
-    match line {
-        LineResult::Blocked(_, _) => true,
-        LineResult::Spent => true,
-        LineResult::Met(_) => false,
-        LineResult::Held(_) => false,
-        LineResult::Waiting(_) => false,
-        LineResult::Skipped => false,
-    }
 }

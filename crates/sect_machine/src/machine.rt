@@ -15,20 +15,22 @@ use sect_command::{Command, Query, Reply, View};
 use sect_space::World;
 use sect_time::Day;
 use sect_view::view;
-use sect_wait::Queue;
+use sect_wait::{Marks, Queue};
 use std::alloc::Global;
 use std::marker::Model;
 
-/// The world and those who wait, none of whom can be placed. No limit is passed, and no student holds what may not be held
+/// The world and those who wait, none of whom can be placed, and which of them must be tried again: the others have no move. No limit is passed, and no student holds what may not be held
 /// together. Contracts see both, with the room of their lists.
 #[derive(Drop)]
 pub struct Machine {
     pub(crate) alloc: Global,
     pub(crate) world: World,
     pub(crate) queue: Queue,
+    pub(crate) marks: Marks,
 }
 
 impl Model for Machine {
+    ghost use Rattle.sect_wait.specs.Marked.{OthersHaveNoMove};
     ghost use Rattle.sect_wait.specs.Queued.{state_of};
     ghost use Rattle.sect_machine.specs.Standing.{Standing, IsResting};
 
@@ -36,7 +38,7 @@ impl Model for Machine {
 
     ghost view = { λ m. record { world = m.world; queue = m.queue } };
 
-    ghost invariant = { λ m. IsResting (state_of m.world.world m.queue.queue) };
+    ghost invariant = { λ m. IsResting (state_of m.world.world m.queue.queue) × OthersHaveNoMove m.world.world m.queue.queue.entries m.marks };
 }
 
 impl Machine {
@@ -66,6 +68,7 @@ impl Machine {
             self.alloc,
             &mut self.world,
             &mut self.queue,
+            &mut self.marks,
             day,
             caller,
             command,
@@ -87,5 +90,6 @@ impl Machine {
         let MachineUndo { world, queue } = undo;
         self.world.undo(world);
         self.queue.undo(queue);
+        self.marks.mark_all();
     }
 }

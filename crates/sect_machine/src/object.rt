@@ -4,6 +4,7 @@ ghost use Rattle.std.specs.Prelude.{◌≡◌};
 ghost use Rattle.sect_model.specs.World.{empty_state};
 ghost use Rattle.sect_model.specs.Look.{look as looked_at};
 ghost use Rattle.sect_model.specs.Step.{step as step_of};
+ghost use Rattle.sect_rows.specs.Laws.{MayAsk};
 ghost use Rattle.sect_wire.specs.Laws.{IsRow};
 ghost use Rattle.sect_machine.specs.Standing.{state_in, Restores};
 
@@ -12,12 +13,11 @@ use crate::state::State;
 use crate::undo::MachineUndo;
 use sect_base::{Caller, Duplicate, Memory, Same};
 use sect_command::{Command, Query, Reply, View};
-use sect_fits::print_known;
 use sect_once::{Entry, Object};
 use sect_space::World;
 use sect_time::Day;
-use sect_wait::Queue;
-use sect_wire::read_row;
+use sect_wait::{Marks, Queue};
+use sect_wire::{print_row, read_row};
 use std::alloc::Global;
 
 impl Object for Machine {
@@ -45,11 +45,14 @@ impl Object for Machine {
 
     ghost is_row = { IsRow };
 
+    ghost may_ask = { MayAsk };
+
     fn empty(alloc: Global) -> Self {
         Machine {
             alloc,
             world: World::empty(alloc),
             queue: Queue::empty(alloc),
+            marks: Marks::none(alloc),
         }
     }
 
@@ -83,16 +86,20 @@ impl Object for Machine {
     }
 
     fn print_entry(entry: &Entry<Command, Reply>, into: &mut Vec<u8>) -> Result<(), Memory> {
-        print_known(entry, into)
+        print_row(entry, into)
     }
 
     fn read_entry(alloc: Global, row: &[u8]) -> Result<Option<Entry<Command, Reply>>, Memory> {
         read_row(alloc, row)
     }
 
-    ghost use Rattle.sect_wire.proofs.TextLaws.{one_row as row_is_one, one_entry as entry_is_one};
+    ghost use Rattle.sect_read.proofs.TextLaws.{one_row as row_is_one, one_entry as entry_is_one};
 
     ghost one_row = { row_is_one };
 
     ghost one_entry = { entry_is_one };
+
+    ghost use Rattle.sect_rows.proofs.Histories.{entry-has-row as entry_has_row};
+
+    ghost next_has_row = { entry_has_row };
 }

@@ -1,10 +1,12 @@
 // One step: the day, the refusal or what the command does, and settling; all of it or nothing.
 
-ghost use Rattle.std.specs.Prelude.{◌≡◌, ◌<◌, IfOk, IsTrue, OnErr};
+ghost use Rattle.std.specs.Prelude.{◌≡◌, ◌<◌, IfOk, IsTrue, OnErr, OnOk};
 ghost use Rattle.std.specs.List.{list_all};
+ghost use Rattle.sect_model.specs.Accepted.{CommandFits};
 ghost use Rattle.sect_model.specs.Kept.{KeptState, entry_fits};
-ghost use Rattle.sect_model.specs.Step.{answered, settled_after, step as step_of};
+ghost use Rattle.sect_model.specs.Step.{act as act_of, answered, settled_after, step as step_of};
 ghost use Rattle.sect_space.specs.Undo.{Undoable};
+ghost use Rattle.sect_wait.specs.Marked.{OthersHaveNoMove};
 ghost use Rattle.sect_wait.specs.Queued.{state_of};
 ghost use Rattle.sect_wait.specs.Undo.{Undoable as QueueUndoable};
 ghost use Rattle.sect_machine.specs.Standing.{IsResting, Restores};
@@ -12,6 +14,7 @@ ghost use Rattle.sect_machine.specs.Tracked.{Tracked};
 
 use crate::act::act;
 use crate::change::set_day;
+use crate::marking::{mark_after, mark_before, mark_day};
 use crate::replies::reply_after;
 use crate::undo::MachineUndo;
 use sect_base::{Caller, Memory};
@@ -20,7 +23,7 @@ use sect_refuse::refusal;
 use sect_space::{Undo, World};
 use sect_steps::Steps;
 use sect_time::Day;
-use sect_wait::{Queue, QueueUndo, settle};
+use sect_wait::{Marks, Queue, QueueUndo, settle};
 use std::alloc::Global;
 use std::marker::Brand;
 use std::sync::ledger::{Blank, Ledger};
@@ -30,17 +33,29 @@ pub fn step(
     alloc: Global,
     world: &mut World,
     queue: &mut Queue,
+    marks: &mut Marks,
     day: Day,
     caller: Caller,
     command: &Command,
 ) -> Result<(Reply, MachineUndo), Memory>
-    requires { IsResting (state_of world.old.world queue.old.queue) }
+    requires resting { IsResting (state_of world.old.world queue.old.queue) }
+    requires others { OthersHaveNoMove world.old.world queue.old.queue.entries marks.old }
     ensures acted { IfOk result (λ r. step_of (state_of world.old.world queue.old.queue) day caller command.now ≡ record { state = state_of world.new.world queue.new.queue; reply = r.0 }) }
     ensures undo { IfOk result (λ r. Restores r.1 (record { world = world.new; queue = queue.new }) (state_of world.old.world queue.old.queue)) }
     ensures world_err { OnErr result (world.new.world ≡ world.old.world) }
     ensures queue_err { OnErr result (queue.new.queue ≡ queue.old.queue) }
+    ensures others { OthersHaveNoMove world.new.world queue.new.queue.entries marks.new }
 {
-    counted::<Brand>(alloc, world, queue, day, caller, command, Blank::new(1))
+    counted::<Brand>(
+        alloc,
+        world,
+        queue,
+        marks,
+        day,
+        caller,
+        command,
+        Blank::new(1),
+    )
 }
 
 /// A step whose searches are counted in a ledger of its own.
@@ -48,6 +63,7 @@ fn counted<L: Ledger>(
     alloc: Global,
     world: &mut World,
     queue: &mut Queue,
+    marks: &mut Marks,
     day: Day,
     caller: Caller,
     command: &Command,
@@ -57,13 +73,15 @@ fn counted<L: Ledger>(
     requires parts { blank.parts ≡ L.parts }
     requires some { 0 < blank.parts }
     requires resting { IsResting (state_of world.old.world queue.old.queue) }
+    requires others { OthersHaveNoMove world.old.world queue.old.queue.entries marks.old }
     ensures acted { IfOk result (λ r. step_of (state_of world.old.world queue.old.queue) day caller command.now ≡ record { state = state_of world.new.world queue.new.queue; reply = r.0 }) }
     ensures undo { IfOk result (λ r. Restores r.1 (record { world = world.new; queue = queue.new }) (state_of world.old.world queue.old.queue)) }
     ensures world_err { OnErr result (world.new.world ≡ world.old.world) }
     ensures queue_err { OnErr result (queue.new.queue ≡ queue.old.queue) }
+    ensures others { OthersHaveNoMove world.new.world queue.new.queue.entries marks.new }
 {
     let mut steps: Steps<L> = Steps::new(blank);
-    all_or_none(alloc, world, queue, day, caller, command, &mut steps)
+    all_or_none(alloc, world, queue, marks, day, caller, command, &mut steps)
 }
 
 /// A step. Where memory runs out, what was changed is taken back.
@@ -71,23 +89,26 @@ fn all_or_none<L: Ledger>(
     alloc: Global,
     world: &mut World,
     queue: &mut Queue,
+    marks: &mut Marks,
     day: Day,
     caller: Caller,
     command: &Command,
     steps: &mut Steps<L>,
 ) -> Result<(Reply, MachineUndo), Memory>
-    requires { IsResting (state_of world.old.world queue.old.queue) }
+    requires resting { IsResting (state_of world.old.world queue.old.queue) }
+    requires others { OthersHaveNoMove world.old.world queue.old.queue.entries marks.old }
     ensures acted { IfOk result (λ r. step_of (state_of world.old.world queue.old.queue) day caller command.now ≡ record { state = state_of world.new.world queue.new.queue; reply = r.0 }) }
     ensures undo { IfOk result (λ r. Restores r.1 (record { world = world.new; queue = queue.new }) (state_of world.old.world queue.old.queue)) }
     ensures world_err { OnErr result (world.new.world ≡ world.old.world) }
     ensures queue_err { OnErr result (queue.new.queue ≡ queue.old.queue) }
+    ensures others { OthersHaveNoMove world.new.world queue.new.queue.entries marks.new }
 {
     world.is_kept();
     queue.is_kept();
     let mut undo = Undo::empty(alloc);
     let mut left = QueueUndo::empty(alloc);
     let stepped = settled(
-        alloc, world, queue, day, caller, command, &mut undo, &mut left, steps,
+        alloc, world, queue, marks, day, caller, command, &mut undo, &mut left, steps,
     );
     match stepped {
         Ok(reply) => Ok((
@@ -100,6 +121,7 @@ fn all_or_none<L: Ledger>(
         Err(memory) => {
             world.undo(undo);
             queue.undo(left);
+            marks.mark_all();
             Err(memory)
         }
     }
@@ -110,6 +132,7 @@ fn settled<L: Ledger>(
     alloc: Global,
     world: &mut World,
     queue: &mut Queue,
+    marks: &mut Marks,
     day: Day,
     caller: Caller,
     command: &Command,
@@ -118,14 +141,20 @@ fn settled<L: Ledger>(
     steps: &mut Steps<L>,
 ) -> Result<Reply, Memory>
     requires kept { KeptState (state_of world.old.world queue.old.queue) }
+    requires others { OthersHaveNoMove world.old.world queue.old.queue.entries marks.old }
     requires undoable { Undoable world.old undo.old.backs }
     requires queue_undoable { QueueUndoable queue.old left.old }
     ensures acted { IfOk result (λ reply. step_of (state_of world.old.world queue.old.queue) day caller command.now ≡ record { state = state_of world.new.world queue.new.queue; reply = reply }) }
     ensures tracked { Tracked world.old undo.old.backs queue.old left.old world.new undo.new.backs queue.new left.new }
+    ensures others { OnOk result (OthersHaveNoMove world.new.world queue.new.queue.entries marks.new) }
 {
+    world.is_kept();
+    mark_day(world, day, marks);
     set_day(world, day, undo)?;
-    let reply = answer(alloc, world, queue, caller, command, undo, left, steps)?;
-    place_all(alloc, world, queue, reply, undo, left, steps)
+    let reply = answer(
+        alloc, world, queue, marks, caller, command, undo, left, steps,
+    )?;
+    place_all(alloc, world, queue, marks, reply, undo, left, steps)
 }
 
 /// Places those who wait and can be placed, of which the reply to a wait tells. Where memory runs out, nobody is placed.
@@ -133,18 +162,21 @@ fn place_all<L: Ledger>(
     alloc: Global,
     world: &mut World,
     queue: &mut Queue,
+    marks: &mut Marks,
     reply: Reply,
     undo: &mut Undo,
     left: &mut QueueUndo,
     steps: &mut Steps<L>,
 ) -> Result<Reply, Memory>
     requires fit { IsTrue (list_all (entry_fits world.old.world) queue.old.queue.entries) }
+    requires others { OthersHaveNoMove world.old.world queue.old.queue.entries marks.old }
     requires undoable { Undoable world.old undo.old.backs }
     requires queue_undoable { QueueUndoable queue.old left.old }
     ensures settled { IfOk result (λ told. settled_after (record { state = state_of world.old.world queue.old.queue; reply = reply }) ≡ record { state = state_of world.new.world queue.new.queue; reply = told }) }
     ensures tracked { Tracked world.old undo.old.backs queue.old left.old world.new undo.new.backs queue.new left.new }
+    ensures others { OnOk result (OthersHaveNoMove world.new.world queue.new.queue.entries marks.new) }
 {
-    let placed = settle(alloc, world, queue, undo, left, steps)?;
+    let placed = settle(alloc, world, queue, marks, undo, left, steps)?;
     Ok(reply_after(reply, placed.as_slice()))
 }
 
@@ -153,20 +185,50 @@ fn answer<L: Ledger>(
     alloc: Global,
     world: &mut World,
     queue: &mut Queue,
+    marks: &mut Marks,
     caller: Caller,
     command: &Command,
     undo: &mut Undo,
     left: &mut QueueUndo,
     steps: &mut Steps<L>,
 ) -> Result<Reply, Memory>
+    requires kept { KeptState (state_of world.old.world queue.old.queue) }
+    requires others { OthersHaveNoMove world.old.world queue.old.queue.entries marks.old }
     requires undoable { Undoable world.old undo.old.backs }
     requires queue_undoable { QueueUndoable queue.old left.old }
     ensures acted { IfOk result (λ reply. answered (state_of world.old.world queue.old.queue) caller command.now ≡ record { state = state_of world.new.world queue.new.queue; reply = reply }) }
     ensures tracked { Tracked world.old undo.old.backs queue.old left.old world.new undo.new.backs queue.new left.new }
+    ensures others { OnOk result (OthersHaveNoMove world.new.world queue.new.queue.entries marks.new) }
 {
     world.is_kept();
     match refusal(world, queue.entries(), caller, command) {
         Some(refusal) => Ok(Reply::Refused(refusal)),
-        None => act(alloc, world, queue, command, undo, left, steps),
+        None => marked_act(alloc, world, queue, marks, command, undo, left, steps),
     }
+}
+
+/// What a command does that fits, with what it may open marked. Where memory runs out, some of it is done.
+fn marked_act<L: Ledger>(
+    alloc: Global,
+    world: &mut World,
+    queue: &mut Queue,
+    marks: &mut Marks,
+    command: &Command,
+    undo: &mut Undo,
+    left: &mut QueueUndo,
+    steps: &mut Steps<L>,
+) -> Result<Reply, Memory>
+    requires kept { KeptState (state_of world.old.world queue.old.queue) }
+    requires fits { CommandFits world.old.world command.now }
+    requires others { OthersHaveNoMove world.old.world queue.old.queue.entries marks.old }
+    requires undoable { Undoable world.old undo.old.backs }
+    requires queue_undoable { QueueUndoable queue.old left.old }
+    ensures acted { IfOk result (λ reply. act_of (state_of world.old.world queue.old.queue) command.now ≡ record { state = state_of world.new.world queue.new.queue; reply = reply }) }
+    ensures tracked { Tracked world.old undo.old.backs queue.old left.old world.new undo.new.backs queue.new left.new }
+    ensures others { OnOk result (OthersHaveNoMove world.new.world queue.new.queue.entries marks.new) }
+{
+    mark_before(world, queue.entries(), command, marks)?;
+    let reply = act(alloc, world, queue, command, undo, left, steps)?;
+    mark_after(world, queue.entries(), command, &reply, marks)?;
+    Ok(reply)
 }

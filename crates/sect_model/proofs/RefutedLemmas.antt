@@ -20,6 +20,7 @@ use Rattle.sect_model.specs.Outcome.{outcome_of, answer_of, first_allowed, refut
 use Rattle.sect_model.specs.Settle.{Settled, settle}
 use Rattle.sect_model.specs.Batch.{Batched, answer_to, add_line, batch_asks, asks_of, request_move, want_of, held_or, skipped_or, is_skipped, search_for, result_of}
 use Rattle.sect_model.specs.Refusals.{refusal_of}
+use Rattle.sect_model.specs.Stands.{MoveStands}
 use Rattle.sect_model.specs.Premises.{WorldKeeps, MoveFits, courses_known, is_sized, want_fits}
 use Rattle.sect_model.specs.Kept.{KeptWorld, KeptState}
 use Rattle.sect_model.specs.Step.{act, moved, enrolled, enrol_move, refused_or, answered, on_day, reply_after, step}
@@ -27,6 +28,7 @@ use Rattle.sect_model.specs.Refuted.{Refuted, move_in, RefutedResult, RefutedAsk
 use Rattle.sect_model.specs.Laws.{BlockedRefutes, StepRefutes, BatchRefutes}
 use Rattle.sect_model.proofs.Members.{all-at, all-of, both, both-left, both-right}
 use Rattle.sect_model.proofs.MoveLaws.{cover_refutes, refutation_covers}
+use Rattle.sect_model.proofs.StandLemmas.{stands}
 use Rattle.sect_model.proofs.Accepted.{accepted-fits, few_given, few_taken}
 use Rattle.sect_model.proofs.EnrolLeave.{some_same}
 use Rattle.sect_model.proofs.BatchLemmas.{Goes, ask_fits, asks-fit, all-enumerate, line-goes, asks-go, ask-back}
@@ -35,20 +37,20 @@ use Rattle.sect_model.proofs.GrowLemmas.{same-grows, want-stays}
 
 -- ---- a search
 
-by-answer : (w : World) (mv : Move) → WorldKeeps w → MoveFits w mv → (n visits : ℕ) (tree : Tree) (o : Option (List Choice)) → first_allowed w mv ≡ o → answer_of w mv n o ≡ blocked tree visits → Refuted w mv tree
-by-answer w mv keeps fits n visits tree (Some choices) e h = cc
-by-answer w mv keeps fits n visits tree None e h =
+by-answer : (w : World) (mv : Move) → WorldKeeps w → MoveStands w mv → (n visits : ℕ) (tree : Tree) (o : Option (List Choice)) → first_allowed w mv ≡ o → answer_of w mv n o ≡ blocked tree visits → Refuted w mv tree
+by-answer w mv keeps standing n visits tree (Some choices) e h = cc
+by-answer w mv keeps standing n visits tree None e h =
     let same : refutation_of w mv ≡ tree = cc in
-    let covered : covers w mv tree ≡ true = subst (λ t. covers w mv t ≡ true) same (refutation_covers w mv keeps fits e) in
-    (covered, cover_refutes w mv keeps fits tree covered)
+    let covered : covers w mv tree ≡ true = subst (λ t. covers w mv t ≡ true) same (refutation_covers w mv keeps standing e) in
+    (covered, cover_refutes w mv keeps standing tree covered)
 
 pub blocked-refutes : BlockedRefutes
 unfolding outcome_of
-blocked-refutes w mv budget visits tree keeps fits h = by_budget (nat_lt budget (visits_of w mv)) h
+blocked-refutes w mv budget visits tree keeps standing h = by_budget (nat_lt budget (visits_of w mv)) h
   where
     by_budget : (b : Bool) → cond b (spent budget) (answer_of w mv (visits_of w mv) (first_allowed w mv)) ≡ blocked tree visits → Refuted w mv tree
     by_budget true h = cc
-    by_budget false h = by-answer w mv keeps fits (visits_of w mv) visits tree (first_allowed w mv) refl h
+    by_budget false h = by-answer w mv keeps standing (visits_of w mv) visits tree (first_allowed w mv) refl h
 
 world-keeps : (w : World) → KeptWorld w → WorldKeeps w
 world-keeps w k = record { checked = k.rows_pass; reservations_differ = k.reservations_differ }
@@ -81,7 +83,7 @@ moved-refuted : (s : State) (mv : Move) (budget : ℕ) (reply : List Choice → 
 moved-refuted s mv budget reply visits tree keeps fits never (Found choices n) e h = absurd (never choices h)
 moved-refuted s mv budget reply visits tree keeps fits never (blocked t n) e h =
     let same : t ≡ tree = cc in
-    blocked-refutes s.world mv budget n tree keeps fits (e ∙ ap (λ x. blocked x n) same)
+    blocked-refutes s.world mv budget n tree keeps (stands s.world mv fits) (e ∙ ap (λ x. blocked x n) same)
 moved-refuted s mv budget reply visits tree keeps fits never (spent n) e h = cc
 
 -- the effect of a command whose reply is blocked
@@ -167,7 +169,7 @@ line-refuted b student rank ask keeps fits = by_held (find (holds b.world studen
     by_outcome : (o : Outcome) → outcome_of b.world mv 2000 ≡ o → RefutedResult b.world student ask rank (result_of o)
     by_outcome (Found [] visits) e = tt
     by_outcome (Found (c ∷ cs) visits) e = tt
-    by_outcome (blocked tree visits) e = blocked-refutes b.world mv 2000 visits tree keeps fits e
+    by_outcome (blocked tree visits) e = blocked-refutes b.world mv 2000 visits tree keeps (stands b.world mv fits) e
     by_outcome (spent n) e = tt
 
     by_skip : (skip : Bool) → RefutedResult b.world student ask rank (skipped_or (λ _. search_for b.world student ask rank) skip)

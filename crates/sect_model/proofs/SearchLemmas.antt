@@ -10,8 +10,10 @@ use Rattle.sect_model.specs.Path.{Path, start, options_at, extend, is_complete}
 use Rattle.sect_model.specs.Rules.{leaf_of}
 use Rattle.sect_model.specs.Visits.{most_decisions}
 use Rattle.sect_model.specs.Walk.{Walked, behind, found_after, below_or, by_leaf, walk_options, walk_from, walk_of, told_by, walked_outcome}
-use Rattle.sect_model.specs.Search.{Searched, found, refuted, spent, behind_tree, or_later, search_pick, search_options, search_from, searched_outcome}
-use Rattle.sect_model.specs.Laws.{SearchAnswers}
+use Rattle.sect_model.specs.Search.{Searched, found, refuted, spent, behind_tree, or_later, search_pick, search_options, search_from, search_of, searched_outcome}
+use Rattle.sect_model.specs.Premises.{WorldKeeps}
+use Rattle.sect_model.specs.Stands.{MoveStands}
+use Rattle.sect_model.specs.Outcome.{outcome_of}
 use Rattle.sect_model.proofs.WalkLemmas.{walks-answer}
 
 -- what a walk found, with what is left after its visits
@@ -176,8 +178,8 @@ nothing-taken budget = sym (left-within budget (found_after 0 []) (none budget) 
     whole : (n : ℕ) → n - 0 ≡ n
     whole n = omega arith
 
-pub search-answers : SearchAnswers
-search-answers w mv budget keeps fits = walks-answer w mv budget keeps fits ∙ sym (ap (searched_outcome budget) (by_start (is_complete mv start)) ∙ same-answer budget (walk_of w mv))
+pub search-answers : (w : World) (mv : Move) (budget : ℕ) → WorldKeeps w → MoveStands w mv → outcome_of w mv budget ≡ searched_outcome budget (search_of w mv budget)
+search-answers w mv budget keeps standing = walks-answer w mv budget keeps standing ∙ sym (ap (searched_outcome budget) (by_start (is_complete mv start)) ∙ same-answer budget (walk_of w mv))
   where
     by_start : (b : Bool) → cond b (found [] budget) (search_from w mv (most_decisions mv) start budget) ≡ within budget (cond b (found_after 0 []) (walk_from w mv (most_decisions mv) start))
     by_start true = nothing-taken budget

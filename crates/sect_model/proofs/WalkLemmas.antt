@@ -12,8 +12,8 @@ use Rattle.sect_model.specs.Rules.{leaf_of}
 use Rattle.sect_model.specs.Visits.{Step, after, reaches, count_to, visits_of, most_decisions, unbroken_from}
 use Rattle.sect_model.specs.Outcome.{outcome_of, answer_of, first_allowed, leaf_or, refutation_from}
 use Rattle.sect_model.specs.Walk.{Walked, found_after, below_or, by_leaf, walk_options, walk_from, walk_of, told_by, walked_outcome}
-use Rattle.sect_model.specs.Premises.{WorldKeeps, MoveFits}
-use Rattle.sect_model.specs.Laws.{WalksAnswer}
+use Rattle.sect_model.specs.Premises.{WorldKeeps}
+use Rattle.sect_model.specs.Stands.{MoveStands}
 use Rattle.sect_model.proofs.Members.{find-left}
 use Rattle.sect_model.proofs.VisitLemmas.{cut_from, cut_by, all_visits-cut, unbroken-more, extend_all-append}
 use Rattle.sect_model.proofs.MoveLaws.{first_is_visited}
@@ -163,12 +163,12 @@ module _ (w : World) (mv : Move) where
   same-answer r visits (Some choices) e v t = ap (λ o. told_by o r) e ∙ ap (Found choices) v
   same-answer r visits None e v t = ap (λ o. told_by o r) e ∙ λ i. Blocked (t refl i) (v i)
 
-  walks : WorldKeeps w → MoveFits w mv → (budget : ℕ) → is_complete mv start ≡ false → outcome_of w mv budget ≡ walked_outcome budget (walk_from w mv (most_decisions mv) start)
+  walks : WorldKeeps w → MoveStands w mv → (budget : ℕ) → is_complete mv start ≡ false → outcome_of w mv budget ≡ walked_outcome budget (walk_from w mv (most_decisions mv) start)
   unfolding outcome_of
-  walks keeps fits budget due =
+  walks keeps standing budget due =
       let r : Walked = walk_from w mv (most_decisions mv) start in
       let a : Agrees r (cut_from w mv (most_decisions mv) [] start) (trees_below (most_decisions mv) start) = walk-agrees (most_decisions mv) [] start refl refl in
-      let found : r.found ≡ first_allowed w mv = a.found ∙ ap (λ steps. option_map led (find (reaches w mv) steps)) (sym (all_visits-cut w mv)) ∙ sym (first_is_visited w mv keeps fits due) in
+      let found : r.found ≡ first_allowed w mv = a.found ∙ ap (λ steps. option_map led (find (reaches w mv) steps)) (sym (all_visits-cut w mv)) ∙ sym (first_is_visited w mv keeps standing due) in
       let visits : r.visits ≡ visits_of w mv = a.visits ∙ ap (count_to (reaches w mv)) (sym (all_visits-cut w mv)) in
       sym ((λ i. cond (nat_lt budget (visits i)) (Spent budget) (told_by r.found r))
       ∙ ap (cond (nat_lt budget (visits_of w mv)) (Spent budget))
@@ -182,8 +182,8 @@ taking-nothing w mv budget = refl
 due : (want : Want) (wants : List Want) → nat_le (length (want ∷ wants)) 0 ≡ false
 due want wants = grind (arith, nat_tests)
 
-pub walks-answer : WalksAnswer
-walks-answer w mv budget keeps fits = by_take mv.take refl
+pub walks-answer : (w : World) (mv : Move) (budget : ℕ) → WorldKeeps w → MoveStands w mv → outcome_of w mv budget ≡ walked_outcome budget (walk_of w mv)
+walks-answer w mv budget keeps standing = by_take mv.take refl
   where
     by_take : (take : List Want) → mv.take ≡ take → outcome_of w mv budget ≡ walked_outcome budget (walk_of w mv)
     by_take [] e =
@@ -192,5 +192,5 @@ walks-answer w mv budget keeps fits = by_take mv.take refl
         ∙ ap (λ t. walked_outcome budget (walk_of w (record { student = mv.student; give = mv.give; take = t }))) (sym e)
     by_take (want ∷ wants) e =
         let open_start : is_complete mv start ≡ false = ap (λ t. nat_le (length t) 0) e ∙ due want wants in
-        walks w mv keeps fits budget open_start
+        walks w mv keeps standing budget open_start
         ∙ ap (λ b. walked_outcome budget (cond b (found_after 0 []) (walk_from w mv (most_decisions mv) start))) (sym open_start)

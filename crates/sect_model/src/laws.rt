@@ -3,12 +3,23 @@
 ghost use Rattle.std.specs.Prelude.{IsTrue};
 ghost use Rattle.sect_model.specs.Data.{Move};
 ghost use Rattle.sect_model.specs.World.{World};
-ghost use Rattle.sect_model.specs.Premises.{WorldKeeps, MoveFits};
+ghost use Rattle.sect_model.specs.Premises.{WorldKeeps};
+ghost use Rattle.sect_model.specs.Stands.{MoveStands};
+ghost use Rattle.sect_model.specs.Rest.{RestIsPath, RestHasOptions, RestExtends};
+ghost use Rattle.sect_model.specs.Freer.{NoFreerNoMove, PlainNoFreer, EnrolOpensNothing, EnrolElsewhere, LeaveElsewhere, ChangesOpenWhatTheyMay, NoMoveIsNotPlaced, BlockedHasNoMove, TouchedDecide, SpaciousLeaveOpensNothing, TouchesAreListed, WantsAreListed};
 ghost use Rattle.sect_model.specs.Laws.{PathsTellMoves, MovesHavePaths, CoverHasNoPath, CoverRefutes, CoverIsOne, RefutationCovers, FirstIsVisited, VisitsAreSteps, FoundIsAllowed, WalksAnswer, SearchAnswers, FullIsNotSpent, FullIsFixed, BlockedRefutes, StepRefutes, BatchRefutes, UnreservedAlone, Settles, SettledStays, SettleUnfolds, NextIsFirst, TicketsDecide, ExpiriesDecide, EmptyKeeps, ChangesKeep, RosterIsSmall, AcceptedFits, SettlingKeeps, StepKeeps, HistoryKeeps, HistoryIsGood, StepSettles, IdsActOnce};
 
 /// A complete path of decisions breaks no rule exactly where its choices are an allowed move.
 pub fn paths_tell_moves()
-    ensures { (w : World) (mv : Move) → WorldKeeps w → MoveFits w mv → PathsTellMoves w mv }
+    ensures { (w : World) (mv : Move) → WorldKeeps w → MoveStands w mv → PathsTellMoves w mv }
+{}
+
+/// The decisions for the next want are a path of a move that takes this want alone, in the world that has the choices done:
+/// a decision breaks the same rule there, the options are the same, and one decision more leads on to the same path.
+pub fn the_rest_is_a_path()
+    ensures rules { RestIsPath }
+    ensures options { RestHasOptions }
+    ensures extends { RestExtends }
 {}
 
 /// Each allowed move stands at the end of a path.
@@ -20,7 +31,7 @@ pub fn moves_have_paths()
 /// allowed move.
 pub fn cover_refutes()
     ensures paths { (w : World) (mv : Move) → CoverHasNoPath w mv }
-    ensures moves { (w : World) (mv : Move) → WorldKeeps w → MoveFits w mv → CoverRefutes w mv }
+    ensures moves { (w : World) (mv : Move) → WorldKeeps w → MoveStands w mv → CoverRefutes w mv }
 {}
 
 /// At most one tree covers the path without decisions.
@@ -30,12 +41,12 @@ pub fn cover_is_one()
 
 /// Where there is no allowed move, the tree of the search covers the path without decisions.
 pub fn refutation_covers()
-    ensures { (w : World) (mv : Move) → WorldKeeps w → MoveFits w mv → RefutationCovers w mv }
+    ensures { (w : World) (mv : Move) → WorldKeeps w → MoveStands w mv → RefutationCovers w mv }
 {}
 
 /// The first allowed move is where the first visit ends that reaches one.
 pub fn first_is_visited()
-    ensures { (w : World) (mv : Move) → WorldKeeps w → MoveFits w mv → FirstIsVisited w mv }
+    ensures { (w : World) (mv : Move) → WorldKeeps w → MoveStands w mv → FirstIsVisited w mv }
 {}
 
 /// There are at most as many visits as paths, so a budget of all paths is never spent; and how many paths there are
@@ -129,4 +140,46 @@ pub fn blocked_is_refuted()
 /// Without a reservation a choice is allowed only where each limited level of it has unreserved space above 0.
 pub fn unreserved_space_alone_counts()
     ensures { UnreservedAlone }
+{}
+
+/// Where a world is no freer for a waiting entry than another, an entry without a move there has none here.
+pub fn no_freer_world_opens_nothing()
+    ensures given_up { NoFreerNoMove }
+    ensures plain { PlainNoFreer }
+{}
+
+/// An enrolment of another student opens nothing, unless its reservation held back a place where it doesn't count.
+pub fn enrolment_of_another_opens_nothing()
+    ensures { EnrolOpensNothing }
+{}
+
+/// An enrolment or a leaving of another student in an offering that isn't wanted changes nothing for an entry.
+pub fn what_is_elsewhere_changes_nothing()
+    ensures enrol { EnrolElsewhere }
+    ensures leave { LeaveElsewhere }
+{}
+
+/// A change that may not give a waiting entry a move gives it none.
+pub fn changes_open_what_they_may()
+    ensures { ChangesOpenWhatTheyMay }
+{}
+
+/// A waiting entry whose search is blocked has no move, one without a move isn't placed, and where no entry can be
+/// placed that isn't touched, the first that can be placed is the first of the touched ones.
+pub fn touched_entries_decide()
+    ensures blocked { BlockedHasNoMove }
+    ensures unplaced { NoMoveIsNotPlaced }
+    ensures first { TouchedDecide }
+{}
+
+/// Where another student leaves what was open already, an entry that gives up nothing of its wanted offerings gets no
+/// move.
+pub fn leaving_what_was_open_opens_nothing()
+    ensures { SpaciousLeaveOpensNothing }
+{}
+
+/// A want touches an offering exactly where it lists one of its courses.
+pub fn touched_offerings_are_listed()
+    ensures course { TouchesAreListed }
+    ensures offering { WantsAreListed }
 {}

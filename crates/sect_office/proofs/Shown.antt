@@ -29,15 +29,30 @@ module _ {O C R K : Type 0} (stepped : O → ℕ → Caller → C → O × R) (i
   abbrev log_in : Standing O C R K → List (Note C R)
   log_in d = d.log
 
-  pub shows_answer : (id : Id) (day : ℕ) (command : C) (d n : Standing O C R K) (own own' : List ℕ) (a : Answer R) → Answers stepped is_row rows faults id day command d n a → own' ≡ calls_after own d.log n.log → Shows is_row id day command n.log own own' a
-  shows_answer id day command d n own own' (Done place reply) h calls = (
+  pub shows_answer : (id : Id) (day : ℕ) (command : C) (old : List (Note C R)) (d n : Standing O C R K) (own own' : List ℕ) (a : Answer R) → IsPrefix old d.log → Answers stepped is_row rows faults id day command d n a → own' ≡ calls_after own d.log n.log → Shows is_row id day command old n.log own own' a
+  shows_answer id day command old d n own own' (Done place reply) grown h calls = (
     h.0,
     ⊎_elim (λ (e : n ≡ d). inl (calls ∙ calls_same own d.log n.log (ap log_in e)))
         (λ (t : (place ≡ length (history d.log)) × Acts stepped is_row rows faults (record { id = id; day = day; command = command; reply = reply }) d n).
-        inr (d.log, t.1.log, calls ∙ calls_more own d.log n.log (Acted (record { id = id; day = day; command = command; reply = reply })) t.1.log)) h.1,
+        inr (record {
+          before = d.log;
+          grown = grown;
+          is_new = t.1.is_new;
+          roomy = t.1.roomy;
+          front_is = t.1.log;
+          own_is = calls ∙ calls_more own d.log n.log (Acted (record { id = id; day = day; command = command; reply = reply })) t.1.log;
+        })) h.1,
   )
-  shows_answer id day command d n own own' (NumberReused place) h calls = (subst (λ (z : Standing O C R K). HasOther z.log place id command) (sym h.1) h.0, calls ∙ calls_same own d.log n.log (ap log_in h.1))
-  shows_answer id day command d n own own' LogFull h calls =
+  shows_answer id day command old d n own own' (NumberReused place) grown h calls = (subst (λ (z : Standing O C R K). HasOther z.log place id command) (sym h.1) h.0, calls ∙ calls_same own d.log n.log (ap log_in h.1))
+  shows_answer id day command old d n own own' LogFull grown h calls =
       (subst (λ (z : Standing O C R K). IsNew id (history z.log)) (sym h.2) h.0, subst (λ (z : Standing O C R K). IsFull is_row z.log) (sym h.2) h.1, calls ∙ calls_same own d.log n.log (ap log_in h.2))
-  shows_answer id day command d n own own' KeeperFault h calls = (d.log, h.log, calls ∙ calls_more own d.log n.log (Faulted id) h.log)
-  shows_answer id day command d n own own' Memory h calls = calls ∙ calls_same own d.log n.log h.log
+  shows_answer id day command old d n own own' KeeperFault grown h calls = record {
+    before = d.log;
+    grown = grown;
+    is_new = h.is_new;
+    roomy = h.roomy;
+    front_is = h.log;
+    own_is = calls ∙ calls_more own d.log n.log (Faulted id) h.log;
+  }
+  shows_answer id day command old d n own own' Memory grown h calls =
+      (subst (λ (z : List (Note C R)). IsNew id (history z) → IsFull is_row z → ⊥) (sym h.log) h.roomy, calls ∙ calls_same own d.log n.log h.log)

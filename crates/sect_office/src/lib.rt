@@ -1,6 +1,7 @@
 // A desk that threads ask in turn, in one history.
 #![tactic(auto)]
 
+pub mod laws;
 mod office;
 #[cfg(test)]
 mod tests;

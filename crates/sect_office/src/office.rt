@@ -3,7 +3,7 @@ ghost use Rattle.std.specs.Prelude.{◌≡◌, ◌+◌, ◌-◌, ◌<◌, ◌++�
 ghost use mathlib.Core.List.{IsPrefix};
 ghost use Rattle.sect_turn.specs.Passes.{front, own_calls, share, opening, IsIdle, IsPassOf, HasEachOnce};
 ghost use Rattle.sect_turn.specs.Rule.{whole_share};
-ghost use Rattle.sect_once.specs.History.{IsLegal, state_after, history};
+ghost use Rattle.sect_once.specs.History.{IsLegal, NeverFull, state_after, history};
 ghost use Rattle.sect_office.specs.Offices.{Shows};
 
 use sect_base::{Chronicle, Id, Memory};
@@ -93,7 +93,7 @@ impl<V: Chronicle> OfficeOf<V> {
 }
 
 impl<O: Object, K: Keeper> OfficeOf<Desk<O, K>> {
-    /// Asks a request. The reply is the object's at the returned place of the pass's new front.
+    /// Asks a request that may be asked. The reply is the object's at the returned place of the pass's new front. A new own call stands behind the old front, where its id was new.
     pub fn ask<R: Wait>(
         &self,
         rt: &R,
@@ -104,10 +104,12 @@ impl<O: Object, K: Keeper> OfficeOf<Desk<O, K>> {
     ) -> Answer<O::Reply>
         requires turn { IsPassOf (λ d. d.log) (λ d. d.base) self.now.turn pass.old }
         requires idle { IsIdle pass.old }
+        requires askable { O.may_ask id day command }
         ensures turn { IsPassOf (λ d. d.log) (λ d. d.base) self.now.turn pass.new × IsIdle pass.new }
         ensures grown { IsPrefix (front pass.old) (front pass.new) }
         ensures legal { IsLegal O.stepped O.start (front pass.new) }
-        ensures shows { Shows O.is_row id day command (front pass.new) (own_calls pass.old) (own_calls pass.new) result }
+        ensures roomy { NeverFull O.is_row (front pass.new) }
+        ensures shows { Shows O.is_row id day command (front pass.old) (front pass.new) (own_calls pass.old) (own_calls pass.new) result }
         ensures same { (share pass.new ≡ share pass.old) × (opening pass.new ≡ opening pass.old) }
     {
         let mut desk = self.turn.take(rt, pass);

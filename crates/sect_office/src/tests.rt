@@ -1,13 +1,14 @@
 // Threads that share one tally's desk.
-ghost use Rattle.std.specs.Prelude.{⊤, ◌≡◌, ◌<◌, ◌≤◌, length, vec_len, IfOk};
+ghost use Rattle.std.specs.Prelude.{⊤, ◌≡◌, ◌<◌, ◌≤◌, ◌^◌, length, vec_len, IfOk};
 ghost use mathlib.Core.List.{IsPrefix};
+ghost use Rattle.sect_once.specs.Tallies.{caller_number};
 ghost use Rattle.sect_turn.specs.Passes.{front, own_calls, share, opening, IsIdle, IsPassOf};
 
 use crate::office::Office;
 use crate::work::{Work, run_all};
 use sect_base::{Caller, Chronicle, Id};
 use sect_edge::{Gate, Keeper, Link, MemKeeper, MemLink, MemSink, MemSource, OpenGate};
-use sect_once::{Answer, Desk, Object, Tally};
+use sect_once::{Answer, Desk, Tally};
 use sect_time::Day;
 use sect_turn::Pass;
 use std::alloc::{AllocError, Global};
@@ -35,12 +36,17 @@ struct Teller<'a, G> {
     count: u64,
 }
 
-impl<'a, O: Object<Command = u8>, K: Keeper, G: Gate> Work<Desk<O, K>> for Teller<'a, G> {
+impl<'a, K: Keeper, G: Gate> Work<Desk<Tally, K>> for Teller<'a, G> {
     type Given = Vec<u32>;
 
     ghost did = { λ w before after calls places. ⊤ };
 
-    fn run<R: Wait>(self, rt: &R, office: &Office<O, K>, pass: &mut Pass<Desk<O, K>>) -> Vec<u32> {
+    fn run<R: Wait>(
+        self,
+        rt: &R,
+        office: &Office<Tally, K>,
+        pass: &mut Pass<Desk<Tally, K>>,
+    ) -> Vec<u32> {
         let Teller {
             alloc,
             gate,
@@ -60,12 +66,12 @@ impl<'a, O: Object<Command = u8>, K: Keeper, G: Gate> Work<Desk<O, K>> for Telle
 }
 
 // The places of so many asks of a caller.
-fn tell<O: Object<Command = u8>, K: Keeper, G: Gate, R: Wait>(
+fn tell<K: Keeper, G: Gate, R: Wait>(
     alloc: Global,
     gate: &G,
     rt: &R,
-    office: &Office<O, K>,
-    pass: &mut Pass<Desk<O, K>>,
+    office: &Office<Tally, K>,
+    pass: &mut Pass<Desk<Tally, K>>,
     caller: u32,
     count: u64,
 ) -> Vec<u32>
@@ -93,12 +99,13 @@ fn tell<O: Object<Command = u8>, K: Keeper, G: Gate, R: Wait>(
 }
 
 // The place of one ask that is done.
-fn place_of<O: Object<Command = u8>, K: Keeper, R: Wait>(
+fn place_of<K: Keeper, R: Wait>(
     rt: &R,
-    office: &Office<O, K>,
-    pass: &mut Pass<Desk<O, K>>,
+    office: &Office<Tally, K>,
+    pass: &mut Pass<Desk<Tally, K>>,
     id: Id,
 ) -> Option<u32>
+    requires numbers { (caller_number id.caller < 2 ^ 32) × (id.number < 2 ^ 64) }
     requires turn { IsPassOf (λ d. d.log) (λ d. d.base) office.now.turn pass.old }
     requires idle { IsIdle pass.old }
     ensures turn { IsPassOf (λ d. d.log) (λ d. d.base) office.now.turn pass.new × IsIdle pass.new }

@@ -6,7 +6,8 @@ use Rattle.std.specs.declared.cmp.Ordering.TheVariants.{Equal}
 use Rattle.sect_base.specs.declared.limit.Id.{Id}
 use Rattle.sect_base.specs.declared.limit.Caller.{Caller}
 use Rattle.sect_once.specs.declared.entry.Entry.{Entry}
-use Rattle.sect_once.specs.Desks.{IsPast, IsTrail, Trail}
+use Rattle.sect_once.specs.Desks.{IsPast, IsTrail, NextHasRow, Trail}
+use Rattle.sect_once.specs.History.{HasRow}
 use Rattle.sect_once.proofs.Logs.{state_after-append, IsReplay-append, index-append, index-same, index-once}
 use Rattle.sect_once.proofs.Rows.{bytes-append}
 
@@ -59,3 +60,11 @@ module _ {O C R : Type 0} (start : O) (stepped : O → ℕ → Caller → C → 
     once = index-once cmp places entries p.index;
     short = p.short;
   }
+
+-- the entry of a request that may be asked has a row, as the code finds the parts
+pub row_behind : {O C R : Type 0} (start : O) (stepped : O → ℕ → Caller → C → O × R) (is_row : Entry C R → List ℕ → Type 0) (may_ask : Id → ℕ → C → Type 0) (cmp : Id → Id → Ordering)
+    → NextHasRow start stepped is_row may_ask → (object : O) (entries : List (Entry C R)) (places : BTreeMap Id ℕ) (bytes : ℕ) → IsPast start stepped is_row cmp object entries places bytes
+    → (id : Id) (day : ℕ) (command : C) → may_ask id day command → HasRow is_row (record { id = id; day = day; command = command; reply = (stepped object day id.caller command).1 })
+row_behind {O = O} start stepped is_row may_ask cmp next object entries places bytes p id day command asked =
+    next entries p.bytes.rows (record { id = id; day = day; command = command; reply = (stepped object day id.caller command).1 }) p.bytes.are_rows p.short asked
+    (ap (λ (s : O). (stepped s day id.caller command).1) (sym p.replayed))

@@ -1,5 +1,6 @@
 -- What contracts see of a desk, and what its fields keep.
 use Rattle.std.specs.Prelude.{◌≡◌, ◌≢◌, ◌⊎◌, ℕ, ◌≤◌, ◌^◌, List, [], ◌∷◌, ◌++◌, length, slice_get, Option, Some}
+use Rattle.std.specs.List.{AllZip}
 use Rattle.std.specs.declared.cmp.Ordering.{Ordering}
 use Rattle.std.specs.BTreeMap.{BTreeMap}
 use Rattle.sect_base.specs.declared.limit.Id.{Id}
@@ -14,7 +15,7 @@ use Rattle.sect_once.specs.declared.answer.Answer.{Answer}
 use Rattle.sect_once.specs.declared.answer.Answer.TheVariants.{Done, NumberReused, LogFull, KeeperFault, Memory}
 use Rattle.sect_once.specs.declared.answer.Seen.{Seen}
 use Rattle.sect_once.specs.declared.answer.Seen.TheVariants.{New, Place, Reused}
-use Rattle.sect_once.specs.History.{IsLegal, faulted, history, log_of, acting, faulting, ActsOnce, HaveBytes, IsFull, IsIndex, IsNew, IsReplay, NeverFull, TellsRows, state_after}
+use Rattle.sect_once.specs.History.{IsLegal, faulted, history, log_of, acting, faulting, ActsOnce, HasRow, HaveBytes, IsFull, IsIndex, IsNew, IsReplay, NeverFull, TellsRows, state_after}
 use Rattle.sect_once.specs.Faults.{AtMostFaults}
 
 -- an object and the entries that brought it where it is
@@ -30,6 +31,12 @@ pub record Standing (O C R K : Type 0) : Type 0 where
   pub base : ℕ
 
 module _ {O C R : Type 0} (start : O) (stepped : O → ℕ → Caller → C → O × R) where
+  -- behind at most 2^20 entries with rows, the entry of each request that may be asked has a row
+  abbrev pub NextHasRow : (Entry C R → List ℕ → Type 0) → (Id → ℕ → C → Type 0) → Type 0
+  NextHasRow is_row may_ask =
+      (es : List (Entry C R)) (rows : List (List ℕ)) (e : Entry C R) → AllZip is_row es rows → length es ≤ 2 ^ 20 → may_ask e.id e.day e.command
+      → (stepped (state_after stepped start es) e.day e.id.caller e.command).1 ≡ e.reply → HasRow is_row e
+
   -- the object is the replay of the entries, each with the replay's reply and an id of its own
   pub record IsTrail (trail : Trail O C R) : Type 0 where
     pub replayed : trail.object ≡ state_after stepped start trail.entries
@@ -114,9 +121,10 @@ module _ {O C R K : Type 0} (stepped : O → ℕ → Caller → C → O × R) (i
     pub base : n.base ≡ d.base
     pub rows_stay : KeepsRows (rows d.keeper) (rows n.keeper)
 
-  -- memory was wanted for a repeat or in a log with room: the log, the object and the rows are as before
-  pub record IsSame (id : Id) (d n : Standing O C R K) : Type 0 where
+  -- memory was wanted for a repeat or in a log with room, and no other command has the id: the log, the object and the rows are as before
+  pub record IsSame (id : Id) (command : C) (d n : Standing O C R K) : Type 0 where
     pub roomy : IsNew id (history d.log) → IsFull is_row d.log → ⊥
+    pub other : (place : ℕ) → HasOther d.log place id command → ⊥
     pub object : n.object ≡ d.object
     pub log : n.log ≡ d.log
     pub base : n.base ≡ d.base
@@ -130,7 +138,7 @@ module _ {O C R K : Type 0} (stepped : O → ℕ → Caller → C → O × R) (i
   Answers id day command d n (NumberReused place) = HasOther d.log place id command × (n ≡ d)
   Answers id day command d n LogFull = IsNew id (history d.log) × IsFull is_row d.log × (n ≡ d)
   Answers id day command d n KeeperFault = IsFaulted id d n
-  Answers id day command d n Memory = IsSame id d n
+  Answers id day command d n Memory = IsSame id command d n
 
   -- what the type of a desk keeps
   pub record IsSound (start : O) (d : Standing O C R K) : Type 0 where

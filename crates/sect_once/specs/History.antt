@@ -50,6 +50,10 @@ module _ {C R : Type 0} where
   acted_log (e ∷ es) = Acted e ∷ acted_log es
 
 module _ {C R : Type 0} (is_row : Entry C R → List ℕ → Type 0) where
+  -- the entry has a row
+  abbrev pub HasRow : Entry C R → Type 0
+  HasRow e = (row : List ℕ) × is_row e row
+
   -- the rows of the entries have so many bytes in all
   pub record HaveBytes (es : List (Entry C R)) (n : ℕ) : Type 0 where
     pub rows : List (List ℕ)

@@ -1,7 +1,8 @@
 -- The row of a tally's entry: 26 bytes.
-use Rattle.std.specs.Prelude.{◌≡◌, ℕ, ◌<◌, ◌≤◌, ◌^◌, List, ◌∷◌, ◌++◌}
+use Rattle.std.specs.Prelude.{◌≡◌, ℕ, ◌+◌, ◌-◌, ◌<◌, ◌≤◌, ◌^◌, min, List, ◌∷◌, ◌++◌}
 use Rattle.std.specs.Int.{to_be_bytes, w32, w64}
 use Rattle.sect_base.specs.declared.limit.Caller.{Caller}
+use Rattle.sect_base.specs.declared.limit.Id.{Id}
 use Rattle.sect_base.specs.declared.limit.Caller.TheVariants.{Registrar, Student}
 use Rattle.sect_once.specs.declared.entry.Entry.{Entry}
 
@@ -27,3 +28,11 @@ pub record IsTallyRow (e : Entry ℕ ℕ) (row : List ℕ) : Type 0 where
   pub command : e.command < 2 ^ 8
   pub reply : e.reply < 2 ^ 64
   pub is : row ≡ tally_row e
+
+-- the numbers of a request are in the ranges of their types
+abbrev pub MayAsk : Id → ℕ → ℕ → Type 0
+MayAsk id day command = (day ≤ 84005) × (caller_number id.caller < 2 ^ 32) × (id.number < 2 ^ 64) × (command < 2 ^ 8)
+
+-- a command adds its number, and is answered by the sum, which stays at the greatest number of 64 bits
+abbrev pub tallied : ℕ → ℕ → Caller → ℕ → ℕ × ℕ
+tallied sum day caller n = (min (sum + n) (2 ^ 64 - 1), min (sum + n) (2 ^ 64 - 1))

@@ -1,11 +1,12 @@
--- Rows of a tally have one entry, and entries one row.
+-- Rows of a tally have one entry, entries one row, and what may be asked gets one.
 use Rattle.std.proofs.Common.{◌≡◌, ℕ, ◌+◌, ◌<◌, ◌≤◌, ◌^◌, List, [], ◌∷◌, ◌++◌, length, take, drop, refl, sym, ap, ◌∙◌, arith}
 use Rattle.std.specs.Int.{from_be_bytes, to_be_bytes, w32, w64}
 use Rattle.std.proofs.lemmas.Nat.{from_be_bytes-to_be_bytes_4, from_be_bytes-to_be_bytes_8}
 use Rattle.sect_base.specs.declared.limit.Caller.{Caller}
 use Rattle.sect_base.specs.declared.limit.Caller.TheVariants.{Registrar, Student}
 use Rattle.sect_once.specs.declared.entry.Entry.{Entry}
-use Rattle.sect_once.specs.Tallies.{IsTallyRow, caller_number, caller_tag, tally_row}
+use Rattle.sect_once.specs.Tallies.{IsTallyRow, MayAsk, caller_number, caller_tag, tallied, tally_row}
+use Rattle.sect_once.specs.Desks.{NextHasRow}
 
 pub tally_one_row : (e : Entry ℕ ℕ) (a b : List ℕ) → IsTallyRow e a → IsTallyRow e b → a ≡ b
 tally_one_row e a b h k = h.is ∙ sym k.is
@@ -52,3 +53,6 @@ tally_one_entry e f row h k =
     let reply : e.reply ≡ f.reply = same_8 _ _ h.reply k.reply (ap (drop 18) rows) in
     let who : e.id.caller ≡ f.id.caller = same_caller _ _ tag caller in
     λ i. record { id = record { caller = who i; number = number i }; day = day i; command = command i; reply = reply i }
+
+pub tally_next_has_row : NextHasRow 0 tallied IsTallyRow MayAsk
+tally_next_has_row es rows e h few asked replied = (tally_row e, record { day = asked.0; caller = asked.1; number = asked.2; command = asked.3; reply = omega (arith, replied); is = refl })

@@ -7,7 +7,7 @@ ghost use Rattle.sect_edge.specs.Causes.{HasCauseFor};
 ghost use Rattle.sect_edge.specs.Keeper.{AddsRow, KeepsRows};
 ghost use Rattle.sect_once.specs.declared.entry.Entry.{Entry};
 ghost use Rattle.sect_once.specs.Desks.{Adds};
-ghost use Rattle.sect_once.specs.History.{AreHeavy, IsNew};
+ghost use Rattle.sect_once.specs.History.{AreHeavy, HasRow, IsNew};
 
 use crate::entry::Entry;
 use crate::object::Object;
@@ -31,7 +31,7 @@ fn written<O: Object>(
     alloc: Global,
     entry: &Entry<O::Command, O::Reply>,
 ) -> Result<(O::Reply, Vec<u8>), Memory>
-    requires { (s : O.State) × ((O.stepped s entry.now.day entry.now.id.caller entry.now.command).1 ≡ entry.now.reply) }
+    requires { HasRow O.is_row entry.now }
     ensures { IfOk result (λ r. (r.0 ≡ entry.now.reply) × O.is_row entry.now r.1.items) }
 {
     let reply = O::copy_reply(alloc, &entry.reply)?;
@@ -40,7 +40,7 @@ fn written<O: Object>(
     Ok((reply, row))
 }
 
-// Steps the object, and prints what is to be kept of it.
+// Steps the object, and prints what is to be kept of it, which has a row.
 fn step<O: Object>(
     alloc: Global,
     object: &mut O,
@@ -48,6 +48,7 @@ fn step<O: Object>(
     day: Day,
     command: O::Command,
 ) -> Result<Stepped<O::Command, O::Reply, O::Undo>, Memory>
+    requires { HasRow O.is_row (record { id = id; day = day; command = command; reply = (O.stepped (O.state object.old) day id.caller command).1 }) }
     ensures state { IfOk result (λ s. O.state object.new ≡ (O.stepped (O.state object.old) day id.caller command).0) }
     ensures entry { IfOk result (λ s. s.entry ≡ record { id = id; day = day; command = command; reply = s.reply }) }
     ensures reply { IfOk result (λ s. s.reply ≡ (O.stepped (O.state object.old) day id.caller command).1) }
@@ -113,6 +114,7 @@ impl<O: Object> Past<O> {
         day: Day,
         command: O::Command,
     ) -> Result<O::Reply, KeepFault>
+        requires askable { O.may_ask id day command }
         requires new { IsNew id self.old.entries }
         requires notes { length self.old.entries < 2 ^ 20 }
         requires bytes { AreHeavy O.is_row self.old.entries → ⊥ }

@@ -27,6 +27,7 @@ impl<O: Object, K: Keeper> Desk<O, K> {
 
     // A new request acts.
     fn act(&mut self, id: Id, day: Day, command: O::Command) -> Answer<O::Reply>
+        requires askable { O.may_ask id day command }
         requires new { IsNew id (history self.old.log) }
         requires room { IsFull O.is_row self.old.log → ⊥ }
         ensures { Answers O.stepped O.is_row K.rows K.faults id day command self.old self.new result }
@@ -55,8 +56,10 @@ impl<O: Object, K: Keeper> Desk<O, K> {
 
     // Answers a request.
     fn answer(&mut self, id: Id, day: Day, command: O::Command) -> Answer<O::Reply>
+        requires { O.may_ask id day command }
         ensures { Answers O.stepped O.is_row K.rows K.faults id day command self.old self.new result }
     {
+        self.is_sound();
         match self.find(&id, &command) {
             Seen::Place(place) => self.repeat(place),
             Seen::Reused(place) => Answer::NumberReused(place),
@@ -70,15 +73,17 @@ impl<O: Object, K: Keeper> Desk<O, K> {
         }
     }
 
-    // The desk's type keeps this.
-    pub(crate) fn is_sound(&self)
+    /// The log is legal and was never full, the object is the replay of its history, and the rows, where they are told, are those of it. The type keeps this.
+    pub fn is_sound(&self)
         ensures { IsSound O.stepped O.is_row K.rows K.faults O.start self.now }
     {
         self.past.is_trail();
     }
 
-    /// Asks a request. It acts only where its id is new: a repeat is answered with the kept reply, whatever its day.
+    /// Asks a request that may be asked: its id, its day and its command have texts, as those of each line that was read. It
+    /// acts only where its id is new: a repeat is answered with the kept reply, whatever its day.
     pub fn ask(&mut self, id: Id, day: Day, command: O::Command) -> Answer<O::Reply>
+        requires { O.may_ask id day command }
         ensures answer { Answers O.stepped O.is_row K.rows K.faults id day command self.old self.new result }
         ensures sound { IsSound O.stepped O.is_row K.rows K.faults O.start self.new }
     {

@@ -51,6 +51,13 @@ impl<O: Object, K: Keeper> Desk<O, K> {
         keeper
     }
 
+    /// The object, which is the replay of the history.
+    pub fn object(&self) -> &O
+        ensures { O.state result.now ≡ self.now.object }
+    {
+        &self.past.object
+    }
+
     /// The number of requests that acted.
     pub fn acted(&self) -> u32
         ensures { result ≡ length (history self.now.log) }

@@ -1,7 +1,10 @@
 // What a desk needs of its object.
 ghost use Rattle.std.specs.Prelude.{◌≡◌, ◌++◌, ℕ, List, Option, ◌↔◌, IsTrue, IfOk, OnOk, OnErr, IfSome, IfNone};
 ghost use Rattle.sect_base.specs.declared.limit.Caller.{Caller};
+ghost use Rattle.sect_base.specs.declared.limit.Id.{Id};
 ghost use Rattle.sect_once.specs.declared.entry.Entry.{Entry};
+ghost use Rattle.sect_once.specs.Desks.{NextHasRow};
+ghost use Rattle.sect_once.specs.History.{HasRow};
 
 use crate::entry::Entry;
 use sect_base::{Caller, Memory};
@@ -41,6 +44,9 @@ pub trait Object: Sized {
     /// The row is the text of the entry.
     ghost is_row: { Entry Self.Command Self.Reply → List ℕ → Type 0 };
 
+    /// The request may be asked: its id, its day and its command have texts.
+    ghost may_ask: { Id → ℕ → Self.Command → Type 0 };
+
     /// The object at the start.
     fn empty(alloc: Global) -> Self
         ensures { state result ≡ start };
@@ -75,12 +81,12 @@ pub trait Object: Sized {
     fn copy_reply(alloc: Global, reply: &Self::Reply) -> Result<Self::Reply, Memory>
         ensures { IfOk result (λ r. r ≡ reply.now) };
 
-    /// Writes the entry's row behind what is there. Its reply is one that a step gives for its command.
+    /// Writes the row of an entry that has one behind what is there.
     fn print_entry(
         entry: &Entry<Self::Command, Self::Reply>,
         into: &mut Vec<u8>,
     ) -> Result<(), Memory>
-        requires { (s : Self.State) × ((stepped s entry.now.day entry.now.id.caller entry.now.command).1 ≡ entry.now.reply) }
+        requires { HasRow is_row entry.now }
         ensures { OnOk result ((row : List ℕ) × is_row entry.now row × (into.new.items ≡ into.old.items ++ row)) };
 
     /// The entry of which this is the row, where there is one.
@@ -96,4 +102,7 @@ pub trait Object: Sized {
 
     /// A row is of at most one entry.
     ghost one_entry: { (a b : Entry Self.Command Self.Reply) (row : List ℕ) → is_row a row → is_row b row → a ≡ b };
+
+    /// Behind entries with rows, the entry of a request that may be asked has a row.
+    ghost next_has_row: { NextHasRow start stepped is_row may_ask };
 }

@@ -3,7 +3,7 @@ ghost use Rattle.std.specs.Prelude.{◌≡◌, ℕ, ◌<◌, ◌≤◌, ◌+◌,
 ghost use Rattle.std.specs.Int.{from_be_bytes, to_be_bytes, w32, w64};
 ghost use Rattle.sect_base.specs.declared.limit.Caller.{Caller};
 ghost use Rattle.sect_once.specs.declared.entry.Entry.{Entry};
-ghost use Rattle.sect_once.specs.Tallies.{IsTallyRow, caller_number, caller_tag};
+ghost use Rattle.sect_once.specs.Tallies.{IsTallyRow, MayAsk, caller_number, caller_tag, tallied};
 
 use crate::entry::Entry;
 use crate::object::Object;
@@ -34,13 +34,15 @@ impl Object for Tally {
 
     ghost start = { 0 };
 
-    ghost stepped = { λ sum day caller n. (min (sum + n) (2 ^ 64 - 1), min (sum + n) (2 ^ 64 - 1)) };
+    ghost stepped = { tallied };
 
     ghost restores = { λ u after before. before ≡ u };
 
     ghost looked = { λ sum q. sum };
 
     ghost is_row = { IsTallyRow };
+
+    ghost may_ask = { MayAsk };
 
     fn empty(_alloc: Global) -> Self {
         Tally { sum: 0 }
@@ -91,11 +93,13 @@ impl Object for Tally {
         }
     }
 
-    ghost use Rattle.sect_once.specs.TallyLaws.{tally_one_entry, tally_one_row};
+    ghost use Rattle.sect_once.specs.TallyLaws.{tally_next_has_row, tally_one_entry, tally_one_row};
 
     ghost one_row = { tally_one_row };
 
     ghost one_entry = { tally_one_entry };
+
+    ghost next_has_row = { tally_next_has_row };
 }
 
 // The letter of a caller.

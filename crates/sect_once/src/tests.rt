@@ -1,4 +1,7 @@
 // A tally's desk over a keeper in memory.
+ghost use Rattle.std.specs.Prelude.{◌<◌, ◌^◌};
+ghost use Rattle.sect_once.specs.Tallies.{caller_number};
+
 use crate::{Answer, Desk, OpenFault, Seen, Tally};
 use sect_base::{Caller, Chronicle, Id};
 use sect_edge::MemKeeper;
@@ -7,7 +10,9 @@ use std::alloc::{AllocError, Global};
 use std::test::Fail;
 
 // The id with this number.
-fn id(number: u64) -> Id {
+fn id(number: u64) -> Id
+    ensures { (caller_number result.caller < 2 ^ 32) × (result.number < 2 ^ 64) }
+{
     Id {
         caller: Caller::Registrar(7),
         number,

@@ -1,15 +1,12 @@
-//! The real objects behind the traits of the outside. Each is a few lines over one call of the system, and counts the failures that it answers.
+//! The keepers of the program: in memory, in a database of SQLite and in a journal. With them come the real objects of `sect_system`.
 #![tactic(auto)]
 
-mod clock;
-mod disk;
-mod sink;
-mod source;
+mod any;
+mod database;
 
-pub use clock::RealClock;
-pub use disk::FileDisk;
-pub use sink::StdSink;
-pub use source::StdSource;
+pub use any::AnyKeeper;
+pub use database::SqliteKeeper;
+pub use sect_system::{FileDisk, RealClock, StdSink, StdSource};
 
 #[cfg(test)]
 mod tests;

@@ -1,9 +1,8 @@
 // Courses that a student holds or gives up.
 
-ghost use Rattle.std.specs.Prelude.{◌≡◌, ◌==◌, ◌||◌, not, ◌≤◌, length, sum_by, []};
+ghost use Rattle.std.specs.Prelude.{◌≡◌, ◌==◌, ◌||◌, not, []};
 ghost use Rattle.std.specs.List.{list_any};
-ghost use Rattle.sect_model.specs.World.{holds as is_held, credits_of};
-ghost use Rattle.sect_model.specs.Allowed.{credits_held as credits_of_student};
+ghost use Rattle.sect_model.specs.World.{holds as is_held};
 ghost use Rattle.sect_model.specs.Refusals.{not_enrolled as held_fault, not_enrolled_in as given_fault};
 
 use sect_base::{CourseId, StudentId};
@@ -54,34 +53,4 @@ fn is_wrong(world: &World, student: StudentId, earlier: &[CourseId], course: Cou
     ensures { result ≡ not (is_held world.now.world student course) || list_any (λ e. e.0 == course.0) earlier.now }
 {
     !holds(world, student, course) || earlier.contains(&course)
-}
-
-/// The credits of what the student holds.
-pub fn credits_held(world: &World, student: StudentId) -> usize
-    ensures { result ≡ credits_of_student world.now.world student }
-{
-    world.is_kept();
-    credits_in(world, world.enrolments(student))
-}
-
-/// The credits of these enrolments.
-fn credits_in(world: &World, held: &[Enrolment]) -> usize
-    requires { length held.now ≤ 1000000000 }
-    ensures { result ≡ sum_by (λ e. credits_of world.now.world e.choice.course) held.now }
-{
-    let mut total = 0;
-    for enrolment in held {
-        total += usize::from(credits(world, enrolment.choice.course));
-    }
-    total
-}
-
-/// The credits of a course, 0 where it is unknown.
-fn credits(world: &World, course: CourseId) -> u8
-    ensures { result ≡ credits_of world.now.world course }
-{
-    match world.catalogue().course(course) {
-        Some((_, row)) => row.credits,
-        None => 0,
-    }
 }

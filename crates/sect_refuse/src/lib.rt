@@ -15,3 +15,4 @@ mod want;
 mod yours;
 
 pub use refuse::refusal;
+pub use waiting::ticket_of;

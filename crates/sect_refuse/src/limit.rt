@@ -10,7 +10,6 @@ ghost use Rattle.sect_model.specs.Refusals.{
   credits_above as credits_fault,
 };
 
-use crate::held::credits_held;
 use crate::told::told;
 use sect_base::{Cap, Level, Limit};
 use sect_command::Refusal;
@@ -68,7 +67,7 @@ pub fn many_students(world: &World, row: &StudentRow) -> Option<Refusal>
 pub fn credits_above(world: &World, row: &StudentRow) -> Option<Refusal>
     ensures { result ≡ credits_fault world.now.world row.now }
 {
-    let credits = credits_held(world, row.id);
+    let credits = world.credits_held(row.id);
     if usize::from(row.max_credits) < credits {
         Some(Refusal::LimitBelow(told(credits)))
     } else {

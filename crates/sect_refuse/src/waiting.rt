@@ -57,8 +57,8 @@ fn has_ticket(entries: &[Waiting], student: StudentId, ticket: u64) -> bool
         .any(|entry| entry.student == student && entry.ticket == ticket)
 }
 
-/// The least ticket of the student's entries that share a course.
-fn ticket_of(entries: &[Waiting], student: StudentId, courses: &[CourseId]) -> Option<u64>
+/// The least ticket of the student's entries that share a course, None where there are none. It takes no memory.
+pub fn ticket_of(entries: &[Waiting], student: StudentId, courses: &[CourseId]) -> Option<u64>
     ensures { result ≡ least (map (λ e. e.ticket) (filter (is_shared student courses.now) entries.now)) }
 {
     let mut best = None;

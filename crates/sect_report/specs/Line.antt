@@ -1,9 +1,9 @@
 -- A line of a report: words with a space between each two, and a line feed.
-use Rattle.std.specs.Prelude.{ℕ, ℤ, List, [], ◌∷◌, ◌++◌, Option, None, Some, decimal, map}
+use Rattle.std.specs.Prelude.{ℕ, ℤ, List, [], ◌∷◌, ◌++◌, Option, None, Some, decimal}
 use Rattle.std.specs.Fmt.{signed_decimal}
 use Rattle.sect_report.specs.declared.line.Word.{Word}
 use Rattle.sect_report.specs.declared.line.Word.TheVariants.{Name, Number, Optional, Space, Places, Courses, Sections}
-use Rattle.sect_words.specs.Words.{limit_text, optional_text, plus_text}
+use Rattle.sect_words.specs.Words.{course_text, limit_text, list_text, optional_text, section_text}
 
 -- each word behind a space, which is 32, and the line feed
 abbrev pub more_words_text : List (List ℕ) → List ℕ
@@ -24,8 +24,8 @@ space_text (Some n) = signed_decimal n
 abbrev pub word_text : Word → List ℕ
 word_text (Name name) = name.now
 word_text (Number n) = decimal n
-word_text (Optional n) = optional_text n
+word_text (Optional n) = optional_text decimal n
 word_text (Space n) = space_text n
 word_text (Places limit) = limit_text limit
-word_text (Courses ids) = plus_text (map (λ id. decimal id.0) ids.now)
-word_text (Sections ids) = plus_text (map (λ id. decimal id.0) ids.now)
+word_text (Courses ids) = list_text 43 course_text ids.now
+word_text (Sections ids) = list_text 43 section_text ids.now

@@ -1,5 +1,5 @@
 -- The lines of each report.
-use Rattle.std.specs.Prelude.{ℕ, List, [], ◌∷◌, ◌++◌, codes, decimal, if◌then◌else◌, length, map, option_map}
+use Rattle.std.specs.Prelude.{ℕ, List, [], ◌∷◌, ◌++◌, codes, decimal, if◌then◌else◌, length}
 use Rattle.std.specs.List.{flat_map}
 use Rattle.sect_base.specs.declared.choice.Choice.{Choice}
 use Rattle.sect_command.specs.declared.view.RollView.{RollView}
@@ -12,14 +12,14 @@ use Rattle.sect_command.specs.declared.view.ScheduleView.{ScheduleView}
 use Rattle.sect_command.specs.declared.view.WaitView.{WaitView}
 use Rattle.sect_command.specs.declared.view.UnmetView.{UnmetView}
 use Rattle.sect_report.specs.Line.{line_text, space_text}
-use Rattle.sect_words.specs.Words.{limit_text, optional_text, plus_text}
+use Rattle.sect_words.specs.Words.{limit_text, list_text, optional_text}
 
 -- an enrolment in a section
 abbrev pub held_text : HeldView → List ℕ
 held_text h = line_text (
     codes "student" ∷ decimal h.student.0
     ∷ codes "course" ∷ decimal h.course.0
-    ∷ codes "reservation" ∷ optional_text (option_map (λ id. id.0) h.reservation)
+    ∷ codes "reservation" ∷ optional_text (λ id. decimal id.0) h.reservation
     ∷ [])
 
 -- a section with its enrolments
@@ -64,7 +64,7 @@ config_text g = line_text (
 abbrev pub open_text : OpenView → List ℕ
 open_text v = line_text (
     codes "offering" ∷ decimal v.offering.0
-    ∷ codes "limit" ∷ optional_text v.limit
+    ∷ codes "limit" ∷ optional_text decimal v.limit
     ∷ codes "held" ∷ decimal v.held
     ∷ codes "free" ∷ space_text v.free
     ∷ []) ++ (flat_map course_text v.courses ++ flat_map config_text v.configs)
@@ -73,9 +73,9 @@ open_text v = line_text (
 abbrev pub choice_text : Choice → List ℕ
 choice_text c = line_text (
     codes "course" ∷ decimal c.course.0
-    ∷ codes "reservation" ∷ optional_text (option_map (λ id. id.0) c.reservation)
+    ∷ codes "reservation" ∷ optional_text (λ id. decimal id.0) c.reservation
     ∷ codes "config" ∷ decimal c.config.0
-    ∷ codes "sections" ∷ plus_text (map (λ id. decimal id.0) c.sections)
+    ∷ codes "sections" ∷ list_text 43 (λ id. decimal id.0) c.sections
     ∷ [])
 
 -- a student with the enrolments
@@ -91,8 +91,8 @@ abbrev pub wait_text : WaitView → List ℕ
 wait_text w = line_text (
     codes "ticket" ∷ decimal w.ticket
     ∷ codes "student" ∷ decimal w.student.0
-    ∷ codes "courses" ∷ plus_text (map (λ id. decimal id.0) w.courses)
-    ∷ codes "give" ∷ optional_text (option_map (λ id. id.0) w.give)
+    ∷ codes "courses" ∷ list_text 43 (λ id. decimal id.0) w.courses
+    ∷ codes "give" ∷ optional_text (λ id. decimal id.0) w.give
     ∷ [])
 
 -- a request of which no course is held
@@ -100,13 +100,13 @@ abbrev pub unmet_text : UnmetView → List ℕ
 unmet_text u = line_text (
     codes "student" ∷ decimal u.student.0
     ∷ codes "rank" ∷ decimal u.rank
-    ∷ codes "courses" ∷ plus_text (map (λ id. decimal id.0) u.courses)
+    ∷ codes "courses" ∷ list_text 43 (λ id. decimal id.0) u.courses
     ∷ [])
 
 -- the lines of a list, or one that says that there are none
-abbrev pub list_text : {A : Type 0} → (A → List ℕ) → List A → List ℕ
-list_text text [] = line_text (codes "none" ∷ [])
-list_text text (x ∷ xs) = flat_map text (x ∷ xs)
+abbrev pub listed_text : {A : Type 0} → (A → List ℕ) → List A → List ℕ
+listed_text text [] = line_text (codes "none" ∷ [])
+listed_text text (x ∷ xs) = flat_map text (x ∷ xs)
 
 -- an id that nothing has
 abbrev pub unknown_text : List ℕ → ℕ → List ℕ

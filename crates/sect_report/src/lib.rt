@@ -8,6 +8,3 @@ mod people;
 mod printed;
 
 pub use answer::report;
-
-#[cfg(test)]
-mod tests;

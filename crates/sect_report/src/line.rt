@@ -5,7 +5,7 @@ ghost use Rattle.sect_report.specs.Line.{line_text, more_words_text, space_text,
 
 use itoa::Buffer;
 use sect_base::{CourseId, Limit, Memory, SectionId};
-use sect_words::{print_limit, print_list, print_number, print_optional, print_text};
+use sect_words::{Spelled, print_list, print_number, print_text};
 
 /// A word of a line.
 #[derive(Clone, Copy)]
@@ -44,10 +44,18 @@ fn print_words(first: &Word, others: &[Word], into: &mut Vec<u8>) -> Result<(), 
 {
     print_word(first, into)?;
     for word in others {
-        into.push(b' ')?;
-        print_word(word, into)?;
+        print_next(word, into)?;
     }
     end_line(into)
+}
+
+// Appends a space and a word. After `Memory` a part of them may stand at the end.
+fn print_next(word: &Word, into: &mut Vec<u8>) -> Result<(), Memory>
+    ensures text { OnOk result (into.new.items ≡ into.old.items ++ 32 ∷ word_text word.now) }
+    ensures front { take (length into.old.items) into.new.items ≡ into.old.items }
+{
+    into.push(b' ')?;
+    print_word(word, into)
 }
 
 // Appends a line feed. After `Memory` the bytes are as before.
@@ -59,17 +67,17 @@ fn end_line(into: &mut Vec<u8>) -> Result<(), Memory>
     Ok(())
 }
 
-// Appends a word. After `Memory` the bytes are as before.
+// Appends a word. After `Memory` a part of it may stand at the end.
 fn print_word(word: &Word, into: &mut Vec<u8>) -> Result<(), Memory>
     ensures text { OnOk result (into.new.items ≡ into.old.items ++ word_text word.now) }
-    ensures memory { OnErr result (into.new.items ≡ into.old.items) }
+    ensures front { take (length into.old.items) into.new.items ≡ into.old.items }
 {
     match word {
         Word::Name(name) => print_text(name, into),
         Word::Number(number) => print_number(*number, into),
-        Word::Optional(number) => print_optional(*number, into),
+        Word::Optional(number) => number.print(into),
         Word::Space(space) => print_space(*space, into),
-        Word::Places(limit) => print_limit(*limit, into),
+        Word::Places(limit) => limit.print(into),
         Word::Courses(courses) => print_list(b'+', courses, into),
         Word::Sections(sections) => print_list(b'+', sections, into),
     }

@@ -3,7 +3,7 @@
 ghost use Rattle.std.specs.Prelude.{◌≡◌, ℕ, ◌++◌, List, OnOk, OnErr, length, map, take};
 ghost use Rattle.std.specs.List.{flat_map};
 ghost use Rattle.sect_report.specs.Line.{line_text, word_text};
-ghost use Rattle.sect_report.specs.Report.{list_text};
+ghost use Rattle.sect_report.specs.Report.{listed_text};
 
 use crate::line::{Word, print_line};
 use sect_base::Memory;
@@ -63,7 +63,7 @@ pub(crate) fn print_under<P: Printed>(
 
 /// Appends the lines of each, or one that says that there are none. After `Memory` the bytes are as before.
 pub(crate) fn print_list<P: Printed>(items: &[P], into: &mut Vec<u8>) -> Result<(), Memory>
-    ensures text { OnOk result (into.new.items ≡ into.old.items ++ list_text P.lines items.now) }
+    ensures text { OnOk result (into.new.items ≡ into.old.items ++ listed_text P.lines items.now) }
     ensures memory { OnErr result (into.new.items ≡ into.old.items) }
 {
     if items.is_empty() {

@@ -15,6 +15,3 @@ mod roster;
 pub use reservations::Reservations;
 pub use restrictions::Restrictions;
 pub use roster::Roster;
-
-#[cfg(test)]
-mod tests;

@@ -184,13 +184,13 @@ module _ (w : World) (checked : are_checked w.catalogue.rows ≡ true) where
 
 module _ (w : World) (mv : Move) (p : Path) (pick : Pick) (option : Contains (options_at w mv p) pick) where
   -- where there is an option, a want is left
-  pub done-few : length mv.take ≤ 4 → length p.done < 4
-  done-few few = by_want (want_at mv p) refl
+  pub done-few : (n : ℕ) → length mv.take ≤ n → length p.done < n
+  done-few n few = by_want (want_at mv p) refl
     where
-      within : length p.done < length mv.take → length p.done < 4
+      within : length p.done < length mv.take → length p.done < n
       within h = omega (arith, h, few)
 
-      by_want : (x : Option Want) → want_at mv p ≡ x → length p.done < 4
+      by_want : (x : Option Want) → want_at mv p ≡ x → length p.done < n
       by_want None e =
           absurd (not_both false
           (contained (λ pick. false) (option_map_or (λ want. options_for w want p.course p.reservation p.config p.sections) None []) pick

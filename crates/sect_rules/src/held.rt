@@ -112,11 +112,11 @@ pub fn credits_kept(world: &World, give: &[CourseId], held: &[Enrolment]) -> u32
     total
 }
 
-/// The credits of at most four choices.
+/// The credits of at most twenty choices.
 pub fn credits_made(world: &World, done: &[Choice]) -> u32
-    requires { length done.now ≤ 4 }
+    requires { length done.now ≤ 20 }
     ensures value { result ≡ sum_by (λ c. credits_of world.now.world c.course) done.now }
-    ensures few { result ≤ 1020 }
+    ensures few { result ≤ 5100 }
 {
     let mut total = 0;
     for choice in done {

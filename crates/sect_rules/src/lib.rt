@@ -17,6 +17,6 @@ mod rules;
 mod section;
 
 pub use options::option;
-pub use path::Path;
+pub use path::{Path, PathOf};
 pub use rules::broken;
 pub use sect_model::Pick;

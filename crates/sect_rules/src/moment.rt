@@ -11,7 +11,7 @@ ghost use Rattle.sect_model.specs.Choice.{subparts_of};
 ghost use Rattle.sect_model.specs.Counts.{count_of, used_of};
 ghost use Rattle.sect_model.specs.Allowed.{reservations_of, restrictions_of, holds_offering as has_offering, max_credits as most_credits, credits_held as credits_of_student};
 ghost use Rattle.sect_model.specs.Space.{places_at};
-ghost use Rattle.sect_model.specs.Premises.{MoveFits};
+ghost use Rattle.sect_model.specs.Stands.{MoveStands};
 ghost use Rattle.sect_model.specs.Rules.{world_at};
 
 use crate::held::{
@@ -19,7 +19,7 @@ use crate::held::{
     holds_made, made_by, max_credits,
 };
 use crate::overlap::lesser_of;
-use crate::path::Path;
+use crate::path::PathOf;
 use crate::place::{offering, subparts};
 use sect_base::{
     Choice, ConfigId, CourseId, Level, Move, OfferingId, ReservationId, SectionId, StudentId,
@@ -53,13 +53,13 @@ impl<'a> Model for Moment<'a> {
 
     ghost view = { λ m. record { at = moved m.world.now.world m.student m.give.now m.done.now; student = m.student } };
 
-    ghost invariant = { λ m. KeptWorld m.world.now.world × IsTrue (is_some (find_student m.world.now.world.students m.student)) × (length m.done.now ≤ 4) };
+    ghost invariant = { λ m. KeptWorld m.world.now.world × IsTrue (is_some (find_student m.world.now.world.students m.student)) × (length m.done.now ≤ 20) };
 }
 
 impl<'a> Moment<'a> {
     /// The world at the path of the move.
-    pub fn new(world: &'a World, mv: &'a Move, path: &'a Path) -> Moment<'a>
-        requires { MoveFits world.now.world mv.now }
+    pub fn new<const N: usize>(world: &'a World, mv: &'a Move, path: &'a PathOf<N>) -> Moment<'a>
+        requires { MoveStands world.now.world mv.now }
         ensures { result ≡ record { at = world_at world.now.world mv.now path.now; student = mv.now.student } }
     {
         world.is_kept();
@@ -159,7 +159,7 @@ impl<'a> Moment<'a> {
     /// The credits of the student's enrolments. Those held before are at most the maximum.
     pub fn credits_held(&self) -> u32
         ensures value { result ≡ credits_of_student self.now.at self.now.student }
-        ensures few { result ≤ 70000 }
+        ensures few { result ≤ 71000 }
     {
         let most = max_credits(self.world, self.student);
         let held = self.world.enrolments(self.student);

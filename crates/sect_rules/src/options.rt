@@ -10,7 +10,7 @@ ghost use Rattle.sect_model.specs.Path.{options_at, options_for, want_at, reserv
 ghost use Rattle.sect_rules.specs.Part.{is_of_part};
 
 use crate::nth::{nth, nth_reservation, part_len};
-use crate::path::Path;
+use crate::path::PathOf;
 use crate::place::{configs, next_sections, reservations};
 use sect_base::{ConfigId, CourseId, Move, SectionId, Want};
 use sect_model::Pick;
@@ -20,28 +20,33 @@ use sect_space::World;
 /// The option at a place: the want's courses as given, or the offering's reservations, obligatory
 /// ones first and each part by id, and behind them none, or its configurations by id, or the
 /// sections of the next subpart by id. None exactly past the last. It takes no memory.
-pub fn option(world: &World, mv: &Move, path: &Path, i: usize) -> Option<Pick>
+pub fn option<const N: usize>(world: &World, mv: &Move, path: &PathOf<N>, i: usize) -> Option<Pick>
     ensures value { result ≡ slice_get (options_at world.now.world mv.now path.now) i }
     ensures option { IfSome result (λ pick. Contains (options_at world.now.world mv.now path.now) pick) }
 {
     option_at(world, mv, path, i)
 }
 
-fn option_at(world: &World, mv: &Move, path: &Path, i: usize) -> Option<Pick>
+fn option_at<const N: usize>(world: &World, mv: &Move, path: &PathOf<N>, i: usize) -> Option<Pick>
     ensures { result ≡ slice_get (options_at world.now.world mv.now path.now) i }
 {
     option_for(world, want_of(mv, path)?, path, i)
 }
 
 /// The want that the path has come to, None where each has its choice.
-pub fn want_of<'a>(mv: &'a Move, path: &Path) -> Option<&'a Want>
+pub fn want_of<'a, const N: usize>(mv: &'a Move, path: &PathOf<N>) -> Option<&'a Want>
     ensures { option_copied result ≡ want_at mv.now path.now }
 {
     mv.take.as_slice().get(path.done().len())
 }
 
 /// The option at a place for this want.
-fn option_for(world: &World, want: &Want, path: &Path, i: usize) -> Option<Pick>
+fn option_for<const N: usize>(
+    world: &World,
+    want: &Want,
+    path: &PathOf<N>,
+    i: usize,
+) -> Option<Pick>
     ensures { result ≡ slice_get (options_for world.now.world want.now path.now.course path.now.reservation path.now.config path.now.sections) i }
 {
     match path.course() {

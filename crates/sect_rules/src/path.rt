@@ -8,7 +8,7 @@ ghost use Rattle.sect_model.specs.Path.{
   is_complete as has_all,
   options_at,
 };
-ghost use Rattle.sect_model.specs.Premises.{MoveFits};
+ghost use Rattle.sect_model.specs.Stands.{MoveStands};
 ghost use Rattle.sect_rules.specs.Added.{with_section};
 
 use crate::place::due;
@@ -17,12 +17,13 @@ use sect_model::Pick;
 use sect_space::World;
 use std::marker::Model;
 
-/// The choices that are complete, at most four, and the decisions for the next want. It lies in
-/// the value itself, so nothing that is done with it takes memory.
+/// The choices that are complete, at most N, and the decisions for the next want. It lies in the
+/// value itself, so nothing that is done with it takes memory.
 #[derive(Drop)]
-pub struct Path {
-    // Those behind the first `len` stand for nothing.
-    cells: [Choice; 4],
+pub struct PathOf<const N: usize> {
+    // Those behind the first `len` stand for nothing. Each function that reads another field names
+    // the cells first: the proof knows their type only there.
+    cells: [Choice; N],
     len: u8,
     course: Option<CourseId>,
     reservation: Option<Option<ReservationId>>,
@@ -30,7 +31,7 @@ pub struct Path {
     sections: Sections,
 }
 
-impl Model for Path {
+impl<const N: usize> Model for PathOf<N> {
     ghost use Rattle.std.specs.Prelude.{take, ◌≤◌};
     ghost use Rattle.sect_model.specs.Path.{Path as Value_of};
 
@@ -38,12 +39,16 @@ impl Model for Path {
 
     ghost view = { λ p. record { done = take p.len p.cells; course = p.course; reservation = p.reservation; config = p.config; sections = p.sections } };
 
-    ghost invariant = { λ p. p.len ≤ 4 };
+    ghost invariant = { λ p. (p.len ≤ N) × (N ≤ 20) };
 }
 
-impl Path {
+/// The path of a move that takes at most four.
+pub type Path = PathOf<4>;
+
+impl<const N: usize> PathOf<N> {
     /// The path with no decision.
-    pub fn start() -> Path
+    pub fn start() -> PathOf<N>
+        requires { N ≤ 20 }
         ensures { result ≡ start_path }
     {
         let nothing = Choice {
@@ -52,8 +57,8 @@ impl Path {
             config: ConfigId(0),
             sections: Sections::empty(),
         };
-        Path {
-            cells: [nothing; 4],
+        PathOf {
+            cells: [nothing; N],
             len: 0,
             course: None,
             reservation: None,
@@ -62,10 +67,11 @@ impl Path {
         }
     }
 
-    /// The choices that are complete, at most four.
+    /// The choices that are complete.
     pub fn done(&self) -> &[Choice]
         ensures value { result.now ≡ self.now.done }
-        ensures few { length result.now ≤ 4 }
+        ensures room { length result.now ≤ N }
+        ensures few { length result.now ≤ 20 }
     {
         &self.cells[..usize::from(self.len)]
     }
@@ -74,6 +80,7 @@ impl Path {
     pub fn course(&self) -> Option<CourseId>
         ensures { result ≡ self.now.course }
     {
+        let _ = &self.cells;
         self.course
     }
 
@@ -81,6 +88,7 @@ impl Path {
     pub fn reservation(&self) -> Option<Option<ReservationId>>
         ensures { result ≡ self.now.reservation }
     {
+        let _ = &self.cells;
         self.reservation
     }
 
@@ -88,6 +96,7 @@ impl Path {
     pub fn config(&self) -> Option<ConfigId>
         ensures { result ≡ self.now.config }
     {
+        let _ = &self.cells;
         self.config
     }
 
@@ -95,6 +104,7 @@ impl Path {
     pub fn sections(&self) -> Sections
         ensures { result ≡ self.now.sections }
     {
+        let _ = &self.cells;
         self.sections
     }
 
@@ -105,10 +115,11 @@ impl Path {
         mv.take.len() <= self.done().len()
     }
 
-    fn copied(&self) -> Path
+    fn copied(&self) -> PathOf<N>
         ensures { result ≡ self.now }
     {
-        let mut path = Path::start();
+        let _ = &self.cells;
+        let mut path = PathOf::start();
         for choice in self.done() {
             path.push(*choice);
         }
@@ -121,7 +132,7 @@ impl Path {
 
     /// Puts a choice behind those that are complete.
     fn push(&mut self, choice: Choice)
-        requires { length self.old.done < 4 }
+        requires { length self.old.done < N }
         ensures { self.new ≡ record self.old { done = self.old.done ++ choice ∷ [] } }
     {
         self.cells[usize::from(self.len)] = choice;
@@ -130,7 +141,7 @@ impl Path {
 
     /// Makes a choice of the decisions for the want, where a configuration was decided on.
     fn close(&mut self)
-        requires { length self.old.done < 4 }
+        requires { length self.old.done < N }
         ensures { self.new ≡ closed self.old self.old.course self.old.reservation self.old.config }
     {
         if let (Some(course), Some(reservation), Some(config)) = (
@@ -155,7 +166,7 @@ impl Path {
     /// due are there.
     fn add(&mut self, section: SectionId, due: usize)
         requires sections { length self.old.sections < 6 }
-        requires done { length self.old.done < 4 }
+        requires done { length self.old.done < N }
         ensures { self.new ≡ with_section due self.old section }
     {
         self.sections.push(section);
@@ -165,8 +176,8 @@ impl Path {
     }
 
     /// The path with one decision more, which is one of its options.
-    pub fn extended(&self, world: &World, mv: &Move, pick: Pick) -> Path
-        requires fits { MoveFits world.now.world mv.now }
+    pub fn extended(&self, world: &World, mv: &Move, pick: Pick) -> PathOf<N>
+        requires room { length mv.now.take ≤ N }
         requires option { Contains (options_at world.now.world mv.now self.now) pick }
         ensures { result ≡ extend world.now.world self.now pick }
     {

@@ -105,16 +105,17 @@ pub fn answers<R: AllocGlobal>(rt: &R, script: &[&str]) -> Result<bool, Memory> 
     ends(rt, &Case { script, ..RUN })
 }
 
-/// Whether `audit` over the keeper that a run of the parts left writes this text.
-pub fn is_audited<R: AllocGlobal>(rt: &R, script: &[&str], text: &str) -> Result<bool, Memory> {
+/// Whether these words, over the keeper that a run of the parts left, write this text and end Done.
+pub fn is_told<R: AllocGlobal>(
+    rt: &R,
+    script: &[&str],
+    words: &str,
+    text: &str,
+) -> Result<bool, Memory> {
     let alloc = rt.alloc();
     let script = script_of(alloc, script)?;
     let ended = run_desk(rt, &RUN, script.input)?;
     let keeper = ended.keeper.ok_or(Memory)?;
-    let audit = Case {
-        words: "audit",
-        ..RUN
-    };
-    let audited = run_over(rt, &audit, Vec::new(alloc), keeper)?;
-    Ok(audited.status == Status::Done && audited.sink.bytes() == text.as_bytes())
+    let told = run_over(rt, &Case { words, ..RUN }, Vec::new(alloc), keeper)?;
+    Ok(told.status == Status::Done && told.sink.bytes() == text.as_bytes())
 }

@@ -3,4 +3,6 @@
 mod ends;
 mod found;
 mod held;
+mod lengths;
 mod rules;
+mod told;

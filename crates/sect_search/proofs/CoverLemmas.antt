@@ -1,6 +1,7 @@
 -- Trees beside options, place by place.
-use Rattle.std.specs.Prelude.{◌≡◌, ℕ, zero, suc, ◌+◌, ◌<◌, ◌≤◌, Bool, false, ◌&&◌, ◌==◌, List, [], ◌∷◌, length, Some, None, slice_get, refl}
-use Rattle.std.proofs.Common.{◌∙◌, ap, arith, drop}
+use Rattle.std.specs.Prelude.{◌≡◌, ℕ, zero, suc, ◌+◌, ◌<◌, ◌≤◌, Bool, false, ◌&&◌, ◌==◌, List, [], ◌∷◌, length, Option, Some, None, slice_get, option_copied, IfSome, refl}
+use Rattle.std.specs.Borrow.{Bor}
+use Rattle.std.proofs.Common.{sym, ◌∙◌, ap, arith, drop}
 use Rattle.std.proofs.lemmas.Bool.Decides.{nat_tests}
 use Rattle.sect_base.specs.Tree.{Tree, trees_of, size_of, sizes_of}
 use Rattle.sect_model.specs.Data.{Move}
@@ -18,6 +19,10 @@ size-got (u ∷ us) zero t h = let same : size_of u ≡ size_of t = ap size_of (
     some-same : {X : Type 0} (x y : X) → Some x ≡ Some y → x ≡ y
     some-same x y e = cc
 size-got (u ∷ us) (suc i) t h = omega (arith, size-got us i t h)
+
+pub size-at : (ts : List Tree) (i : ℕ) (o : Option (Bor Tree)) → option_copied o ≡ slice_get ts i → IfSome o (λ t. size_of t.now < sizes_of (trees_of ts))
+size-at ts i None e = tt
+size-at ts i (Some t) e = size-got ts i t.now (sym e)
 
 module _ (w : World) (mv : Move) (p : Path) (options : List Pick) (trees : List Tree) where
   -- from a place on

@@ -11,6 +11,7 @@ use Rattle.sect_model.specs.Rules.{leaf_of}
 use Rattle.sect_model.specs.Visits.{most_decisions}
 use Rattle.sect_model.specs.Walk.{Walked, behind, found_after, below_or, go_on, by_leaf, walk_options, walk_from, walk_of, told_by}
 use Rattle.sect_model.proofs.WalkLemmas.{walks-answer}
+use Rattle.sect_model.proofs.StandLemmas.{stands}
 use Rattle.sect_search.specs.Nodes.{nodes_of, nodes_in, BlockedIsSmall}
 
 -- where nothing was found, the trees have a node for each visit
@@ -59,7 +60,7 @@ told None r tree visits h e =
     ap nodes_of (sym same.0) ∙ ap (λ n. n + 1) (h refl ∙ same.1)
 
 pub blocked-is-small : BlockedIsSmall
-blocked-is-small w mv budget visits tree keeps fits e = by_test (nat_lt budget (walk_of w mv).visits) (sym (walks-answer w mv budget keeps fits) ∙ e)
+blocked-is-small w mv budget visits tree keeps standing e = by_test (nat_lt budget (walk_of w mv).visits) (sym (walks-answer w mv budget keeps standing) ∙ e)
   where
     by_test : (b : Bool) → cond b (Spent budget) (told_by (walk_of w mv).found (walk_of w mv)) ≡ Blocked tree visits → nodes_of tree ≡ visits + 1
     by_test true e = cc

@@ -1,5 +1,5 @@
 -- A tree that covers nests at most as deep as decisions can follow, and each split in it has a tree.
-use Rattle.std.specs.Prelude.{◌≡◌, ℕ, zero, suc, ◌+◌, ◌*◌, ◌≤◌, nat_le, Bool, true, false, not, ◌&&◌, cond, List, [], ◌∷◌, ◌++◌, length, map, find, flat_map, Option, Some, None, slice_get, Contains, Result, Ok, Err, IfOk, refl}
+use Rattle.std.specs.Prelude.{◌≡◌, ℕ, zero, suc, ◌+◌, ◌*◌, ◌≤◌, nat_le, Bool, true, false, not, ◌&&◌, cond, List, [], ◌∷◌, ◌++◌, length, map, find, flat_map, Option, Some, None, slice_get, Contains, Result, Ok, Err, IfOk, IsTrue, refl}
 use Rattle.std.specs.List.{list_any, list_all}
 use Rattle.std.specs.Bool.{then_some}
 use Rattle.std.specs.Option.{is_none, is_some, option_map, option_map_or, option_or}
@@ -20,19 +20,21 @@ use Rattle.sect_model.specs.Choice.{config_of, subparts_of}
 use Rattle.sect_model.specs.Path.{Path, start, want_at, options_for, options_at, config_options, section_options, extend, is_complete}
 use Rattle.sect_model.specs.Rules.{leaf_of}
 use Rattle.sect_model.specs.Covers.{covers, covers_with, cover_each}
-use Rattle.sect_model.specs.Premises.{WorldKeeps, MoveFits, courses_known, is_sized}
+use Rattle.sect_model.specs.Stands.{MoveStands}
+use Rattle.sect_model.specs.Premises.{WorldKeeps, courses_known, is_sized}
 use Rattle.sect_model.proofs.CheckedLemmas.{passed, checked-each, checked-size, checked-order, found-differ, third-none}
 use Rattle.sect_model.proofs.CoverLemmas.{not_true, not_both, both-left, both-right}
 use Rattle.sect_model.proofs.ListLemmas.{any-sorted, found-all, got-all, contains-more}
 use Rattle.sect_model.proofs.PathLemmas.{good, config-all, one-step, option-fits, no-option}
 use Rattle.sect_model.proofs.RefutationLemmas.{above, all-flat_map, none-found, count_at, nearer}
 use Rattle.sect_model.proofs.RefutedLemmas.{blocked-refutes}
+use Rattle.sect_model.proofs.StandLemmas.{stands}
 use Rattle.sect_model.proofs.StageLemmas.{open_path, stage_fits, pick_fits, asked_by, own_at}
 use Rattle.sect_model.proofs.Tests.{rows_in_order, rows_in_size, found_by_id}
 use Rattle.sect_model.specs.declared.pick.Outcome.{Outcome}
 use Rattle.sect_model.specs.declared.pick.Outcome.TheVariants.{Found, Blocked, Spent}
 use Rattle.sect_model.specs.Outcome.{outcome_of}
-use Rattle.sect_search.specs.Texts.{HasNumbers, HaveNumbers, CoverHasText, BlockedHasText, IsTold}
+use Rattle.sect_search.specs.Texts.{HasNumbers, HaveNumbers, CoverHasText, BlockedHasText, IsToldIn, IsTold}
 use Rattle.sect_search.specs.Told.{OutcomeNumbers}
 
 -- ---- lists that aren't empty
@@ -298,32 +300,67 @@ module _ (w : World) (mv : Move) where
     stands-start : Stands start
     stands-start = record { fits = refl; few = omega arith; left = refl }
 
-    text-of : (tree : Tree) → length mv.take ≤ 4 → covers w mv tree ≡ true → HasNumbers tree → HasText 36 tree
-    text-of (broken rule number) few h small = small
-    text-of (split ts) few h small =
-        as-split ts 35 start (options_at w mv start)
+    text-of : (n : ℕ) (tree : Tree) → 9 * length mv.take ≤ n → covers w mv tree ≡ true → HasNumbers tree → HasText n tree
+    text-of n (broken rule number) few h small = small
+    text-of zero (split ts) few h small =
+        absurd (one-more start stands-start (not_true (is_complete mv start) (both-left (not (is_complete mv start)) (cover_each w mv start (options_at w mv start) ts) h))
+        (omega (arith, few)))
+    text-of (suc n) (split ts) few h small =
+        as-split ts n start (options_at w mv start)
         (open-some start stands-start (not_true (is_complete mv start) (both-left (not (is_complete mv start)) (cover_each w mv start (options_at w mv start) ts) h)))
         (both-right (not (is_complete mv start)) (cover_each w mv start (options_at w mv start) ts) h)
-        (texts-of ts 35 start (options_at w mv start)
-        (λ next c. (stands-next start next stands-start c, enough-next 35 start next stands-start c (omega (arith, few))))
+        (texts-of ts n start (options_at w mv start)
+        (λ next c. (stands-next start next stands-start c, enough-next n start next stands-start c (omega (arith, few))))
         (both-right (not (is_complete mv start)) (cover_each w mv start (options_at w mv start) ts) h)
         small)
 
+pub cover-in : (w : World) (mv : Move) (n : ℕ) (tree : Tree) → 9 * length mv.take ≤ n → WorldKeeps w → MoveStands w mv → IsTrue (covers w mv tree) → HasNumbers tree → HasText n tree
+cover-in w mv n tree few keeps standing h small =
+    text-of w mv (checked-size w.catalogue.rows keeps.checked) (checked-order w.catalogue.rows keeps.checked) (found-differ w keeps.reservations_differ) standing.courses
+    standing.sized (configs-some w.catalogue.rows keeps.checked) (sections-some w.catalogue.rows keeps.checked) n tree few h small
+
 pub cover-has-text : CoverHasText
-cover-has-text w mv tree keeps fits h small =
-    text-of w mv (checked-size w.catalogue.rows keeps.checked) (checked-order w.catalogue.rows keeps.checked) (found-differ w keeps.reservations_differ) fits.courses
-    fits.sized (configs-some w.catalogue.rows keeps.checked) (sections-some w.catalogue.rows keeps.checked) tree fits.few_taken h small
+cover-has-text w mv tree keeps standing h small = cover-in w mv (9 * length mv.take) tree (omega arith) keeps standing h small
 
 pub blocked-has-text : BlockedHasText
-blocked-has-text w mv budget visits tree keeps fits e small = cover-has-text w mv tree keeps fits (blocked-refutes w mv budget visits tree keeps fits e).0 small
+blocked-has-text w mv budget visits tree keeps standing e small =
+    cover-has-text w mv tree keeps standing (blocked-refutes w mv budget visits tree keeps standing e).0 small
 
 -- an outcome with numbers of 32 bits is told
-pub outcome-told : (w : World) (mv : Move) (budget : ℕ) (o : Outcome) → WorldKeeps w → MoveFits w mv → o ≡ outcome_of w mv budget → OutcomeNumbers o → IsTold o
-outcome-told w mv budget (Found choices visits) keeps fits e small = tt
-outcome-told w mv budget (Blocked tree visits) keeps fits e small = blocked-has-text w mv budget visits tree keeps fits (sym e) small
-outcome-told w mv budget (Spent visits) keeps fits e small = tt
+pub outcome-told : (w : World) (mv : Move) (budget : ℕ) (o : Outcome) → WorldKeeps w → MoveStands w mv → o ≡ outcome_of w mv budget → OutcomeNumbers o → IsToldIn (9 * length mv.take) o
+outcome-told w mv budget (Found choices visits) keeps standing e small = tt
+outcome-told w mv budget (Blocked tree visits) keeps standing e small =
+    blocked-has-text w mv budget visits tree keeps standing (sym e) small
+outcome-told w mv budget (Spent visits) keeps standing e small = tt
 
-pub result-told : {E : Type 0} (w : World) (mv : Move) (budget : ℕ) (r : Result Outcome E) → WorldKeeps w → MoveFits w mv
-    → IfOk r (λ o. o ≡ outcome_of w mv budget) → IfOk r OutcomeNumbers → IfOk r IsTold
-result-told w mv budget (Ok o) keeps fits e small = outcome-told w mv budget o keeps fits e small
-result-told w mv budget (Err x) keeps fits e small = tt
+pub result-told : {E : Type 0} (w : World) (mv : Move) (budget : ℕ) (r : Result Outcome E) → WorldKeeps w → MoveStands w mv
+    → IfOk r (λ o. o ≡ outcome_of w mv budget) → IfOk r OutcomeNumbers → IfOk r (IsToldIn (9 * length mv.take))
+result-told w mv budget (Ok o) keeps standing e small = outcome-told w mv budget o keeps standing e small
+result-told w mv budget (Err x) keeps standing e small = tt
+
+-- ---- more brackets
+
+mutual
+  more-text : (m n : ℕ) (t : Tree) → m ≤ n → HasText m t → HasText n t
+  more-text m n (broken rule number) few h = h
+  more-text zero n (split ts) few h = absurd h
+  more-text (suc m) zero (split ts) few h = absurd (omega (arith, few))
+  more-text (suc m) (suc n) (split none) few h = absurd h
+  more-text (suc m) (suc n) (split (more t ts)) few h = (more-text m n t (omega (arith, few)) h.0, more-texts m n ts (omega (arith, few)) h.1)
+
+  more-texts : (m n : ℕ) (ts : Trees) → m ≤ n → HaveTexts m ts → HaveTexts n ts
+  more-texts m n none few h = tt
+  more-texts m n (more t ts) few h = (more-text m n t few h.0, more-texts m n ts few h.1)
+
+told-more : (m n : ℕ) (o : Outcome) → m ≤ n → IsToldIn m o → IsToldIn n o
+told-more m n (Found choices visits) few h = tt
+told-more m n (Blocked tree visits) few h = more-text m n tree few h
+told-more m n (Spent visits) few h = tt
+
+nine : (n : ℕ) → n ≤ 4 → 9 * n ≤ 36
+nine n few = omega (arith, few)
+
+-- at most four wants
+pub told-four : {E : Type 0} (n : ℕ) (r : Result Outcome E) → n ≤ 4 → IfOk r (IsToldIn (9 * n)) → IfOk r IsTold
+told-four n (Ok o) few h = told-more (9 * n) 36 o (nine n few) h
+told-four n (Err x) few h = tt

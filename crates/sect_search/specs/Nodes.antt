@@ -5,7 +5,8 @@ use Rattle.sect_model.specs.Data.{Move}
 use Rattle.sect_model.specs.declared.pick.Outcome.TheVariants.{Blocked}
 use Rattle.sect_model.specs.World.{World}
 use Rattle.sect_model.specs.Outcome.{outcome_of}
-use Rattle.sect_model.specs.Premises.{WorldKeeps, MoveFits}
+use Rattle.sect_model.specs.Premises.{WorldKeeps}
+use Rattle.sect_model.specs.Stands.{MoveStands}
 
 abbrev mutual
   -- the number of leaves and splits of a tree
@@ -21,5 +22,5 @@ abbrev mutual
 -- the tree of a blocked search has a node for each visit, and its root
 abbrev pub BlockedIsSmall : Type 0
 BlockedIsSmall =
-    (w : World) (mv : Move) (budget visits : ℕ) (tree : Tree) → WorldKeeps w → MoveFits w mv
+    (w : World) (mv : Move) (budget visits : ℕ) (tree : Tree) → WorldKeeps w → MoveStands w mv
     → outcome_of w mv budget ≡ Blocked tree visits → nodes_of tree ≡ visits + 1

@@ -3,16 +3,17 @@
 ghost use Rattle.std.specs.Prelude.{◌≡◌, ◌+◌, ◌*◌, ◌≤◌, length, IfOk};
 ghost use Rattle.sect_model.specs.Outcome.{outcome_of};
 ghost use Rattle.sect_model.specs.Premises.{MoveFits};
+ghost use Rattle.sect_model.specs.Stands.{MoveStands};
 ghost use Rattle.sect_model.specs.Search.{search_of, searched_outcome};
 ghost use Rattle.sect_model.specs.Visits.{most_decisions};
-ghost use Rattle.sect_search.specs.Texts.{IsTold};
+ghost use Rattle.sect_search.specs.Texts.{IsTold, IsToldIn};
 ghost use Rattle.sect_search.specs.Told.{OutcomeNumbers};
 
 use crate::walk::below;
 use crate::walked::Walked;
 use sect_base::{Block, Budget, Items, Memory, Move};
 use sect_model::Outcome;
-use sect_rules::Path;
+use sect_rules::PathOf;
 use sect_space::World;
 use sect_steps::Steps;
 use std::alloc::Global;
@@ -35,17 +36,43 @@ pub fn search<L: Ledger>(
     ensures text { IfOk result IsTold }
     ensures steps { steps.new ≡ steps.old + 1 }
 {
-    steps.tick();
-    world.is_kept();
-    find(alloc, world, mv, budget)
+    search_in::<4, L>(alloc, world, mv, budget, steps)
 }
 
-fn find(alloc: Global, world: &World, mv: &Move, budget: Budget) -> Result<Outcome, Memory>
-    requires { MoveFits world.now.world mv.now }
+/// The same for a move that takes at most N. The tree has at most nine brackets round a leaf for
+/// each want.
+pub fn search_in<const N: usize, L: Ledger>(
+    alloc: Global,
+    world: &World,
+    mv: &Move,
+    budget: Budget,
+    steps: &mut Steps<L>,
+) -> Result<Outcome, Memory>
+    requires stands { MoveStands world.now.world mv.now }
+    requires room { length mv.now.take ≤ N }
+    requires limit { N ≤ 20 }
+    ensures outcome { IfOk result (λ outcome. outcome ≡ outcome_of world.now.world mv.now budget) }
+    ensures text { IfOk result (IsToldIn (9 * length mv.now.take)) }
+    ensures steps { steps.new ≡ steps.old + 1 }
+{
+    steps.tick();
+    world.is_kept();
+    find::<N>(alloc, world, mv, budget)
+}
+
+fn find<const N: usize>(
+    alloc: Global,
+    world: &World,
+    mv: &Move,
+    budget: Budget,
+) -> Result<Outcome, Memory>
+    requires stands { MoveStands world.now.world mv.now }
+    requires room { length mv.now.take ≤ N }
+    requires limit { N ≤ 20 }
     ensures numbers { IfOk result OutcomeNumbers }
     ensures found { IfOk result (λ outcome. outcome ≡ searched_outcome budget (search_of world.now.world mv.now budget)) }
 {
-    let start = Path::start();
+    let start = PathOf::<N>::start();
     if start.is_complete(mv) {
         return Ok(Outcome::Found(Items::from_vec(Vec::new(alloc)), 0));
     }
@@ -61,7 +88,7 @@ fn find(alloc: Global, world: &World, mv: &Move, budget: Budget) -> Result<Outco
 
 /// The most decisions of a path: nine for each want.
 fn decisions(mv: &Move) -> u32
-    requires { length mv.now.take ≤ 4 }
+    requires { length mv.now.take ≤ 20 }
     ensures { result ≡ most_decisions mv.now }
 {
     9 * mv.take.len() as u32

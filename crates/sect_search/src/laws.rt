@@ -8,8 +8,8 @@ pub fn a_tree_has_a_node_for_each_visit()
     ensures { BlockedIsSmall }
 {}
 
-/// A tree that refutes a move has at most 36 brackets round a leaf, and no split without a tree. So it has a text where
-/// its numbers have 32 bits.
+/// A tree that refutes a move has at most nine brackets round a leaf for each want, 36 for four, and no split without a
+/// tree. So it has a text where its numbers have 32 bits.
 pub fn a_tree_has_a_text()
     ensures blocked { BlockedHasText }
     ensures covers { CoverHasText }

@@ -7,6 +7,6 @@ mod verifying;
 mod walk;
 mod walked;
 
-pub use finding::search;
+pub use finding::{search, search_in};
 pub use sect_model::Outcome;
-pub use verifying::verify;
+pub use verifying::{verify, verify_in};

@@ -1,15 +1,16 @@
 // Whether a tree refutes every choice.
 
-ghost use Rattle.std.specs.Prelude.{◌≡◌, Contains, IsTrue, slice_get, option_copied};
+ghost use Rattle.std.specs.Prelude.{◌≡◌, ◌<◌, ◌≤◌, length, IfSome, Contains, IsTrue, slice_get, option_copied};
 ghost use Rattle.sect_base.specs.TreeOf.{tree_of};
-ghost use Rattle.sect_base.specs.Tree.{trees_of};
+ghost use Rattle.sect_base.specs.Tree.{split, trees_of, size_of, sizes_of};
 ghost use Rattle.sect_model.specs.Covers.{covers, covers_with, cover_each, is_leaf};
 ghost use Rattle.sect_model.specs.Path.{options_at};
 ghost use Rattle.sect_model.specs.Premises.{MoveFits};
+ghost use Rattle.sect_model.specs.Stands.{MoveStands};
 ghost use Rattle.sect_search.specs.Refutes.{NoMove};
 
 use sect_base::{Block, Move, Node, Rule};
-use sect_rules::{Path, Pick, broken, option};
+use sect_rules::{PathOf, Pick, broken, option};
 use sect_space::World;
 
 /// Whether the tree covers the path with no decision: it has one child for each option, a leaf is
@@ -21,16 +22,29 @@ pub fn verify(world: &World, mv: &Move, tree: &Block) -> bool
     ensures covers { result ≡ covers world.now.world mv.now tree.now }
     ensures refutes { IsTrue result → NoMove world.now.world mv.now }
 {
+    verify_in::<4>(world, mv, tree)
+}
+
+/// The same for a move that takes at most N.
+pub fn verify_in<const N: usize>(world: &World, mv: &Move, tree: &Block) -> bool
+    requires stands { MoveStands world.now.world mv.now }
+    requires room { length mv.now.take ≤ N }
+    requires limit { N ≤ 20 }
+    ensures covers { result ≡ covers world.now.world mv.now tree.now }
+    ensures refutes { IsTrue result → NoMove world.now.world mv.now }
+{
     world.is_kept();
-    covers_all(world, mv, tree)
+    covers_all::<N>(world, mv, tree)
 }
 
 /// Whether the tree covers the path with no decision.
-fn covers_all(world: &World, mv: &Move, tree: &Block) -> bool
-    requires { MoveFits world.now.world mv.now }
+fn covers_all<const N: usize>(world: &World, mv: &Move, tree: &Block) -> bool
+    requires stands { MoveStands world.now.world mv.now }
+    requires room { length mv.now.take ≤ N }
+    requires limit { N ≤ 20 }
     ensures { result ≡ covers world.now.world mv.now tree.now }
 {
-    let start = Path::start();
+    let start = PathOf::<N>::start();
     match tree.node() {
         Node::Broken(_, _) => false,
         Node::Split(trees) => !start.is_complete(mv) && cover(world, mv, &start, trees),
@@ -38,9 +52,26 @@ fn covers_all(world: &World, mv: &Move, tree: &Block) -> bool
 }
 
 fn tree_at(trees: &[Block], at: usize) -> Option<&Block>
+    ensures value { option_copied result ≡ slice_get trees.now at }
+    ensures smaller { IfSome result (λ tree. size_of tree.now < sizes_of (trees_of trees.now)) }
+{
+    tree_in(trees, at)
+}
+
+fn tree_in(trees: &[Block], at: usize) -> Option<&Block>
     ensures { option_copied result ≡ slice_get trees.now at }
 {
     trees.get(at)
+}
+
+/// The trees of a split, which are smaller than it.
+fn below<'a>(tree: &Block, trees: &'a Vec<Block>) -> &'a [Block]
+    requires { tree.now ≡ split (trees_of trees.now.items) }
+    ensures value { result.now ≡ trees.now.items }
+    ensures smaller { sizes_of (trees_of result.now) < size_of tree.now }
+{
+    let _ = tree;
+    trees.as_slice()
 }
 
 /// Whether the leaf is this rule with this number.
@@ -55,8 +86,15 @@ fn is_same(leaf: Option<(Rule, u32)>, rule: Rule, number: u32) -> bool
 
 /// Whether the tree covers the path with one decision more.
 #[cycle(covering)]
-fn covers_pick(world: &World, mv: &Move, path: &Path, pick: Pick, tree: &Block) -> bool
-    requires fits { MoveFits world.now.world mv.now }
+fn covers_pick<const N: usize>(
+    world: &World,
+    mv: &Move,
+    path: &PathOf<N>,
+    pick: Pick,
+    tree: &Block,
+) -> bool
+    requires stands { MoveStands world.now.world mv.now }
+    requires room { length mv.now.take ≤ N }
     requires option { Contains (options_at world.now.world mv.now path.now) pick }
     ensures { result ≡ covers_with world.now.world mv.now path.now pick tree.now }
 {
@@ -68,6 +106,7 @@ fn covers_pick(world: &World, mv: &Move, path: &Path, pick: Pick, tree: &Block) 
                 return false;
             }
             let next = path.extended(world, mv, pick);
+            let trees = below(tree, trees);
             !next.is_complete(mv) && cover(world, mv, &next, trees)
         }
     }
@@ -75,8 +114,9 @@ fn covers_pick(world: &World, mv: &Move, path: &Path, pick: Pick, tree: &Block) 
 
 /// Whether there are as many trees as options, and each covers its option.
 #[cycle(covering)]
-fn cover(world: &World, mv: &Move, path: &Path, trees: &[Block]) -> bool
-    requires { MoveFits world.now.world mv.now }
+fn cover<const N: usize>(world: &World, mv: &Move, path: &PathOf<N>, trees: &[Block]) -> bool
+    requires stands { MoveStands world.now.world mv.now }
+    requires room { length mv.now.take ≤ N }
     ensures { result ≡ cover_each world.now.world mv.now path.now (options_at world.now.world mv.now path.now) (trees_of trees.now) }
 {
     let mut at = 0;

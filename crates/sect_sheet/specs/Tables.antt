@@ -1,5 +1,5 @@
 -- The rows of each table as fields, and the text of a table.
-use Rattle.std.specs.Prelude.{ℕ, ◌+◌, List, [], ◌∷◌, ◌++◌, codes, decimal, map, option_map}
+use Rattle.std.specs.Prelude.{ℕ, ◌+◌, List, [], ◌∷◌, ◌++◌, codes, decimal}
 use Rattle.std.specs.List.{flat_map}
 use Rattle.csv.specs.Writing.{default_writer, row_text}
 use Rattle.sect_base.specs.declared.ids.StudentId.{StudentId}
@@ -16,7 +16,8 @@ use Rattle.sect_command.specs.declared.view.Table.TheVariants.{Offerings as offe
 use Rattle.sect_command.specs.declared.view.View.{View}
 use Rattle.sect_command.specs.declared.view.View.TheVariants.{Offerings, Students, Requests, Reservations}
 use Rattle.sect_time.specs.MeetingText.{meeting_text}
-use Rattle.sect_words.specs.Words.{audience_text, course_row_text, curriculum_text, flag_text, limit_text, list_text, optional_day_text, optional_text, plus_text}
+use Rattle.sect_words.specs.Days.{day_text}
+use Rattle.sect_words.specs.Words.{audience_text, course_row_text, course_text, curriculum_text, flag_text, limit_text, list_text, optional_text, section_text}
 
 -- the names of a table's fields
 abbrev pub header : Table → List (List ℕ)
@@ -32,20 +33,20 @@ header reservations =
 -- a section with all in which it stands
 abbrev pub section_fields : OfferingRow → ConfigRow → SubpartRow → SectionRow → List (List ℕ)
 section_fields o g p s =
-    decimal o.id.0 ∷ plus_text (map course_row_text o.courses) ∷ decimal g.id.0 ∷ limit_text g.limit
-    ∷ decimal p.id.0 ∷ decimal s.id.0 ∷ limit_text s.limit ∷ optional_text (option_map (λ id. id.0) s.parent)
-    ∷ plus_text (map meeting_text s.meetings) ∷ []
+    decimal o.id.0 ∷ list_text 43 course_row_text o.courses ∷ decimal g.id.0 ∷ limit_text g.limit
+    ∷ decimal p.id.0 ∷ decimal s.id.0 ∷ limit_text s.limit ∷ optional_text section_text s.parent
+    ∷ list_text 43 meeting_text s.meetings ∷ []
 
 -- a student
 abbrev pub student_fields : StudentRow → List (List ℕ)
 student_fields s =
-    decimal s.id.0 ∷ decimal s.max_credits ∷ plus_text (map (λ id. decimal id.0) s.groups)
-    ∷ list_text 59 (map curriculum_text s.curricula) ∷ []
+    decimal s.id.0 ∷ decimal s.max_credits ∷ list_text 43 (λ id. decimal id.0) s.groups
+    ∷ list_text 59 curriculum_text s.curricula ∷ []
 
 -- a request of a student at a position
 abbrev pub ask_fields : StudentId → ℕ → Ask → List (List ℕ)
 ask_fields student rank (Course ask) =
-    decimal student.0 ∷ decimal rank ∷ codes "course" ∷ plus_text (map (λ id. decimal id.0) ask.courses)
+    decimal student.0 ∷ decimal rank ∷ codes "course" ∷ list_text 43 course_text ask.courses
     ∷ flag_text ask.wait ∷ flag_text ask.substitute ∷ []
 ask_fields student rank (Free meeting) =
     decimal student.0 ∷ decimal rank ∷ codes "free" ∷ meeting_text meeting ∷ codes "0" ∷ codes "0" ∷ []
@@ -53,10 +54,10 @@ ask_fields student rank (Free meeting) =
 -- a reservation
 abbrev pub reservation_fields : Reservation → List (List ℕ)
 reservation_fields r =
-    decimal r.id.0 ∷ decimal r.offering.0 ∷ audience_text r.audience ∷ limit_text r.limit ∷ optional_day_text r.expiry
-    ∷ plus_text (map (λ id. decimal id.0) r.includes.configs)
-    ∷ plus_text (map (λ place. decimal place.section.0) r.includes.sections)
-    ∷ flag_text r.over ∷ flag_text r.overlap ∷ flag_text r.must ∷ optional_day_text r.first ∷ []
+    decimal r.id.0 ∷ decimal r.offering.0 ∷ audience_text r.audience ∷ limit_text r.limit ∷ optional_text day_text r.expiry
+    ∷ list_text 43 (λ id. decimal id.0) r.includes.configs
+    ∷ list_text 43 (λ place. decimal place.section.0) r.includes.sections
+    ∷ flag_text r.over ∷ flag_text r.overlap ∷ flag_text r.must ∷ optional_text day_text r.first ∷ []
 
 -- a row as it is written
 abbrev pub written : List (List ℕ) → List ℕ

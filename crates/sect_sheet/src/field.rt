@@ -7,10 +7,7 @@ use sect_base::{ConfigId, CourseId, Curriculum, GroupId, Limit, Memory, SectionI
 use sect_catalog::CourseRow;
 use sect_reserve::{Audience, Place};
 use sect_time::{Day, Meeting};
-use sect_words::{
-    Spelled, print_audience, print_limit, print_list, print_number, print_optional,
-    print_optional_day, print_text,
-};
+use sect_words::{Spelled, print_list, print_number, print_text};
 
 /// A field of a row.
 #[derive(Clone, Copy)]
@@ -44,18 +41,18 @@ pub(crate) fn print_field(field: &Field, into: &mut Vec<u8>) -> Result<(), Memor
     match field {
         Field::Name(name) => print_text(name, into),
         Field::Number(number) => print_number(*number, into),
-        Field::Parent(section) => print_optional(section.map(|id| u64::from(id.0)), into),
-        Field::Places(limit) => print_limit(*limit, into),
+        Field::Parent(section) => section.print(into),
+        Field::Places(limit) => limit.print(into),
         Field::Flag(true) => print_text("1", into),
         Field::Flag(false) => print_text("0", into),
-        Field::Date(day) => print_optional_day(*day, into),
+        Field::Date(day) => day.print(into),
         Field::Courses(rows) => print_list(b'+', rows, into),
         Field::Meets(meeting) => meeting.print(into),
         Field::Times(meetings) => print_list(b'+', meetings, into),
         Field::Groups(ids) => print_list(b'+', ids, into),
         Field::Curricula(rows) => print_list(b';', rows, into),
         Field::Any(ids) => print_list(b'+', ids, into),
-        Field::For(audience) => print_audience(audience, into),
+        Field::For(audience) => audience.print(into),
         Field::Configs(ids) => print_list(b'+', ids, into),
         Field::Sections(places) => print_list(b'+', places, into),
     }

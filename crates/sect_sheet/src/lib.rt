@@ -8,6 +8,3 @@ mod sheet;
 mod table;
 
 pub use table::export;
-
-#[cfg(test)]
-mod tests;

@@ -21,7 +21,7 @@ use Rattle.sect_model.specs.Kept.{KeptWorld, includes_fit, lists_own}
 use Rattle.sect_model.proofs.Members.{Member, all-at, find-member, known-test, member-filter, not_both, any-at, both, both-left, both-right, count-le}
 use Rattle.sect_model.proofs.CheckedLemmas.{checked-each, passed, faultless}
 use Rattle.sect_model.proofs.RowLemmas.{rows-few}
-use Rattle.sect_model.proofs.SizeLemmas.{roster-is-small, at-most-classes, sum-bound, enrolled_in, at-most-one}
+use Rattle.sect_model.proofs.SizeLemmas.{at-most-classes, sum-bound, enrolled_in, at-most-one}
 use Rattle.sect_model.proofs.Standing.{standing}
 use Rattle.sect_model.proofs.Easy.{sound}
 
@@ -30,10 +30,6 @@ trans h i = omega (arith, h, i)
 
 pub part-le : {X : Type 0} (p : X → Bool) (xs : List X) → length (filter p xs) ≤ length xs
 part-le p xs = subst (λ n. n ≤ length xs) (sym (length-filter p xs)) (count_by-le-length p xs)
-
--- a part of the roster is small
-pub part-small : (w : World) → KeptWorld w → (p : Enrolment → Bool) → length (filter p w.roster) ≤ 1000000000
-part-small w k p = trans (part-le p w.roster) (roster-is-small w k)
 
 -- ---- configurations of an offering
 

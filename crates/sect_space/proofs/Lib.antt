@@ -3,6 +3,7 @@ pub mod Lengths
 pub mod LimitBack
 pub mod Lists
 pub mod MarkLemmas
+pub mod NumberLemmas
 pub mod ReadyLemmas
 pub mod Steps
 pub mod StudentBack

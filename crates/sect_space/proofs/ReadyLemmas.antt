@@ -41,7 +41,7 @@ use Rattle.sect_roster.proofs.PlaceLemmas.{put-one-back, place-left}
 use Rattle.sect_space.specs.Back.{back_of, no_change, offering_id, reservation_offering, cap_offering}
 use Rattle.sect_space.specs.declared.back.Back.TheVariants.{StudentAdded, StudentReplaced, RequestsReplaced, ReservationRemoved, ExpiryReplaced, RestrictionRemoved, LimitReplaced, Left}
 use Rattle.sect_space.specs.Roomed.{Roomed}
-use Rattle.sect_space.specs.Room.{HasRoom}
+use Rattle.sect_space.specs.Room.{HasLists}
 use Rattle.sect_space.specs.Made.{Ready}
 use Rattle.sect_space.proofs.Bounds.{held-once}
 use Rattle.sect_space.proofs.TakenBack.{new_restriction_id, known_limit}
@@ -105,9 +105,9 @@ limit-after rows (cap_section id) limit h =
 
 -- ---- each change
 
-module _ (w : World) (k : KeptWorld w) (spare reservation_spare restriction_spare : ℕ) where
+module _ (w : World) (k : KeptWorld w) (spare reservation_spare restriction_spare : ℕ) (counted : List ℕ) where
   abbrev in_room : World → Roomed
-  in_room v = record { world = v; spare = spare; reservation_spare = reservation_spare; restriction_spare = restriction_spare }
+  in_room v = record { world = v; spare = spare; reservation_spare = reservation_spare; restriction_spare = restriction_spare; counted_ids = counted }
 
   -- another row keeps the student's id
   row-key : (row : StudentRow) (s : Student) → (with_row row s).row.id.0 ≡ s.row.id.0
@@ -139,7 +139,7 @@ module _ (w : World) (k : KeptWorld w) (spare reservation_spare restriction_spar
   requests-ready student asks None e h = absurd (not_both false h refl)
   requests-ready student asks (Some s) e h = known-after (λ x. x.row.id.0) (with_asks student asks) student.0 w.students (asks-key student asks) ∙ ap is_some e
 
-  unreserve-ready : (id : ReservationId) (o : Option Reservation) → reservation_of w id ≡ o → is_some o ≡ true → HasRoom (in_room (drop_reservation w id)) w
+  unreserve-ready : (id : ReservationId) (o : Option Reservation) → reservation_of w id ≡ o → is_some o ≡ true → HasLists (in_room (drop_reservation w id)) w
       → Ready (in_room (drop_reservation w id)) (option_map_or (ReservationRemoved (position_or_len (λ r. r.id.0 == id.0) w.reservations)) o (no_change w))
   unreserve-ready id None e h room = absurd (not_both false h refl)
   unreserve-ready id (Some r) e h room =
@@ -151,7 +151,7 @@ module _ (w : World) (k : KeptWorld w) (spare reservation_spare restriction_spar
         ap (λ m. is_none (find (λ x. x.id.0 == m) (filter (λ x. not (p x)) w.reservations))) own ∙ ap is_none (find-dropped p w.reservations),
       )
 
-  unrestrict-ready : (id : RestrictionId) (o : Option Restriction) → restriction_of w id ≡ o → is_some o ≡ true → HasRoom (in_room (drop_restriction w id)) w
+  unrestrict-ready : (id : RestrictionId) (o : Option Restriction) → restriction_of w id ≡ o → is_some o ≡ true → HasLists (in_room (drop_restriction w id)) w
       → Ready (in_room (drop_restriction w id)) (option_map_or (RestrictionRemoved (position_or_len (λ r. r.id.0 == id.0) w.restrictions)) o (no_change w))
   unrestrict-ready id None e h room = absurd (not_both false h refl)
   unrestrict-ready id (Some r) e h room =
@@ -176,7 +176,7 @@ module _ (w : World) (k : KeptWorld w) (spare reservation_spare restriction_spar
   cancel-ready : (id : SectionId) → is_cancelled w.catalogue id ≡ false → 0 < length (cancel w id).catalogue.cancelled
   cancel-ready id h = subst (λ ss. 0 < length ss) (λ i. cond (sym h i) w.catalogue.cancelled (w.catalogue.cancelled ++ id ∷ [])) (some-last w.catalogue.cancelled id)
 
-  leave-ready : (student : StudentId) (course : CourseId) (o : Option Enrolment) → find (is_in student course) w.roster ≡ o → holds w student course ≡ true → HasRoom (in_room (leave w student course)) w
+  leave-ready : (student : StudentId) (course : CourseId) (o : Option Enrolment) → find (is_in student course) w.roster ≡ o → holds w student course ≡ true → HasLists (in_room (leave w student course)) w
       → Ready (in_room (leave w student course)) (option_map_or (λ e. Left (position_or_len (is_in student course) w.roster) e (offering_id w course)) o (no_change w))
   leave-ready student course None e h room =
       let f = any-at (is_in student course) w.roster h in
@@ -185,7 +185,7 @@ module _ (w : World) (k : KeptWorld w) (spare reservation_spare restriction_spar
       let n = held-once w k student course h in
       (removed (is_in student course) w.roster x spare n e room.roster, place-left (is_in student course) w.roster n)
 
-  each-ready : (c : Change) → Fits w c → HasRoom (in_room (changed w c)) w → Ready (in_room (changed w c)) (back_of w c)
+  each-ready : (c : Change) → Fits w c → HasLists (in_room (changed w c)) w → Ready (in_room (changed w c)) (back_of w c)
   each-ready (Offering row) f room = some-last w.catalogue.rows row
   each-ready (student_change row) f room = student-ready row (find_student w.students row.id) refl
   each-ready (Requests student asks) f room = requests-ready student asks (find_student w.students student) refl (both-left (is_some (find_student w.students student)) _ f)
@@ -200,7 +200,7 @@ module _ (w : World) (k : KeptWorld w) (spare reservation_spare restriction_spar
   each-ready (Enrol e) f room = any-put (λ x. x.student.0) (λ x. x.student.0 == e.student.0) (record { student = e.student; choice = e.choice }) w.roster (eq-eqb e.student.0 e.student.0 refl)
   each-ready (Leave student course) f room = leave-ready student course (find (is_in student course) w.roster) refl f room
 
-pub ready : (r : Roomed) (w : World) (c : Change) → KeptWorld w → Fits w c → HasRoom r w → changed w c ≡ r.world → Ready r (back_of w c)
+pub ready : (r : Roomed) (w : World) (c : Change) → KeptWorld w → Fits w c → HasLists r w → changed w c ≡ r.world → Ready r (back_of w c)
 ready r w c k f room e =
-    subst (λ v. HasRoom (in_room w k r.spare r.reservation_spare r.restriction_spare v) w → Ready (in_room w k r.spare r.reservation_spare r.restriction_spare v) (back_of w c)) e
-    (each-ready w k r.spare r.reservation_spare r.restriction_spare c f) room
+    subst (λ v. HasLists (in_room w k r.spare r.reservation_spare r.restriction_spare r.counted_ids v) w → Ready (in_room w k r.spare r.reservation_spare r.restriction_spare r.counted_ids v) (back_of w c)) e
+    (each-ready w k r.spare r.reservation_spare r.restriction_spare r.counted_ids c f) room

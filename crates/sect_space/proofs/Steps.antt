@@ -1,18 +1,22 @@
 -- One change more, or one less: what changes lead to, what is kept of them, and what is undone.
-use Rattle.std.specs.Prelude.{◌≡◌, ℕ, ◌+◌, ◌≤◌, List, [], ◌∷◌, ◌++◌, length, take, drop, refl, ◌⊎◌}
+use Rattle.std.specs.Prelude.{◌≡◌, ℕ, ◌+◌, ◌≤◌, ◌==◌, List, [], ◌∷◌, ◌++◌, length, take, drop, refl, ◌⊎◌}
+use Rattle.std.specs.List.{list_any}
+use Rattle.std.specs.Option.{is_some}
 use Rattle.std.proofs.Common.{sym, ◌∙◌, ap, subst, arith, inl, inr, append_assoc, length-append}
 use Rattle.std.proofs.lemmas.List.{append-nil}
 use Rattle.std.proofs.Math.Seq.{take-append_seam, drop-append_seam}
 use Rattle.sect_model.specs.declared.change.Change.{Change}
-use Rattle.sect_model.specs.World.{World}
+use Rattle.sect_model.specs.World.{World, reservation_of}
 use Rattle.sect_model.specs.Kept.{KeptWorld}
 use Rattle.sect_model.specs.Fits.{Fits, changed}
 use Rattle.sect_model.proofs.ChangeLemmas.{changes-keep}
+use Rattle.sect_model.proofs.Members.{or-left}
 use Rattle.sect_space.specs.declared.back.Back.{Back}
 use Rattle.sect_space.specs.Back.{back_of, taken_back}
 use Rattle.sect_space.specs.Roomed.{Roomed}
 use Rattle.sect_space.specs.Room.{HasRoom, KeepsRoom}
 use Rattle.sect_space.specs.Undo.{undone, all_changed, backs_of, AllFit, RoomFor, Undoable, Since}
+use Rattle.sect_space.specs.Undoing.{MadeBy}
 use Rattle.sect_space.proofs.TakenBack.{taken-back}
 
 -- ---- changes in two parts
@@ -50,9 +54,12 @@ trans h i = omega (arith, h, i)
 -- more room serves too
 has-more : (r s : Roomed) (w : World) → KeepsRoom r s → HasRoom r w → HasRoom s w
 has-more r s w k h = record {
-  roster = trans h.roster k.roster;
-  reservations = trans h.reservations k.reservations;
-  restrictions = trans h.restrictions k.restrictions;
+  lists = record {
+    roster = trans h.lists.roster k.lists.roster;
+    reservations = trans h.lists.reservations k.lists.reservations;
+    restrictions = trans h.lists.restrictions k.lists.restrictions;
+  };
+  uses = λ id known. k.uses id (h.uses id known);
 }
 
 room-more : (r s : Roomed) (w : World) (cs : List Change) → KeepsRoom r s → RoomFor r w cs → RoomFor s w cs
@@ -74,9 +81,12 @@ room-last r w (c ∷ cs) h = room-last r (changed w c) cs h.1
 -- a world's own lists have room for it
 own-room : (r : Roomed) (w : World) → r.world ≡ w → HasRoom r w
 own-room r w e = subst (HasRoom r) e (record {
-  roster = enough (length r.world.roster) r.spare;
-  reservations = enough (length r.world.reservations) r.reservation_spare;
-  restrictions = enough (length r.world.restrictions) r.restriction_spare;
+  lists = record {
+    roster = enough (length r.world.roster) r.spare;
+    reservations = enough (length r.world.reservations) r.reservation_spare;
+    restrictions = enough (length r.world.restrictions) r.restriction_spare;
+  };
+  uses = λ id known. or-left (is_some (reservation_of r.world id)) (list_any (λ k. k == id.0) r.counted_ids) known;
 })
   where
     enough : (a b : ℕ) → a ≤ a + b
@@ -182,6 +192,9 @@ last-of r backs back u = by_end (ends u.changes)
             room = room-more r t u.before front k n;
           };
         }
+
+pub made-by : (r : Roomed) (backs : List Back) (back : Back) → Last r backs back → MadeBy r back
+made-by r backs back l = record { before = l.before; change = l.change; kept = l.kept; fits = l.fits; led = l.led; recorded = l.recorded; room = l.room }
 
 -- the world after the last change is taken back
 pub taken-last : (r : Roomed) (backs : List Back) (back : Back) (l : Last r backs back) → taken_back r.world back ≡ l.before

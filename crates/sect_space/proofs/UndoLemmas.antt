@@ -2,54 +2,47 @@
 use Rattle.std.specs.Prelude.{◌≡◌, ℕ, ◌+◌, ◌<◌, ◌≤◌, List, [], ◌∷◌, ◌++◌, length, take, drop, refl}
 use Rattle.std.proofs.Common.{sym, ◌∙◌, ap, subst, arith, length-append}
 use Rattle.std.proofs.lemmas.List.{take-append-le, drop-append-le, take_all, drop_all}
-use Rattle.sect_model.specs.Kept.{KeptWorld}
 use Rattle.sect_space.specs.declared.back.Back.{Back}
-use Rattle.sect_space.specs.Back.{taken_back}
 use Rattle.sect_space.specs.Recorded.{Recorded}
 use Rattle.sect_space.specs.Roomed.{Roomed}
-use Rattle.sect_space.specs.Room.{KeepsRoom}
-use Rattle.sect_space.specs.Made.{Ready, Taken}
+use Rattle.sect_space.specs.Room.{KeepsRoom, KeepsUses}
+use Rattle.sect_space.specs.Made.{Taken}
 use Rattle.sect_space.specs.Undo.{undone, Undoable}
-use Rattle.sect_space.specs.Undoing.{UndoneLast, Undoing}
-use Rattle.sect_space.proofs.Steps.{last-of, taken-last, undone-last}
-use Rattle.sect_space.proofs.ReadyLemmas.{ready}
+use Rattle.sect_space.specs.Undoing.{MadeBy, UndoneLast, Undoing}
+use Rattle.sect_space.proofs.Steps.{last-of, made-by, taken-last, undone-last}
 
 trans : {a b c : ℕ} → a ≤ b → b ≤ c → a ≤ c
 trans h i = omega (arith, h, i)
 
 pub room-both : (r s t : Roomed) → KeepsRoom r s → KeepsRoom s t → KeepsRoom r t
 room-both r s t h k = record {
-  roster = trans h.roster k.roster;
-  reservations = trans h.reservations k.reservations;
-  restrictions = trans h.restrictions k.restrictions;
+  lists = record {
+    roster = trans h.lists.roster k.lists.roster;
+    reservations = trans h.lists.reservations k.lists.reservations;
+    restrictions = trans h.lists.restrictions k.lists.restrictions;
+  };
+  uses = λ id known. k.uses id (h.uses id known);
 }
 
 pub room-same : (r : Roomed) → KeepsRoom r r
-room-same r = record { roster = omega arith; reservations = omega arith; restrictions = omega arith }
+room-same r = record { lists = record { roster = omega arith; reservations = omega arith; restrictions = omega arith }; uses = λ id known. known }
 
--- what stands behind the last recorded change is there, and there is room for it
-pub last-ready : (r : Roomed) (backs : List Back) (back : Back) → Undoable r (backs ++ back ∷ []) → Ready r back
-last-ready r backs back u =
-    let l = last-of r backs back u in
-    subst (Ready r) l.recorded (ready r l.before l.change l.kept l.fits l.room l.led)
-
-pub last-kept : (r : Roomed) (backs : List Back) (back : Back) → Undoable r (backs ++ back ∷ []) → KeptWorld (taken_back r.world back)
-last-kept r backs back u =
-    let l = last-of r backs back u in
-    subst KeptWorld (sym (taken-last r backs back l)) l.kept
+-- the last recorded change made the world
+pub last-made : (r : Roomed) (backs : List Back) (back : Back) → Undoable r (backs ++ back ∷ []) → MadeBy r back
+last-made r backs back u = made-by r backs back (last-of r backs back u)
 
 -- the last recorded change is taken back, and the others may be
-pub last-undone : (r : Roomed) (u : Recorded) (s : Roomed) (v : Recorded) (back : Back) → Undoable r u.backs → u.backs ≡ v.backs ++ back ∷ [] → v.spare ≡ u.spare + 1 → Taken r s back
+pub last-undone : (r : Roomed) (u : Recorded) (s : Roomed) (v : Recorded) (back : Back) → Undoable r u.backs → u.backs ≡ v.backs ++ back ∷ [] → v.spare ≡ u.spare + 1 → Taken r s back → KeepsUses r s
     → UndoneLast r u s v
-last-undone r u s v back w e n t =
+last-undone r u s v back w e n t uses =
     let l = last-of r v.backs back (subst (Undoable r) e w) in
     record {
       last = back;
       recorded = e;
       world = t.world;
-      room = t.room;
+      room = record { lists = t.room; uses = uses };
       undo_room = omega (arith, n);
-      undoable = l.rest s (t.world ∙ taken-last r v.backs back l) t.room;
+      undoable = l.rest s (t.world ∙ taken-last r v.backs back l) (record { lists = t.room; uses = uses });
     }
 
 pub undoing-none : (r : Roomed) (u : Recorded) (len : ℕ) → Undoable r u.backs → len ≤ length u.backs → Undoing r u len r u

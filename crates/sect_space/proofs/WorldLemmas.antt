@@ -10,7 +10,7 @@ use Rattle.sect_model.specs.Fits.{Fits, changed}
 use Rattle.sect_model.proofs.ChangeLemmas.{changes-keep}
 use Rattle.sect_space.specs.declared.back.Back.{Back}
 use Rattle.sect_space.specs.Roomed.{Roomed}
-use Rattle.sect_space.specs.Room.{KeepsRoom}
+use Rattle.sect_space.specs.Room.{KeepsLists}
 use Rattle.sect_space.specs.Made.{Made, Unchanged}
 use Rattle.sect_space.proofs.Lengths.{length-put}
 use Rattle.sect_space.proofs.Bounds.{part-le}
@@ -41,7 +41,7 @@ one-more w (Leave student course) = less (part-le (λ e. not (is_in student cour
     less h = omega (arith, h)
 
 -- so a change takes at most one place
-pub takes-one : (r s : Roomed) (change : Change) → s.world ≡ changed r.world change → KeepsRoom r s → r.spare ≤ s.spare + 1
+pub takes-one : (r s : Roomed) (change : Change) → s.world ≡ changed r.world change → KeepsLists r s → r.spare ≤ s.spare + 1
 takes-one r s change e k = omega (arith, k.roster, subst (λ w. length w.roster ≤ length r.world.roster + 1) (sym e) (one-more r.world change))
 
 pub takes-none : (r s : Roomed) → Unchanged r s → r.spare ≤ s.spare

@@ -1,5 +1,5 @@
 -- What is kept of a change, the world after it is taken back, and what it concerns.
-use Rattle.std.specs.Prelude.{ℕ, Bool, ◌-◌, ◌==◌, List, length, take, insert, find, Option, None, Some}
+use Rattle.std.specs.Prelude.{ℕ, Bool, true, false, ◌-◌, ◌==◌, List, length, take, insert, find, Option, None, Some}
 use Rattle.std.specs.List.{list_any, position_or_len}
 use Rattle.std.specs.Option.{option_map, option_map_or}
 use Rattle.sect_base.specs.declared.limit.Cap.{Cap}
@@ -77,6 +77,23 @@ back_of w (Day day) = DayReplaced w.day day
 back_of w (Enrol e) = Enrolled e.student (offering_id w e.choice.course)
 back_of w (Leave student course) =
     option_map_or (λ e. Left (position_or_len (is_in student course) w.roster) e (offering_id w course)) (find (is_in student course) w.roster) (no_change w)
+
+-- it is kept of a change that enrols nobody, and by which nobody leaves
+abbrev pub is_of_quiet : Back → Bool
+is_of_quiet (OfferingAdded id) = true
+is_of_quiet (StudentAdded id) = true
+is_of_quiet (StudentReplaced row) = true
+is_of_quiet (RequestsReplaced student asks) = true
+is_of_quiet (ReservationAdded id offering) = true
+is_of_quiet (ReservationRemoved place r) = true
+is_of_quiet (ExpiryReplaced id offering day) = true
+is_of_quiet (RestrictionAdded id offering) = true
+is_of_quiet (RestrictionRemoved place r) = true
+is_of_quiet (LimitReplaced cap offering limit) = true
+is_of_quiet (SectionCancelled id offering) = true
+is_of_quiet (DayReplaced old new) = true
+is_of_quiet (Enrolled student offering) = false
+is_of_quiet (Left place e offering) = false
 
 -- ---- the world after a change is taken back
 

@@ -1,16 +1,22 @@
--- Which enrolments count.
-use Rattle.std.specs.Prelude.{Bool, false, not, ◌&&◌, ◌==◌}
-use Rattle.std.specs.Option.{option_map_or}
-use Rattle.sect_base.specs.declared.ids.ReservationId.{ReservationId}
-use Rattle.sect_base.specs.declared.limit.Level.{Level}
+-- An enrolment that is to be counted, or no longer.
+use Rattle.std.specs.Prelude.{List}
 use Rattle.sect_model.specs.declared.held.Enrolment.{Enrolment}
-use Rattle.sect_model.specs.World.{World, used_by}
-use Rattle.sect_model.specs.Counts.{is_at, permits_over}
+use Rattle.sect_model.specs.World.{World}
+use Rattle.sect_model.specs.Kept.{KeptWorld}
+use Rattle.sect_numbers.specs.declared.numbers.Numbers.{Numbers}
+use Rattle.sect_numbers.specs.Numbers.{Told}
+use Rattle.sect_numbers.specs.OneMore.{with_roster, IsMore}
 
--- the enrolment counts at the level, by no reservation or one that doesn't permit over limit
-abbrev pub is_counted : World → Level → Enrolment → Bool
-is_counted w level e = is_at w level e && not (permits_over (used_by w e.choice))
+-- the numbers are those of the world with one enrolment less, this one
+pub record OneBehind (n : Numbers) (w : World) (e : Enrolment) : Type 0 where
+  pub less : List Enrolment
+  pub is_more : IsMore less w.roster e
+  pub kept : KeptWorld w
+  pub told : Told n (with_roster w less)
 
--- the enrolment is by the reservation
-abbrev pub is_made_by : ReservationId → Enrolment → Bool
-is_made_by id e = option_map_or (λ r. r.0 == id.0) e.choice.reservation false
+-- the numbers are those of the world with one enrolment more, this one
+pub record OneAhead (n : Numbers) (w : World) (e : Enrolment) : Type 0 where
+  pub more : List Enrolment
+  pub is_more : IsMore w.roster more e
+  pub kept : KeptWorld (with_roster w more)
+  pub told : Told n (with_roster w more)

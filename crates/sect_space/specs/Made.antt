@@ -12,23 +12,23 @@ use Rattle.sect_space.specs.declared.back.Back.{Back}
 use Rattle.sect_space.specs.declared.back.Back.TheVariants.{OfferingAdded, StudentAdded, StudentReplaced, RequestsReplaced, ReservationAdded, ReservationRemoved, ExpiryReplaced, RestrictionAdded, RestrictionRemoved, LimitReplaced, SectionCancelled, DayReplaced, Enrolled, Left}
 use Rattle.sect_space.specs.Back.{back_of, taken_back}
 use Rattle.sect_space.specs.Roomed.{Roomed}
-use Rattle.sect_space.specs.Room.{KeepsRoom}
+use Rattle.sect_space.specs.Room.{KeepsLists}
 
 -- the change was made, and this is kept of it
 pub record Made (r s : Roomed) (change : Change) (back : Back) : Type 0 where
   pub world : s.world ≡ changed r.world change
   pub recorded : back ≡ back_of r.world change
-  pub room : KeepsRoom r s
+  pub room : KeepsLists r s
 
 -- nothing was changed
 pub record Unchanged (r s : Roomed) : Type 0 where
   pub world : s.world ≡ r.world
-  pub room : KeepsRoom r s
+  pub room : KeepsLists r s
 
 -- the change was taken back
 pub record Taken (r s : Roomed) (back : Back) : Type 0 where
   pub world : s.world ≡ taken_back r.world back
-  pub room : KeepsRoom r s
+  pub room : KeepsLists r s
 
 -- what the change refers to is there, and there is room for what is put back
 abbrev pub Ready : Roomed → Back → Type 0

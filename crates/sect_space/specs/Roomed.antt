@@ -1,5 +1,5 @@
 -- The world with the room of its lists.
-use Rattle.std.specs.Prelude.{ℕ, List}
+use Rattle.std.specs.Prelude.{ℕ, List, []}
 use Rattle.sect_model.specs.World.{World}
 use Rattle.sect_model.specs.declared.held.Enrolment.{Enrolment}
 use Rattle.sect_catalog.specs.Catalogue.{Catalogue}
@@ -8,12 +8,14 @@ use Rattle.sect_reserve.specs.declared.row.Reservation.{Reservation}
 use Rattle.sect_reserve.specs.declared.row.Restriction.{Restriction}
 use Rattle.sect_roster.specs.Listed.{Listed}
 
--- a world, and how many enrolments, reservations and restrictions more fit without asking for memory
+-- a world, how many enrolments, reservations and restrictions more fit without asking for memory, and the ids of the
+-- reservations, known or not, of which a count of uses is kept
 pub record Roomed : Type 0 where
   pub world : World
   pub spare : ℕ
   pub reservation_spare : ℕ
   pub restriction_spare : ℕ
+  pub counted_ids : List ℕ
 
 -- the world of these parts
 abbrev pub world_of : Catalogue → List Student → Listed Reservation → Listed Restriction → Listed Enrolment → ℕ → World
@@ -26,11 +28,12 @@ world_of catalogue students reservations restrictions roster day = record {
   day = day;
 }
 
--- the world of these parts, with the room of its lists
+-- the world of these parts, with the room of its lists; no count is kept
 abbrev pub roomed : Catalogue → List Student → Listed Reservation → Listed Restriction → Listed Enrolment → ℕ → Roomed
 roomed catalogue students reservations restrictions roster day = record {
   world = world_of catalogue students reservations restrictions roster day;
   spare = roster.spare;
   reservation_spare = reservations.spare;
   restriction_spare = restrictions.spare;
+  counted_ids = [];
 }

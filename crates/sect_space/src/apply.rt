@@ -1,15 +1,13 @@
 // Changes of the world, recorded, and undone again.
 
-ghost use Rattle.std.specs.Prelude.{◌≡◌, ◌<◌, ◌≤◌, ◌+◌, ◌++◌, ◌∷◌, [], length, take, drop, IfOk, IsOk, OnOk, OnErr, IsTrue};
+ghost use Rattle.std.specs.Prelude.{◌≡◌, ◌<◌, ◌≤◌, ◌+◌, ◌++◌, ◌∷◌, [], length, take, drop, IsOk, OnOk, OnErr, IsTrue};
 ghost use Rattle.sect_model.specs.Fits.{Fits, changed};
-ghost use Rattle.sect_model.specs.Kept.{KeptWorld};
-ghost use Rattle.sect_space.specs.Back.{back_of, taken_back};
-ghost use Rattle.sect_space.specs.Made.{Made, Unchanged, Taken, Ready};
-ghost use Rattle.sect_space.specs.Room.{KeepsRoom};
+ghost use Rattle.sect_space.specs.Back.{back_of};
+ghost use Rattle.sect_space.specs.Made.{Unchanged};
+ghost use Rattle.sect_space.specs.Room.{KeepsRoom, KeepsUses};
 ghost use Rattle.sect_space.specs.Undo.{undone, Undoable, takes_none};
 ghost use Rattle.sect_space.specs.Undoing.{UndoneLast};
 
-use crate::back::Back;
 use crate::undo::Undo;
 use crate::world::World;
 use sect_base::Memory;
@@ -86,25 +84,9 @@ impl World {
         self.take_back(back);
     }
 
-    fn change(&mut self, change: Change) -> Result<Back, Memory>
-        requires { Fits self.old.world change }
-        ensures ok { IfOk result (λ back. Made self.old self.new change back) }
-        ensures err { OnErr result (Unchanged self.old self.new) }
-        ensures enough { IsTrue (takes_none change) → 0 < self.old.spare → IsOk result }
-    {
-        self.parts.change(change)
-    }
-
-    fn take_back(&mut self, back: Back)
-        requires ready { Ready self.old back }
-        requires kept { KeptWorld (taken_back self.old.world back) }
-        ensures { Taken self.old self.new back }
-    {
-        self.parts.take_back(back);
-    }
-
     fn reserve_roster(&mut self, n: usize) -> Result<(), Memory>
         ensures same { Unchanged self.old self.new }
+        ensures uses { KeepsUses self.old self.new }
         ensures spare { OnOk result (n ≤ self.new.spare) }
         ensures enough { n ≤ self.old.spare → IsOk result }
     {

@@ -35,7 +35,10 @@ impl Parts {
             Change::Cancelled(id) => self.cancel(id),
             Change::Day(day) => Ok(self.put_day(day)),
             Change::Enrol(enrolment) => self.enrol(enrolment),
-            Change::Leave(student, course) => Ok(self.leave(student, course)),
+            Change::Leave(student, course) => {
+                let (place, enrolment, offering) = self.leave(student, course);
+                Ok(Back::Left(place, enrolment, offering))
+            }
         }
     }
 
@@ -58,7 +61,9 @@ impl Parts {
             Back::LimitReplaced(cap, offering, limit) => self.restore_limit(cap, offering, limit),
             Back::SectionCancelled(id, offering) => self.uncancel(id, offering),
             Back::DayReplaced(old, new) => self.restore_day(old, new),
-            Back::Enrolled(student, offering) => self.remove_enrolment(student, offering),
+            Back::Enrolled(student, offering) => {
+                let _ = self.remove_enrolment(student, offering);
+            }
             Back::Left(place, enrolment, offering) => {
                 self.put_enrolment_back(place, enrolment, offering)
             }

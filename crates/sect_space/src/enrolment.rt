@@ -1,8 +1,9 @@
 // Changes of the roster, and of the day.
 
-ghost use Rattle.std.specs.Prelude.{◌≡◌, ◌<◌, IfOk, IsOk, OnErr};
+ghost use Rattle.std.specs.Prelude.{◌≡◌, ◌<◌, ◌≤◌, length, insert, IfOk, IsOk, OnErr};
 ghost use Rattle.sect_model.specs.Fits.{Fits};
 ghost use Rattle.sect_model.specs.Kept.{KeptWorld};
+ghost use Rattle.sect_model.specs.World.{insert_enrolment};
 ghost use Rattle.sect_space.specs.Back.{taken_back};
 ghost use Rattle.sect_space.specs.Made.{Made, Unchanged, Taken, Ready};
 ghost use Rattle.sect_space.specs.Parts.{roomed_of};
@@ -30,23 +31,34 @@ impl Parts {
     }
 
     /// Takes the last enrolment of the student off. There is one.
-    pub fn remove_enrolment(&mut self, student: StudentId, offering: Option<OfferingId>)
+    pub fn remove_enrolment(
+        &mut self,
+        student: StudentId,
+        offering: Option<OfferingId>,
+    ) -> Enrolment
         requires { Ready (roomed_of self.old) (Back.Enrolled student offering) }
-        ensures { Taken (roomed_of self.old) (roomed_of self.new) (Back.Enrolled student offering) }
+        ensures taken { Taken (roomed_of self.old) (roomed_of self.new) (Back.Enrolled student offering) }
+        ensures last { (roomed_of self.old).world.roster ≡ insert_enrolment result (roomed_of self.new).world.roster }
     {
         let _ = offering;
-        let _ = self.roster.remove_last_of(student);
+        self.roster.remove_last_of(student)
     }
 
-    /// The student leaves the course. It takes no memory.
-    pub fn leave(&mut self, student: StudentId, course: CourseId) -> Back
+    /// The student leaves the course: the place in the roster, the enrolment, and its offering. It takes no memory.
+    pub fn leave(
+        &mut self,
+        student: StudentId,
+        course: CourseId,
+    ) -> (usize, Enrolment, Option<OfferingId>)
         requires kept { KeptWorld (roomed_of self.old).world }
         requires fits { Fits (roomed_of self.old).world (Change.Leave student course) }
-        ensures { Made (roomed_of self.old) (roomed_of self.new) (Change.Leave student course) result }
+        ensures made { Made (roomed_of self.old) (roomed_of self.new) (Change.Leave student course) (Back.Left result.0 result.1 result.2) }
+        ensures within { result.0 ≤ length (roomed_of self.new).world.roster }
+        ensures last { (roomed_of self.old).world.roster ≡ insert (roomed_of self.new).world.roster result.0 result.1 }
     {
         let offering = self.course_offering(course);
         let (place, enrolment) = self.roster.remove(student, course);
-        Back::Left(place, enrolment, offering)
+        (place, enrolment, offering)
     }
 
     /// Puts an enrolment back where it stood. There is room.

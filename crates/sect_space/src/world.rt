@@ -10,6 +10,7 @@ use crate::parts::Parts;
 use sect_base::{OfferingId, ReservationId, RestrictionId, StudentId};
 use sect_catalog::Catalogue;
 use sect_model::Enrolment;
+use sect_numbers::Numbers;
 use sect_people::People;
 use sect_reserve::{Reservation, Restriction};
 use sect_roster::{Reservations, Restrictions, Roster};
@@ -22,18 +23,18 @@ use std::marker::Model;
 #[derive(Drop)]
 pub struct World {
     pub(crate) parts: Parts,
+    pub(crate) numbers: Numbers,
 }
 
 impl Model for World {
-    ghost use Rattle.sect_model.specs.Kept.{KeptWorld};
     ghost use Rattle.sect_space.specs.Roomed.{Roomed};
-    ghost use Rattle.sect_space.specs.Parts.{roomed_of};
+    ghost use Rattle.sect_space.specs.Parts.{numbered_of, Numbered};
 
     ghost Value = { Roomed };
 
-    ghost view = { λ w. roomed_of w.parts };
+    ghost view = { λ w. numbered_of w.parts w.numbers };
 
-    ghost invariant = { λ w. KeptWorld (roomed_of w.parts).world };
+    ghost invariant = { λ w. Numbered w.parts w.numbers };
 }
 
 /// The day from which days are counted.
@@ -60,6 +61,7 @@ impl World {
                 roster: Roster::empty(alloc),
                 day: first_day(),
             },
+            numbers: Numbers::empty(alloc),
         }
     }
 

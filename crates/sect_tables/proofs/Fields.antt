@@ -4,7 +4,7 @@ use Rattle.std.proofs.lemmas.List.{take_rest}
 use Rattle.std.specs.Prelude.{is_none, is_some}
 use Rattle.csv.specs.Records.{field_at}
 use Rattle.sect_tables.specs.Headers.{difference_from}
-use Rattle.sect_words.specs.First.{same_text}
+use Rattle.std.specs.Str.{bytes_eq}
 
 -- the field at a place is the first of those from there on
 drop_field : (fields : List (List ℕ)) (place : ℕ) (field : List ℕ) → field_at fields place ≡ Some field → drop place fields ≡ field ∷ drop (suc place) fields
@@ -49,7 +49,7 @@ name_left number fields (name ∷ names) at some = ap (λ rest. difference_from 
 
 -- the field differs from the name
 pub other_here : (number : ℕ) (fields : List (List ℕ)) (names : List (Bor (List ℕ))) (field : List ℕ) (none : Bor (List ℕ)) → field_at fields (number - 1) ≡ Some field
-    → 1 ≤ length names → same_text field (get_or names 0 none).now ≡ false → Some number ≡ other_from number fields names
+    → 1 ≤ length names → bytes_eq field (get_or names 0 none).now ≡ false → Some number ≡ other_from number fields names
 other_here number fields [] field none at some other = absurd (omega arith)
 other_here number fields (name ∷ names) field none at some other =
     ap (λ test. cond test (difference_from (number + 1) (drop (suc (number - 1)) fields) (texts names)) (Some number)) (sym other)
@@ -57,7 +57,7 @@ other_here number fields (name ∷ names) field none at some other =
 
 -- the field is the name
 pub same_here : (number : ℕ) (fields : List (List ℕ)) (names : List (Bor (List ℕ))) (field : List ℕ) (none : Bor (List ℕ)) (found : Option ℕ) → 1 ≤ number
-    → field_at fields (number - 1) ≡ Some field → 1 ≤ length names → same_text field (get_or names 0 none).now ≡ true
+    → field_at fields (number - 1) ≡ Some field → 1 ≤ length names → bytes_eq field (get_or names 0 none).now ≡ true
     → found ≡ other_from (number + 1) fields (take (length names - 1) (drop 1 names)) → found ≡ other_from number fields names
 same_here number fields [] field none found one at some same next = absurd (omega arith)
 same_here number fields (name ∷ names) field none found one at some same next =

@@ -2,7 +2,7 @@
 use Rattle.std.specs.Prelude.{ℕ, ◌+◌, List, [], ◌∷◌, Option, None, Some, codes, if◌then◌else◌}
 use Rattle.sect_command.specs.declared.view.Table.{Table}
 use Rattle.sect_command.specs.declared.view.Table.TheVariants.{Offerings, Students, Requests, Reservations}
-use Rattle.sect_words.specs.First.{same_text}
+use Rattle.std.specs.Str.{bytes_eq}
 
 -- the header of reservations of which none has a first day
 abbrev pub old_reservation_names : List (List ℕ)
@@ -26,7 +26,7 @@ abbrev pub difference_from : ℕ → List (List ℕ) → List (List ℕ) → Opt
 difference_from number [] [] = None
 difference_from number [] (name ∷ names) = Some number
 difference_from number (field ∷ fields) [] = Some number
-difference_from number (field ∷ fields) (name ∷ names) = if same_text field name then difference_from (number + 1) fields names else Some number
+difference_from number (field ∷ fields) (name ∷ names) = if bytes_eq field name then difference_from (number + 1) fields names else Some number
 
 -- the first field, from 1, in which a row differs from the header
 abbrev pub first_difference : List (List ℕ) → List (List ℕ) → Option ℕ

@@ -1,5 +1,5 @@
 -- What each row of a table shows to be complete. The rows are counted from 1, which is the header.
-use Rattle.std.specs.Prelude.{ℕ, zero, suc, ◌+◌, Bool, true, false, List, [], ◌∷◌, ◌++◌, Option, None, Some, Result, Ok, Err, is_none}
+use Rattle.std.specs.Prelude.{bytes_eq, ℕ, zero, suc, ◌+◌, Bool, true, false, List, [], ◌∷◌, ◌++◌, Option, None, Some, Result, Ok, Err, is_none}
 use Rattle.sect_base.specs.declared.ids.StudentId.{StudentId}
 use Rattle.sect_command.specs.declared.command.Command.{Command}
 use Rattle.sect_command.specs.declared.command.Command.TheVariants as commands
@@ -21,7 +21,7 @@ use Rattle.sect_tables.specs.declared.hand.Group.{Group}
 use Rattle.sect_tables.specs.declared.hand.Group.TheVariants as groups
 use Rattle.sect_tables.specs.declared.hand.Header.{Header}
 use Rattle.sect_tables.specs.declared.hand.Header.TheVariants.{Whole, WithoutFirst}
-use Rattle.sect_words.specs.First.{only_where, same_text}
+use Rattle.sect_words.specs.Reading.{only_where}
 
 -- what a table has become, and what it gives
 abbrev pub Step : Type 0
@@ -38,13 +38,13 @@ unfoldable pub given_of : Option AtHand → List Given
 given_of None = []
 given_of (Some hand) = record { row = hand.first; command = command_of hand.group } ∷ []
 
--- the row is bad in this field, and what was at hand is given up
+-- the row is bad in this field, and what was at hand is given up: it stays begun, and is never given
 abbrev pub failed : Progress → ℕ → Step
 failed p field = (record p { at_hand = None; fault = Some (p.rows, field) }, [])
 
 -- the row begins another command, so that the one at hand is complete
 abbrev pub begun : Progress → Group → Step
-begun p group = (record p { at_hand = Some (record { first = p.rows; group = group }) }, given_of p.at_hand)
+begun p group = (record p { at_hand = Some (record { first = p.rows; group = group }); open_row = Some p.rows }, given_of p.at_hand)
 
 -- the row goes on with the command at hand, which has this first row
 abbrev pub gone_on : Progress → ℕ → Group → Step
@@ -69,7 +69,7 @@ first_row p row = header_read p (is_old_header p.table row) (first_difference ro
 
 -- the offering of this text, with its first row
 abbrev pub offering_in : ℕ → Group → List ℕ → Option (ℕ × OfferingSoFar)
-offering_in first (groups.Offering so_far) name = only_where (same_text so_far.name name) (first, so_far)
+offering_in first (groups.Offering so_far) name = only_where (bytes_eq so_far.name name) (first, so_far)
 offering_in first (groups.Row command) name = None
 offering_in first (groups.Requests so_far) name = None
 
@@ -95,7 +95,7 @@ offering_row p row (Some (first, so_far)) = offering_next p row first so_far (se
 
 -- the requests of the student of this text, with their first row
 abbrev pub requests_in : ℕ → Group → List ℕ → Option (ℕ × RequestsSoFar)
-requests_in first (groups.Requests so_far) name = only_where (same_text so_far.name name) (first, so_far)
+requests_in first (groups.Requests so_far) name = only_where (bytes_eq so_far.name name) (first, so_far)
 requests_in first (groups.Row command) name = None
 requests_in first (groups.Offering so_far) name = None
 
@@ -159,7 +159,7 @@ row_read p row = row_after p.fault p row
 abbrev pub end_after : Option (ℕ × ℕ) → ℕ → Progress → Step
 end_after (Some fault) rows p = (p, [])
 end_after None zero p = (record p { fault = Some (1, 0) }, [])
-end_after None (suc rows) p = (record p { at_hand = None }, given_of p.at_hand)
+end_after None (suc rows) p = (record p { at_hand = None; open_row = None }, given_of p.at_hand)
 
 -- the end of a table
 unfoldable pub at_end : Progress → Step

@@ -4,7 +4,7 @@ ghost use Rattle.std.specs.Prelude.{◌≡◌, ◌++◌, ◌∷◌, [], IfOk};
 ghost use Rattle.csv.specs.Records.{fields_of};
 ghost use Rattle.sect_lines.specs.Fields.{field_of};
 ghost use Rattle.sect_tables.specs.Offerings.{at_last, config_with, offering_begun, offering_with};
-ghost use Rattle.sect_words.specs.First.{same_text};
+ghost use Rattle.std.specs.Str.{bytes_eq};
 
 use crate::config::OpenConfig;
 use crate::subpart::OpenSubpart;
@@ -58,7 +58,7 @@ impl OpenOffering {
 
     /// Whether a row goes on with this offering, whose first field is the same text.
     pub fn has_row(&self, row: &ByteRecord) -> bool
-        ensures { result ≡ same_text self.now.name (field_of (fields_of row.now) 1) }
+        ensures { result ≡ bytes_eq self.now.name (field_of (fields_of row.now) 1) }
     {
         same_bytes(self.name.as_slice(), field(row, 1))
     }

@@ -31,6 +31,7 @@ pub struct Reading {
     rows: u64,
     header: Option<Header>,
     at_hand: Option<AtHand>,
+    open_row: Option<u64>,
     fault: Option<(u64, u32)>,
 }
 
@@ -39,7 +40,7 @@ impl Model for Reading {
 
     ghost Value = { Progress };
 
-    ghost view = { λ r. record { table = r.table; term = r.term; rows = r.rows; header = r.header; at_hand = r.at_hand; fault = r.fault } };
+    ghost view = { λ r. record { table = r.table; term = r.term; rows = r.rows; header = r.header; at_hand = r.at_hand; open_row = r.open_row; fault = r.fault } };
 }
 
 impl Reading {
@@ -54,6 +55,7 @@ impl Reading {
             rows: 0,
             header: None,
             at_hand: None,
+            open_row: None,
             fault: None,
         }
     }
@@ -94,6 +96,7 @@ impl Reading {
             self.fault = Some((1, 0));
             return Ok(());
         }
+        self.open_row = None;
         give(self.at_hand.take(), out)
     }
 
@@ -110,6 +113,14 @@ impl Reading {
         ensures { result ≡ self.now.rows }
     {
         self.rows
+    }
+
+    /// The first row of the command that was begun and not given, where there is one. Before the end it is the last command
+    /// that was begun, also where a later row of it is bad. It takes no memory.
+    pub fn open_row(&self) -> Option<u64>
+        ensures { result ≡ self.now.open_row }
+    {
+        self.open_row
     }
 
     // Takes the first row.
@@ -311,6 +322,7 @@ impl Reading {
             first: self.rows,
             group,
         });
+        self.open_row = Some(self.rows);
         Ok(())
     }
 

@@ -5,7 +5,7 @@ ghost use Rattle.csv.specs.Records.{fields_of};
 ghost use Rattle.sect_command.specs.declared.command.Command.TheVariants.{Requests};
 ghost use Rattle.sect_lines.specs.Fields.{field_of};
 ghost use Rattle.sect_tables.specs.Requests.{next_rank, requests_begun, requests_with};
-ghost use Rattle.sect_words.specs.First.{same_text};
+ghost use Rattle.std.specs.Str.{bytes_eq};
 
 use csv::ByteRecord;
 use sect_base::{Items, Memory, StudentId};
@@ -55,7 +55,7 @@ impl OpenRequests {
 
     /// Whether a row goes on with these requests, whose first field is the same text.
     pub fn has_row(&self, row: &ByteRecord) -> bool
-        ensures { result ≡ same_text self.now.name (field_of (fields_of row.now) 1) }
+        ensures { result ≡ bytes_eq self.now.name (field_of (fields_of row.now) 1) }
     {
         same_bytes(self.name.as_slice(), field(row, 1))
     }

@@ -1,2 +1,1 @@
-pub mod DayLaws
 pub mod Sentences

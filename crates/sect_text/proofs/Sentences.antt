@@ -4,8 +4,8 @@ use Rattle.sect_command.specs.declared.command.Command.{Command}
 use Rattle.sect_command.specs.declared.command.Command.TheVariants as commands
 use Rattle.sect_command.specs.declared.reply.Reply.{Reply}
 use Rattle.sect_command.specs.declared.reply.Reply.TheVariants as replies
-use Rattle.sect_text.specs.Parts.{behind, sentence}
-use Rattle.sect_text.specs.Days.{day_text}
+use Rattle.sect_words.specs.Parts.{behind, sentence}
+use Rattle.sect_words.specs.Days.{day_text}
 use Rattle.sect_text.specs.Commands.{command_words, command_text}
 use Rattle.sect_text.specs.Replies.{reply_words, reply_text}
 use Rattle.sect_once.specs.declared.entry.Entry.{Entry}

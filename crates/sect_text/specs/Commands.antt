@@ -22,13 +22,13 @@ use Rattle.sect_command.specs.declared.command.RestrictRow.{RestrictRow}
 use Rattle.sect_command.specs.declared.command.Command.{Command}
 use Rattle.sect_command.specs.declared.command.Command.TheVariants as commands
 use Rattle.sect_time.specs.MeetingText.{meeting_text}
-use Rattle.sect_text.specs.Parts.{sentence}
-use Rattle.sect_text.specs.Days.{day_text}
-use Rattle.sect_text.specs.Words.{list_text, optional_text, limit_text, course_text, section_text, student_text, curriculum_text, audience_text}
+use Rattle.sect_words.specs.Parts.{sentence}
+use Rattle.sect_words.specs.Days.{day_text}
+use Rattle.sect_words.specs.Words.{list_text, optional_text, limit_text, course_text, section_text, student_text, curriculum_text, audience_text}
 
 -- `section ID LIMIT PARENT MEETINGS`
 abbrev pub section_words : SectionRow → List (List ℕ)
-section_words s = codes "section" ∷ decimal s.id.0 ∷ limit_text s.limit ∷ optional_text section_text s.parent ∷ list_text meeting_text s.meetings ∷ []
+section_words s = codes "section" ∷ decimal s.id.0 ∷ limit_text s.limit ∷ optional_text section_text s.parent ∷ list_text 43 meeting_text s.meetings ∷ []
 
 -- `subpart ID` and its sections
 abbrev pub subpart_words : SubpartRow → List (List ℕ)
@@ -65,7 +65,7 @@ mark_words word false = []
 
 -- `course IDS [wait] [substitute]`
 abbrev pub course_ask_words : CourseAsk → List (List ℕ)
-course_ask_words a = codes "course" ∷ list_text course_text a.courses ∷ mark_words (codes "wait") a.wait ++ mark_words (codes "substitute") a.substitute
+course_ask_words a = codes "course" ∷ list_text 43 course_text a.courses ∷ mark_words (codes "wait") a.wait ++ mark_words (codes "substitute") a.substitute
 
 -- a course request, or `free MEETING`
 abbrev pub ask_words : Ask → List (List ℕ)
@@ -109,13 +109,13 @@ stated_words key default shown n = if shown || not (n == default) then key ∷ d
 
 -- `only IDS`, which may be left out where there is none
 abbrev pub only_words : Bool → List SectionId → List (List ℕ)
-only_words true ids = codes "only" ∷ list_text section_text ids ∷ []
+only_words true ids = codes "only" ∷ list_text 43 section_text ids ∷ []
 only_words false [] = []
-only_words false (id ∷ ids) = codes "only" ∷ list_text section_text (id ∷ ids) ∷ []
+only_words false (id ∷ ids) = codes "only" ∷ list_text 43 section_text (id ∷ ids) ∷ []
 
 -- `IDS [only IDS] [rank N]`, where each may be shown though it is the default: no section, rank 21
 abbrev pub want_words : Bool → Bool → Want → List (List ℕ)
-want_words only rank w = list_text course_text w.courses ∷ only_words only w.only ++ stated_words (codes "rank") 21 rank w.rank
+want_words only rank w = list_text 43 course_text w.courses ∷ only_words only w.only ++ stated_words (codes "rank") 21 rank w.rank
 
 -- a want as it is printed
 abbrev pub printed_want : Want → List (List ℕ)
@@ -161,7 +161,7 @@ command_words (commands.Swap student give take budget) =
 command_words (commands.Wait student want give class) =
     codes "wait" ∷ decimal student.0 ∷ printed_want want ++ (optional_give_words give ++ class_words false class)
 command_words (commands.Unwait student ticket) = codes "unwait" ∷ decimal student.0 ∷ decimal ticket ∷ []
-command_words (commands.Batch students) = codes "batch" ∷ list_text student_text students ∷ []
+command_words (commands.Batch students) = codes "batch" ∷ list_text 43 student_text students ∷ []
 
 -- the text of a command as it is printed
 abbrev pub command_text : Command → List ℕ

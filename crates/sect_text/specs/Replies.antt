@@ -17,8 +17,8 @@ use Rattle.sect_command.specs.declared.reply.Refusal.{Refusal}
 use Rattle.sect_command.specs.declared.reply.Refusal.TheVariants as refusals
 use Rattle.sect_command.specs.declared.reply.RowFault.{RowFault}
 use Rattle.sect_command.specs.declared.reply.RowFault.TheVariants as faults
-use Rattle.sect_text.specs.Parts.{joined, sentence}
-use Rattle.sect_text.specs.Words.{choice_text}
+use Rattle.sect_words.specs.Parts.{joined, sentence}
+use Rattle.sect_words.specs.Words.{choice_text}
 
 -- the fault of an offering's row: its name, and its number where it has one
 abbrev pub catalog_fault_words : CatalogFault → List (List ℕ)

@@ -6,9 +6,9 @@ use Rattle.sect_command.specs.declared.command.Command.{Command}
 use Rattle.sect_command.specs.declared.command.Command.TheVariants as commands
 use Rattle.sect_command.specs.declared.reply.Reply.{Reply}
 use Rattle.sect_once.specs.declared.entry.Entry.{Entry}
-use Rattle.sect_text.specs.Parts.{sentence}
-use Rattle.sect_text.specs.Days.{day_text}
-use Rattle.sect_text.specs.Words.{caller_text}
+use Rattle.sect_words.specs.Parts.{sentence}
+use Rattle.sect_words.specs.Days.{day_text}
+use Rattle.sect_words.specs.Words.{caller_text}
 use Rattle.sect_text.specs.Commands.{command_words}
 use Rattle.sect_text.specs.Replies.{reply_words}
 

@@ -1,8 +1,8 @@
 // Printing commands.
 
 ghost use Rattle.std.specs.Prelude.{◌≡◌, ℕ, ◌++◌, ◌∷◌, [], OnOk, OnErr, length, take, codes, flat_map, false, decimal};
-ghost use Rattle.sect_text.specs.Parts.{behind, sentence};
-ghost use Rattle.sect_text.specs.Words.{limit_text, audience_text};
+ghost use Rattle.sect_words.specs.Parts.{behind, sentence};
+ghost use Rattle.sect_words.specs.Words.{limit_text, audience_text};
 ghost use Rattle.sect_text.specs.Commands.{
   offering_words,
   student_words,
@@ -29,7 +29,6 @@ ghost use Rattle.sect_text.specs.Commands.{
 use crate::phrase::{
     Phrase, print_each, print_key, print_mark, print_named, print_pair, print_three, print_word,
 };
-use crate::word::{Word, print_bytes};
 use sect_base::{
     Budget, Cap, CourseId, Items, Limit, Memory, OfferingId, SectionId, StudentId, Want,
 };
@@ -38,6 +37,7 @@ use sect_command::{Command, ReserveRow, RestrictRow};
 use sect_people::StudentRow;
 use sect_reserve::Audience;
 use sect_time::Day;
+use sect_words::{Spelled, print_bytes};
 
 fn print_offering(row: &OfferingRow, into: &mut Vec<u8>) -> Result<(), Memory>
     ensures text { OnOk result (into.new.items ≡ into.old.items ++ sentence (offering_words row.now)) }

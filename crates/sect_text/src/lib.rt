@@ -6,11 +6,7 @@ mod phrase;
 mod reply_text;
 mod row_text;
 mod row_words;
-mod word;
 
 pub use command_text::print_command;
 pub use reply_text::print_reply;
 pub use row_text::{is_marked, print_row};
-
-#[cfg(test)]
-mod tests;

@@ -1,11 +1,11 @@
 // What is printed in several words.
 
 ghost use Rattle.std.specs.Prelude.{◌≡◌, ℕ, List, [], ◌++◌, ◌∷◌, OnOk, decimal, length, take, codes, flat_map};
-ghost use Rattle.sect_text.specs.Parts.{behind, sentence};
+ghost use Rattle.sect_words.specs.Parts.{behind, sentence};
 ghost use Rattle.sect_text.specs.Commands.{mark_words};
 
-use crate::word::{Word, print_bytes, print_marked};
 use sect_base::Memory;
+use sect_words::{Spelled, print_bytes, print_marked};
 
 // A value that stands in several words.
 pub(crate) trait Phrase {
@@ -27,16 +27,20 @@ pub(crate) fn print_key(word: &[u8], into: &mut Vec<u8>) -> Result<(), Memory>
 }
 
 // Appends a space and the value's word. After `Memory` a part of it may stand at the end.
-pub(crate) fn print_word<T: Word>(value: &T, into: &mut Vec<u8>) -> Result<(), Memory>
-    ensures text { OnOk result (into.new.items ≡ into.old.items ++ (32 ∷ T.text value.now)) }
+pub(crate) fn print_word<T: Spelled>(value: &T, into: &mut Vec<u8>) -> Result<(), Memory>
+    ensures text { OnOk result (into.new.items ≡ into.old.items ++ (32 ∷ T.spelling value.now)) }
     ensures front { take (length into.old.items) into.new.items ≡ into.old.items }
 {
     print_marked(b' ', value, into)
 }
 
 // Appends a key and the value's word, each behind a space. After `Memory` a part of them may stand at the end.
-pub(crate) fn print_named<T: Word>(key: &[u8], value: &T, into: &mut Vec<u8>) -> Result<(), Memory>
-    ensures text { OnOk result (into.new.items ≡ into.old.items ++ behind 32 (key.now ∷ T.text value.now ∷ [])) }
+pub(crate) fn print_named<T: Spelled>(
+    key: &[u8],
+    value: &T,
+    into: &mut Vec<u8>,
+) -> Result<(), Memory>
+    ensures text { OnOk result (into.new.items ≡ into.old.items ++ behind 32 (key.now ∷ T.spelling value.now ∷ [])) }
     ensures front { take (length into.old.items) into.new.items ≡ into.old.items }
 {
     print_key(key, into)?;
@@ -44,8 +48,12 @@ pub(crate) fn print_named<T: Word>(key: &[u8], value: &T, into: &mut Vec<u8>) ->
 }
 
 // Appends a verb and one word behind it. After `Memory` a part of them may stand at the end.
-pub(crate) fn print_pair<T: Word>(verb: &[u8], value: &T, into: &mut Vec<u8>) -> Result<(), Memory>
-    ensures text { OnOk result (into.new.items ≡ into.old.items ++ sentence (verb.now ∷ T.text value.now ∷ [])) }
+pub(crate) fn print_pair<T: Spelled>(
+    verb: &[u8],
+    value: &T,
+    into: &mut Vec<u8>,
+) -> Result<(), Memory>
+    ensures text { OnOk result (into.new.items ≡ into.old.items ++ sentence (verb.now ∷ T.spelling value.now ∷ [])) }
     ensures front { take (length into.old.items) into.new.items ≡ into.old.items }
 {
     print_bytes(verb, into)?;
@@ -53,13 +61,13 @@ pub(crate) fn print_pair<T: Word>(verb: &[u8], value: &T, into: &mut Vec<u8>) ->
 }
 
 // Appends a verb and two words behind it. After `Memory` a part of them may stand at the end.
-pub(crate) fn print_three<A: Word, B: Word>(
+pub(crate) fn print_three<A: Spelled, B: Spelled>(
     verb: &[u8],
     first: &A,
     second: &B,
     into: &mut Vec<u8>,
 ) -> Result<(), Memory>
-    ensures text { OnOk result (into.new.items ≡ into.old.items ++ sentence (verb.now ∷ A.text first.now ∷ B.text second.now ∷ [])) }
+    ensures text { OnOk result (into.new.items ≡ into.old.items ++ sentence (verb.now ∷ A.spelling first.now ∷ B.spelling second.now ∷ [])) }
     ensures front { take (length into.old.items) into.new.items ≡ into.old.items }
 {
     print_bytes(verb, into)?;

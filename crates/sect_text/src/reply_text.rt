@@ -2,8 +2,8 @@
 
 ghost use Rattle.std.specs.Prelude.{◌≡◌, ℕ, ◌++◌, ◌∷◌, [], OnOk, OnErr, length, take, codes, flat_map, decimal};
 ghost use Rattle.sect_command.specs.TreeText.{tree_text};
-ghost use Rattle.sect_text.specs.Parts.{behind, sentence, joined};
-ghost use Rattle.sect_text.specs.Words.{choice_text};
+ghost use Rattle.sect_words.specs.Parts.{behind, sentence, joined};
+ghost use Rattle.sect_words.specs.Words.{choice_text};
 ghost use Rattle.sect_text.specs.Replies.{
   catalog_fault_words,
   request_fault_words,
@@ -20,12 +20,12 @@ ghost use Rattle.sect_text.specs.Replies.{
 use crate::phrase::{
     Phrase, print_each, print_key, print_named, print_pair, print_three, print_word,
 };
-use crate::word::{Word, print_bytes, print_marked, print_number};
 use sect_base::{Block, Choice, Memory};
 use sect_catalog::CatalogFault;
 use sect_command::{Line, LineResult, Refusal, Reply, RowFault};
 use sect_people::RequestFault;
 use sect_reserve::ReserveFault;
+use sect_words::{Spelled, print_bytes, print_marked, print_number};
 
 fn print_catalog_fault(fault: &CatalogFault, into: &mut Vec<u8>) -> Result<(), Memory>
     ensures text { OnOk result (into.new.items ≡ into.old.items ++ behind 32 (catalog_fault_words fault.now)) }
@@ -139,8 +139,8 @@ struct Request {
     rank: u8,
 }
 
-impl Word for Request {
-    ghost text = { λ r. joined 46 (decimal r.student ∷ decimal r.rank ∷ []) };
+impl Spelled for Request {
+    ghost spelling = { λ r. joined 46 (decimal r.student ∷ decimal r.rank ∷ []) };
 
     fn print(&self, into: &mut Vec<u8>) -> Result<(), Memory> {
         print_number(self.student, into)?;

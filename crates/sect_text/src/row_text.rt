@@ -1,8 +1,8 @@
 // Printing entry rows.
 
 ghost use Rattle.std.specs.Prelude.{◌≡◌, ℕ, ◌++◌, ◌∷◌, [], OnOk, OnErr, length, take};
-ghost use Rattle.sect_text.specs.Parts.{behind, sentence};
-ghost use Rattle.sect_text.specs.Days.{day_text};
+ghost use Rattle.sect_words.specs.Parts.{behind, sentence};
+ghost use Rattle.sect_words.specs.Days.{day_text};
 ghost use Rattle.sect_text.specs.Commands.{command_words, command_text};
 ghost use Rattle.sect_text.specs.Replies.{reply_words, reply_text};
 ghost use Rattle.sect_text.specs.Rows.{is_marked as has_mark, row_front, row_rest, id_words, row_words, row_text};
@@ -10,11 +10,11 @@ ghost use Rattle.sect_text.specs.Rows.{is_marked as has_mark, row_front, row_res
 use crate::command_text::print_verb;
 use crate::phrase::{print_key, print_pair, print_word};
 use crate::reply_text::print_answer_words;
-use crate::word::{Word, print_bytes};
 use sect_base::{Id, Memory};
 use sect_command::{Command, Reply};
 use sect_once::Entry;
 use sect_time::Day;
+use sect_words::{Spelled, print_bytes};
 
 /// Whether the command has a first day, or a class other than 5. It takes no memory.
 pub fn is_marked(command: &Command) -> bool

@@ -1,8 +1,7 @@
 // Printing the rows that commands carry.
 
 ghost use Rattle.std.specs.Prelude.{◌≡◌, ◌++◌, ◌∷◌, [], OnOk, length, take, codes, flat_map};
-ghost use Rattle.sect_text.specs.Parts.{behind};
-ghost use Rattle.sect_text.specs.Words.{curriculum_text, audience_text, choice_text};
+ghost use Rattle.sect_words.specs.Parts.{behind};
 ghost use Rattle.sect_text.specs.Commands.{
   section_words,
   subpart_words,
@@ -18,77 +17,9 @@ ghost use Rattle.sect_text.specs.Commands.{
 };
 
 use crate::phrase::{Phrase, print_each, print_key, print_mark, print_named, print_word};
-use crate::word::{Word, print_bytes, print_marked};
-use sect_base::{
-    AreaId, Choice, ClassId, ConfigId, CourseId, Curriculum, GroupId, Items, MajorId, Memory,
-    SectionId,
-};
+use sect_base::{ConfigId, CourseId, Curriculum, GroupId, Memory, SectionId};
 use sect_catalog::{ConfigRow, CourseRow, SectionRow, SubpartRow};
 use sect_people::{Ask, CourseAsk};
-use sect_reserve::Audience;
-
-impl Word for Curriculum {
-    ghost text = { curriculum_text };
-
-    fn print(&self, into: &mut Vec<u8>) -> Result<(), Memory> {
-        self.area.0.print(into)?;
-        print_marked(b':', &self.class, into)?;
-        print_marked(b':', &self.majors, into)
-    }
-}
-
-// The students of an area, with one of the classes and of the majors.
-fn print_study(
-    area: AreaId,
-    classes: &Items<ClassId>,
-    majors: &Items<MajorId>,
-    into: &mut Vec<u8>,
-) -> Result<(), Memory>
-    ensures text { OnOk result (into.new.items ≡ into.old.items ++ audience_text (Audience.Curriculum area classes.now majors.now)) }
-    ensures front { take (length into.old.items) into.new.items ≡ into.old.items }
-{
-    print_bytes(b"curriculum", into)?;
-    print_marked(b':', &area.0, into)?;
-    print_marked(b':', classes, into)?;
-    print_marked(b':', majors, into)
-}
-
-impl Word for Audience {
-    ghost text = { audience_text };
-
-    fn print(&self, into: &mut Vec<u8>) -> Result<(), Memory> {
-        match self {
-            Audience::Students(ids) => {
-                print_bytes(b"students", into)?;
-                print_marked(b':', ids, into)
-            }
-            Audience::Group(id) => {
-                print_bytes(b"group", into)?;
-                print_marked(b':', &id.0, into)
-            }
-            Audience::Curriculum {
-                area,
-                classes,
-                majors,
-            } => print_study(*area, classes, majors, into),
-            Audience::Course(id) => {
-                print_bytes(b"course", into)?;
-                print_marked(b':', &id.0, into)
-            }
-        }
-    }
-}
-
-impl Word for Choice {
-    ghost text = { choice_text };
-
-    fn print(&self, into: &mut Vec<u8>) -> Result<(), Memory> {
-        self.course.print(into)?;
-        print_marked(b'/', &self.reservation, into)?;
-        print_marked(b'/', &self.config.0, into)?;
-        print_marked(b'/', &self.sections, into)
-    }
-}
 
 impl Phrase for SectionRow {
     ghost words = { section_words };

@@ -1,3 +1,4 @@
+pub mod MarkLemmas
 pub mod NextLemmas
 pub mod PlacingLemmas
 pub mod QueueLemmas

@@ -15,6 +15,8 @@ use Rattle.sect_model.specs.Outcome.{outcome_of}
 use Rattle.sect_model.specs.Settle.{first_entry, comes_first, is_placeable, placement_of, found_in, move_of}
 use Rattle.sect_model.proofs.Members.{both-right, not_both}
 use Rattle.sect_model.proofs.KeptMoves.{found-allowed}
+use Rattle.sect_model.specs.Freer.{Among}
+use Rattle.sect_model.proofs.FreerSettle.{touched-decide}
 use Rattle.sect_wait.specs.declared.next.Candidate.{Candidate}
 use Rattle.sect_wait.specs.Placing.{IsOf, IsBest, is_before, candidate_of}
 
@@ -106,3 +108,15 @@ module _ (w : World) (before : List Waiting) (e : Waiting) where
   pub best-none : (best : Option Candidate) → None ≡ placement_of w e → IsBest w before best → IsBest w (before ++ e ∷ []) best
   best-none None h b = not-placed (ap (λ o. option_map_or (λ choices. true) o false) (sym h)) ∙ b
   best-none (Some c) h b = (b.0, not-placed (ap (λ o. option_map_or (λ choices. true) o false) (sym h)) ∙ b.1, b.2)
+
+  pub best-unplaced : (best : Option Candidate) → is_placeable w e ≡ false → IsBest w before best → IsBest w (before ++ e ∷ []) best
+  best-unplaced None h b = not-placed h ∙ b
+  best-unplaced (Some c) h b = (b.0, not-placed h ∙ b.1, b.2)
+
+-- ---- the touched entries alone
+
+-- where no entry can be placed that isn't touched, the best of the touched ones is the best of all
+pub best-of-touched : (w : World) (es : List Waiting) (touched : Waiting → Bool) (best : Option Candidate)
+    → ((e : Waiting) → Among es e → touched e ≡ false → is_placeable w e ≡ false) → IsBest w (filter touched es) best → IsBest w es best
+best-of-touched w es touched None none h = sym (touched-decide w es touched none) ∙ h
+best-of-touched w es touched (Some c) none h = (h.0, sym (touched-decide w es touched none) ∙ h.1, h.2)

@@ -1,11 +1,13 @@
 // What a waiting entry asks of the search, and what the search finds for it.
 
-ghost use Rattle.std.specs.Prelude.{◌≡◌, ◌≤◌, ◌+◌, [], ◌∷◌, filter, IfOk, IsTrue};
+ghost use Rattle.std.specs.Prelude.{◌≡◌, ◌≤◌, ◌+◌, [], ◌∷◌, filter, IfOk, IsTrue, OnOk};
 ghost use Rattle.std.specs.Option.{option_map, option_to_list};
 ghost use Rattle.sect_model.specs.World.{holds as is_held};
 ghost use Rattle.sect_model.specs.Kept.{entry_fits};
 ghost use Rattle.sect_model.specs.Settle.{move_of as move_of_entry, placement_of};
+ghost use Rattle.sect_wait.specs.Marked.{MarksKept, OthersHaveNoMove};
 
+use crate::marks::Marks;
 use sect_base::{Budget, Choice, CourseId, Duplicate, Items, Memory, Move, StudentId};
 use sect_model::{Outcome, Waiting};
 use sect_search::search;
@@ -14,22 +16,33 @@ use sect_steps::Steps;
 use std::alloc::Global;
 use std::sync::ledger::Ledger;
 
-/// The choice by which the entry can be placed, None exactly where it can't be.
+/// The choice by which the entry can be placed, None exactly where it can't be. The entry is marked unless its search is
+/// blocked: then it has no move.
 pub fn placement<L: Ledger>(
     alloc: Global,
     world: &World,
     entry: &Waiting,
+    marks: &mut Marks,
     steps: &mut Steps<L>,
 ) -> Result<Option<Choice>, Memory>
     requires { IsTrue (entry_fits world.now.world entry.now) }
     ensures choice { IfOk result (λ found. option_map (λ c. c ∷ []) found ≡ placement_of world.now.world entry.now) }
+    ensures kept { MarksKept marks.old marks.new }
+    ensures others { OnOk result (OthersHaveNoMove world.now.world (entry.now ∷ []) marks.new) }
     ensures steps { steps.new ≤ steps.old + 1 }
 {
+    world.is_kept();
     let mv = move_of(alloc, world, entry)?;
     match search(alloc, world, &mv, budget(), steps)? {
-        Outcome::Found(choices, _) => Ok(choices.as_slice().first().copied()),
+        Outcome::Found(choices, _) => {
+            marks.mark(entry.ticket)?;
+            Ok(choices.as_slice().first().copied())
+        }
         Outcome::Blocked(_, _) => Ok(None),
-        Outcome::Spent(_) => Ok(None),
+        Outcome::Spent(_) => {
+            marks.mark(entry.ticket)?;
+            Ok(None)
+        }
     }
 }
 

@@ -4,6 +4,8 @@
 mod back;
 mod entry;
 pub mod laws;
+mod marking;
+mod marks;
 mod next;
 mod place;
 mod queue;
@@ -11,6 +13,8 @@ mod settling;
 mod undo;
 
 pub use back::QueueBack;
+pub use marking::{mark, mark_enrolment, mark_leaving};
+pub use marks::Marks;
 pub use queue::Queue;
 pub use sect_model::{Placed, Waiting};
 pub use settling::settle;

@@ -1,13 +1,15 @@
 // The entry to be placed next: of the smallest class among those that can be placed, and in it the smallest ticket.
 
-ghost use Rattle.std.specs.Prelude.{◌≡◌, ◌≤◌, ◌+◌, ◌++◌, [], ◌∷◌, List, length, false, IfOk, IsTrue};
+ghost use Rattle.std.specs.Prelude.{◌≡◌, ◌≤◌, ◌+◌, ◌++◌, [], ◌∷◌, List, length, false, IfOk, IsTrue, OnOk};
 ghost use Rattle.std.specs.List.{list_all};
 ghost use Rattle.std.specs.Option.{option_map_or, option_or};
 ghost use Rattle.sect_model.specs.declared.held.Waiting.{Waiting as Entry};
 ghost use Rattle.sect_model.specs.Kept.{entry_fits};
+ghost use Rattle.sect_wait.specs.Marked.{MarksKept, OthersHaveNoMove};
 ghost use Rattle.sect_wait.specs.Placing.{IsBest, candidate_of, is_before as comes_before};
 
 use crate::entry::placement;
+use crate::marks::Marks;
 use sect_base::{Choice, CourseId, Memory, StudentId};
 use sect_model::Waiting;
 use sect_space::World;
@@ -25,41 +27,74 @@ pub struct Candidate {
     pub choice: Choice,
 }
 
-/// The first of the entries, by class and then by ticket, that can be placed. None exactly where none can be.
+/// The first of the entries, by class and then by ticket, that can be placed. None exactly where none can be. Only marked
+/// entries are searched; the marks of those that are blocked are taken off.
 pub fn next<L: Ledger>(
     alloc: Global,
     world: &World,
     entries: &[Waiting],
+    marks: &mut Marks,
     steps: &mut Steps<L>,
 ) -> Result<Option<Candidate>, Memory>
-    requires { IsTrue (list_all (entry_fits world.now.world) entries.now) }
+    requires fit { IsTrue (list_all (entry_fits world.now.world) entries.now) }
+    requires others { OthersHaveNoMove world.now.world entries.now marks.old }
     ensures best { IfOk result (λ best. IsBest world.now.world entries.now best) }
+    ensures others { OnOk result (OthersHaveNoMove world.now.world entries.now marks.new) }
+    ensures steps { steps.new ≤ steps.old + length entries.now }
+{
+    let mut left = Marks::none(alloc);
+    let best = best_of(alloc, world, entries, marks, &mut left, steps)?;
+    *marks = left;
+    Ok(best)
+}
+/// The first of the entries that can be placed, and which of them must be tried again.
+fn best_of<L: Ledger>(
+    alloc: Global,
+    world: &World,
+    entries: &[Waiting],
+    marks: &Marks,
+    left: &mut Marks,
+    steps: &mut Steps<L>,
+) -> Result<Option<Candidate>, Memory>
+    requires fit { IsTrue (list_all (entry_fits world.now.world) entries.now) }
+    requires others { OthersHaveNoMove world.now.world entries.now marks.now }
+    ensures best { IfOk result (λ best. IsBest world.now.world entries.now best) }
+    ensures others { OnOk result (OthersHaveNoMove world.now.world entries.now left.new) }
     ensures steps { steps.new ≤ steps.old + length entries.now }
 {
     let mut best = None;
     for entry in entries {
-        best = better(alloc, world, &best, entry, steps)?.or(best);
+        best = better(alloc, world, &best, entry, marks, left, steps)?.or(best);
     }
     Ok(best)
 }
 
-/// The entry with the choice that its search finds, where it comes before the best so far, and None where that stays.
-/// The entry is searched only where it would come before.
+/// The entry with the choice that its search finds, where it comes before the best so far, and None where that stays. The
+/// entry is searched only where it is marked and would come before. It stays marked unless its search is blocked.
 fn better<L: Ledger>(
     alloc: Global,
     world: &World,
     best: &Option<Candidate>,
     entry: &Waiting,
+    marks: &Marks,
+    left: &mut Marks,
     steps: &mut Steps<L>,
 ) -> Result<Option<Candidate>, Memory>
-    requires { IsTrue (entry_fits world.now.world entry.now) }
+    requires fits { IsTrue (entry_fits world.now.world entry.now) }
+    requires others { OthersHaveNoMove world.now.world (entry.now ∷ []) marks.now }
     ensures best { IfOk result (λ new. (before : List Entry) → IsBest world.now.world before best.now → IsBest world.now.world (before ++ entry.now ∷ []) (option_or new best.now)) }
+    ensures kept { MarksKept left.old left.new }
+    ensures others { OnOk result (OthersHaveNoMove world.now.world (entry.now ∷ []) left.new) }
     ensures steps { steps.new ≤ steps.old + 1 }
 {
-    if is_behind(best, entry) {
+    if !marks.has(entry.ticket) {
         return Ok(None);
     }
-    match placement(alloc, world, entry, steps)? {
+    if is_behind(best, entry) {
+        left.mark(entry.ticket)?;
+        return Ok(None);
+    }
+    match placement(alloc, world, entry, left, steps)? {
         Some(choice) => Ok(Some(chosen(entry, choice))),
         None => Ok(None),
     }

@@ -1,18 +1,23 @@
 // The placement of an entry: the course to give up leaves, the student is enrolled, and the entry leaves the queue.
 
-ghost use Rattle.std.specs.Prelude.{◌≡◌, [], ◌∷◌, filter, OnOk};
+ghost use Rattle.std.specs.Prelude.{◌≡◌, [], ◌∷◌, filter, OnOk, IsTrue};
+ghost use Rattle.std.specs.List.{list_all};
 ghost use Rattle.sect_model.specs.World.{leave_all, holds as is_held};
 ghost use Rattle.sect_model.specs.Fits.{Fits, changed};
+ghost use Rattle.sect_model.specs.Kept.{entry_fits};
 ghost use Rattle.sect_space.specs.Undo.{Since, Undoable};
+ghost use Rattle.sect_wait.specs.Marked.{OthersHaveNoMove};
 ghost use Rattle.sect_wait.specs.Queued.{left as queue_without};
 ghost use Rattle.sect_wait.specs.Undo.{Since as QueueSince, Undoable as QueueUndoable};
 ghost use Rattle.sect_wait.specs.Placing.{given_up, moved, enrolment_of};
 
+use crate::marking::{mark_enrolment, mark_leaving};
+use crate::marks::Marks;
 use crate::next::Candidate;
 use crate::queue::Queue;
 use crate::undo::QueueUndo;
 use sect_base::{CourseId, Memory, StudentId};
-use sect_model::{Change, Enrolment};
+use sect_model::{Change, Enrolment, Waiting};
 use sect_space::{Undo, World};
 
 /// Makes the candidate's move, and takes its entry out of the queue. Where memory runs out, some of the changes are made.
@@ -20,45 +25,68 @@ pub fn place(
     world: &mut World,
     queue: &mut Queue,
     candidate: &Candidate,
+    marks: &mut Marks,
     undo: &mut Undo,
     left: &mut QueueUndo,
 ) -> Result<(), Memory>
     requires fits { Fits (given_up world.old.world candidate.now) (Change.Enrol (enrolment_of candidate.now)) }
+    requires fit { IsTrue (list_all (entry_fits world.old.world) queue.old.queue.entries) }
+    requires others { OthersHaveNoMove world.old.world queue.old.queue.entries marks.old }
     requires undoable { Undoable world.old undo.old.backs }
     requires queue_undoable { QueueUndoable queue.old left.old }
     ensures world { OnOk result (world.new.world ≡ moved world.old.world candidate.now) }
     ensures queue { OnOk result (queue.new.queue ≡ queue_without queue.old.queue candidate.now.ticket) }
+    ensures others { OnOk result (OthersHaveNoMove world.new.world queue.new.queue.entries marks.new) }
     ensures since { Since world.old.world undo.old.backs world.new.world undo.new.backs }
     ensures queue_since { QueueSince queue.old.queue left.old queue.new.queue left.new }
     ensures undoable { Undoable world.new undo.new.backs }
     ensures queue_undoable { QueueUndoable queue.new left.new }
 {
-    place_in_world(world, candidate, undo)?;
+    place_in_world(world, queue.entries(), candidate, marks, undo)?;
     let _ = queue.leave(candidate.ticket, left)?;
     Ok(())
 }
 
 /// Makes the candidate's move.
-fn place_in_world(world: &mut World, candidate: &Candidate, undo: &mut Undo) -> Result<(), Memory>
+fn place_in_world(
+    world: &mut World,
+    entries: &[Waiting],
+    candidate: &Candidate,
+    marks: &mut Marks,
+    undo: &mut Undo,
+) -> Result<(), Memory>
     requires fits { Fits (given_up world.old.world candidate.now) (Change.Enrol (enrolment_of candidate.now)) }
+    requires fit { IsTrue (list_all (entry_fits world.old.world) entries.now) }
+    requires others { OthersHaveNoMove world.old.world entries.now marks.old }
     requires undoable { Undoable world.old undo.old.backs }
     ensures ok { OnOk result (world.new.world ≡ moved world.old.world candidate.now) }
+    ensures others { OnOk result (OthersHaveNoMove world.new.world entries.now marks.new) }
     ensures since { Since world.old.world undo.old.backs world.new.world undo.new.backs }
     ensures undoable { Undoable world.new undo.new.backs }
 {
-    give_up(world, candidate, undo)?;
-    enrol(world, candidate, undo)
+    give_up(world, entries, candidate, marks, undo)?;
+    enrol(world, entries, candidate, marks, undo)
 }
 
 /// Takes the student out of the course to give up, where the student holds it.
-fn give_up(world: &mut World, candidate: &Candidate, undo: &mut Undo) -> Result<(), Memory>
-    requires { Undoable world.old undo.old.backs }
+fn give_up(
+    world: &mut World,
+    entries: &[Waiting],
+    candidate: &Candidate,
+    marks: &mut Marks,
+    undo: &mut Undo,
+) -> Result<(), Memory>
+    requires fit { IsTrue (list_all (entry_fits world.old.world) entries.now) }
+    requires others { OthersHaveNoMove world.old.world entries.now marks.old }
+    requires undoable { Undoable world.old undo.old.backs }
     ensures ok { OnOk result (world.new.world ≡ given_up world.old.world candidate.now) }
+    ensures fit { OnOk result (IsTrue (list_all (entry_fits world.new.world) entries.now)) }
+    ensures others { OnOk result (OthersHaveNoMove world.new.world entries.now marks.new) }
     ensures since { Since world.old.world undo.old.backs world.new.world undo.new.backs }
     ensures undoable { Undoable world.new undo.new.backs }
 {
     match candidate.give {
-        Some(course) => leave(world, candidate.student, course, undo),
+        Some(course) => leave(world, entries, candidate.student, course, marks, undo),
         None => Ok(()),
     }
 }
@@ -66,16 +94,24 @@ fn give_up(world: &mut World, candidate: &Candidate, undo: &mut Undo) -> Result<
 /// Takes the student out of the course, where the student holds it.
 fn leave(
     world: &mut World,
+    entries: &[Waiting],
     student: StudentId,
     course: CourseId,
+    marks: &mut Marks,
     undo: &mut Undo,
 ) -> Result<(), Memory>
-    requires { Undoable world.old undo.old.backs }
+    requires fit { IsTrue (list_all (entry_fits world.old.world) entries.now) }
+    requires others { OthersHaveNoMove world.old.world entries.now marks.old }
+    requires undoable { Undoable world.old undo.old.backs }
     ensures ok { OnOk result (world.new.world ≡ leave_all world.old.world student (filter (is_held world.old.world student) (course ∷ []))) }
+    ensures fit { OnOk result (IsTrue (list_all (entry_fits world.new.world) entries.now)) }
+    ensures others { OnOk result (OthersHaveNoMove world.new.world entries.now marks.new) }
     ensures since { Since world.old.world undo.old.backs world.new.world undo.new.backs }
     ensures undoable { Undoable world.new undo.new.backs }
 {
     if world.holds(student, course) {
+        world.is_kept();
+        mark_leaving(world, entries, student, course, marks)?;
         make(world, Change::Leave(student, course), undo)
     } else {
         Ok(())
@@ -83,10 +119,19 @@ fn leave(
 }
 
 /// Enrols the candidate's student by the choice.
-fn enrol(world: &mut World, candidate: &Candidate, undo: &mut Undo) -> Result<(), Memory>
+fn enrol(
+    world: &mut World,
+    entries: &[Waiting],
+    candidate: &Candidate,
+    marks: &mut Marks,
+    undo: &mut Undo,
+) -> Result<(), Memory>
     requires fits { Fits world.old.world (Change.Enrol (enrolment_of candidate.now)) }
+    requires fit { IsTrue (list_all (entry_fits world.old.world) entries.now) }
+    requires others { OthersHaveNoMove world.old.world entries.now marks.old }
     requires undoable { Undoable world.old undo.old.backs }
     ensures ok { OnOk result (world.new.world ≡ changed world.old.world (Change.Enrol (enrolment_of candidate.now))) }
+    ensures others { OnOk result (OthersHaveNoMove world.new.world entries.now marks.new) }
     ensures since { Since world.old.world undo.old.backs world.new.world undo.new.backs }
     ensures undoable { Undoable world.new undo.new.backs }
 {
@@ -94,6 +139,8 @@ fn enrol(world: &mut World, candidate: &Candidate, undo: &mut Undo) -> Result<()
         student: candidate.student,
         choice: candidate.choice,
     };
+    world.is_kept();
+    mark_enrolment(world, entries, &enrolment, marks)?;
     make(world, Change::Enrol(enrolment), undo)
 }
 

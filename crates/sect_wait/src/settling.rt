@@ -5,10 +5,12 @@ ghost use Rattle.std.specs.List.{list_all};
 ghost use Rattle.sect_model.specs.Kept.{entry_fits};
 ghost use Rattle.sect_model.specs.Settle.{settle as settled, is_settled};
 ghost use Rattle.sect_space.specs.Undo.{Since, Undoable};
+ghost use Rattle.sect_wait.specs.Marked.{OthersHaveNoMove, no_marks};
 ghost use Rattle.sect_wait.specs.Queued.{state_of};
 ghost use Rattle.sect_wait.specs.Undo.{Since as QueueSince, Undoable as QueueUndoable};
 ghost use Rattle.sect_wait.specs.Placing.{placed_of as placed_from};
 
+use crate::marks::Marks;
 use crate::next::{Candidate, next};
 use crate::place::place;
 use crate::queue::Queue;
@@ -20,21 +22,26 @@ use sect_steps::Steps;
 use std::alloc::Global;
 use std::sync::ledger::Ledger;
 
-/// Places the entries that can be placed, one after another, and tells them in that order. After each placement all entries
-/// are tried again. Where memory runs out, world, queue and what is recorded are as before.
+/// Places the entries that can be placed, one after another, and tells them in that order. The entries that aren't marked
+/// have no move, and aren't tried; each placement marks those that it may give one. Where memory runs out, world, queue and
+/// what is recorded are as before, and all entries are marked.
 pub fn settle<L: Ledger>(
     alloc: Global,
     world: &mut World,
     queue: &mut Queue,
+    marks: &mut Marks,
     undo: &mut Undo,
     left: &mut QueueUndo,
     steps: &mut Steps<L>,
 ) -> Result<Items<Placed>, Memory>
     requires fit { IsTrue (list_all (entry_fits world.old.world) queue.old.queue.entries) }
+    requires others { OthersHaveNoMove world.old.world queue.old.queue.entries marks.old }
     requires undoable { Undoable world.old undo.old.backs }
     requires queue_undoable { QueueUndoable queue.old left.old }
     ensures settled { IfOk result (λ placed. settled (state_of world.old.world queue.old.queue) ≡ record { state = state_of world.new.world queue.new.queue; placed = placed }) }
     ensures nobody_left { OnOk result (IsTrue (is_settled (state_of world.new.world queue.new.queue))) }
+    ensures others { OthersHaveNoMove world.new.world queue.new.queue.entries marks.new }
+    ensures unmarked { marks.old ≡ no_marks → steps.new ≡ steps.old }
     ensures steps { IfOk result (λ placed. steps.new ≤ steps.old + (length placed + 1) * length queue.old.queue.entries) }
     ensures err { OnErr result (world.new.world ≡ world.old.world) }
     ensures queue_err { OnErr result (queue.new.queue ≡ queue.old.queue) }
@@ -45,13 +52,17 @@ pub fn settle<L: Ledger>(
     ensures undoable { Undoable world.new undo.new.backs }
     ensures queue_undoable { QueueUndoable queue.new left.new }
 {
+    if marks.is_none() {
+        return Ok(Items::from_vec(Vec::new(alloc)));
+    }
     world.is_kept();
     let made = undo.len();
     let gone = left.len();
-    let placed = place_all(alloc, world, queue, undo, left, steps);
+    let placed = place_all(alloc, world, queue, marks, undo, left, steps);
     if placed.is_err() {
         world.undo_to(undo, made);
         queue.undo_to(left, gone);
+        marks.mark_all();
     }
     placed
 }
@@ -61,14 +72,17 @@ fn place_all<L: Ledger>(
     alloc: Global,
     world: &mut World,
     queue: &mut Queue,
+    marks: &mut Marks,
     undo: &mut Undo,
     left: &mut QueueUndo,
     steps: &mut Steps<L>,
 ) -> Result<Items<Placed>, Memory>
     requires fit { IsTrue (list_all (entry_fits world.old.world) queue.old.queue.entries) }
+    requires others { OthersHaveNoMove world.old.world queue.old.queue.entries marks.old }
     requires undoable { Undoable world.old undo.old.backs }
     requires queue_undoable { QueueUndoable queue.old left.old }
     ensures settled { IfOk result (λ placed. settled (state_of world.old.world queue.old.queue) ≡ record { state = state_of world.new.world queue.new.queue; placed = placed }) }
+    ensures others { OnOk result (OthersHaveNoMove world.new.world queue.new.queue.entries marks.new) }
     ensures steps { IfOk result (λ placed. steps.new ≤ steps.old + (length placed + 1) * length queue.old.queue.entries) }
     ensures since { Since world.old.world undo.old.backs world.new.world undo.new.backs }
     ensures queue_since { QueueSince queue.old.queue left.old queue.new.queue left.new }
@@ -79,9 +93,9 @@ fn place_all<L: Ledger>(
     queue.is_kept();
     let mut placed = Vec::new(alloc);
     'rounds: loop {
-        match next(alloc, world, queue.entries(), steps)? {
+        match next(alloc, world, queue.entries(), marks, steps)? {
             Some(candidate) => {
-                place(world, queue, &candidate, undo, left)?;
+                place(world, queue, &candidate, marks, undo, left)?;
                 placed.push(placed_of(&candidate))?;
             }
             None => return Ok(Items::from_vec(placed)),

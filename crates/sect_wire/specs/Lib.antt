@@ -1,11 +1,4 @@
-pub mod Faults
-pub mod Fits
-pub mod Laws
-pub mod Lines
-pub mod Parts
-pub mod Reading
-pub mod ReadingCommands
-pub mod ReadingLines
-pub mod ReadingReplies
-pub mod ReadingRows
-pub mod ReadingWords
+pub use Rattle.sect_read.specs.Fits
+pub use Rattle.sect_read.specs.Laws
+pub use Rattle.sect_read.specs.Lines
+pub use Rattle.sect_read.specs.ReadingLines

@@ -1,119 +1,120 @@
--- A day's text is that of the date found for it.
-use Rattle.std.proofs.Common.{◌≡◌, ◌<◌, ◌≤◌, ℕ, Bool, true, false, ◌&&◌, List, Option, None, Some, ap, refl, sym, ◌∙◌, arith, pos, nat_le}
-use Rattle.std.proofs.lemmas.Bool.Decides.{nat_tests, Decides-int_eq}
+-- The text of a day is its one spelling.
+use Rattle.std.proofs.Common.{◌≡◌, ℕ, zero, suc, ◌<◌, ◌≤◌, true, List, Option, None, Some, refl, ap, sym, ◌∙◌, arith, inl, inr, nat_le, subst, ◌⊎◌}
+use Rattle.std.specs.Prelude.{pos, ◌&&◌, if◌then◌else◌}
+use Rattle.std.specs.Ordering.{int_eq}
 use Rattle.std.proofs.lemmas.Int.{ints}
+use Rattle.std.proofs.lemmas.Bool.Decides.{nat_tests, Decides-int_eq}
+use Rattle.std.proofs.lemmas.Bool.{and_parts, and_from, cases_lt}
+use Rattle.std.proofs.lemmas.Option.{cond_some}
 use Rattle.jiff_core.specs.Calendar.{IsDate, days_in_month, days_from_civil}
-use Rattle.sect_time.specs.DayText.{IsDayText, date_text}
+use Rattle.jiff_core.proofs.CalendarLemmas.{days_in_month_bounds}
+use Rattle.sect_time.specs.DayText.{date_text, IsDayText}
 use Rattle.sect_time.proofs.DayTexts.{one_spelling}
-use Rattle.sect_words.specs.Days.{Date, date_with, day_text, is_date, is_number_of}
-use Rattle.sect_words.proofs.FirstLaws.{found_below, none_below, where_passes, where_fails}
+use Rattle.sect_words.specs.Days.{either_of, found_below, has_number, text_if, or_nothing, day_text}
 
-both : (a b : Bool) → (a && b) ≡ true → (a ≡ true) × (b ≡ true)
-both true b e = (refl, e)
-both false b e = absurd (cc)
+le_test : (a b : ℕ) → nat_le a b ≡ true → a ≤ b
+le_test a b e = grind (arith, nat_tests)
 
--- a date that was found
-pub record FoundDate (test : Date → Bool) (d : Date) : Type 0 where
-  pub year : d.year < 10000
-  pub month : d.month < 13
-  pub is_date : is_date d ≡ true
-  pub passes : test d ≡ true
-
--- what is found is a date that passes
-pub found_date : (test : Date → Bool) (d : Date) → date_with test ≡ Some d → FoundDate test d
-unfolding date_with
-found_date test d e =
-    let y = found_below 10000 _ d e in
-    let m = found_below 13 _ d y.is in
-    let k = found_below 32 _ d m.is in
-    let p = where_passes _ _ d k.is in
-    let b = both _ _ p.0 in
-    record { year = ap_year p.1 y.below; month = ap_month p.1 m.below; is_date = ap is_date (sym p.1) ∙ b.0; passes = ap test (sym p.1) ∙ b.1 }
-  where
-    ap_year : {a b : Date} → a ≡ b → a.year < 10000 → b.year < 10000
-    ap_year {a} {b} e h = let f : a.year ≡ b.year = ap (λ (d : Date). d.year) e in omega arith
-
-    ap_month : {a b : Date} → a ≡ b → a.month < 13 → b.month < 13
-    ap_month {a} {b} e h = let f : a.month ≡ b.month = ap (λ (d : Date). d.month) e in omega arith
-
--- where none is found, no date passes
-pub none_date : (test : Date → Bool) → date_with test ≡ None → (d : Date) → d.year < 10000 → d.month < 13 → d.date < 32 → (is_date d && test d) ≡ false
-unfolding date_with
-none_date test e d y m k =
-    where_fails _ d (none_below 32 _ (none_below 13 _ (none_below 10000 _ e d.year y) d.month m) d.date k)
-
-le_test : (a b : ℕ) → a ≤ b → nat_le a b ≡ true
-le_test a b h = grind (arith, nat_tests)
-
-test_le : (a b : ℕ) → nat_le a b ≡ true → a ≤ b
+test_le : (a b : ℕ) → a ≤ b → nat_le a b ≡ true
 test_le a b h = grind (arith, nat_tests)
 
--- a date by the test is one of the calendar
-pub calendar_date : (d : Date) → d.year < 10000 → d.month < 13 → is_date d ≡ true → IsDate (pos d.year) (pos d.month) (pos d.date)
-calendar_date d y m e =
-    let a = both (nat_le 1 d.month && nat_le 1 d.date) (nat_le d.date (days_in_month (pos d.year) d.month)) e in
-    let b = both (nat_le 1 d.month) (nat_le 1 d.date) a.0 in
-    let low = test_le 1 d.month b.0 in
-    let first = test_le 1 d.date b.1 in
-    let last = test_le d.date (days_in_month (pos d.year) d.month) a.1 in
-    ((omega (arith, ints), omega (arith, ints)), (omega (arith, ints), omega (arith, ints)), (omega (arith, ints), omega (arith, ints)))
+-- the bound is one above what is tested first
+found_first : {X : Type 0} (find : ℕ → Option X) (n : ℕ) (x : X) (o : Option X) → find n ≡ o
+    → (found_below find n ≡ Some x → (k : ℕ) × (k < n) × (find k ≡ Some x))
+    → either_of o (found_below find n) ≡ Some x → (k : ℕ) × (k < suc n) × (find k ≡ Some x)
+found_first find n x None is later e = let found = later e in (found.0, omega (arith, found.1), found.2)
+found_first find n x (Some y) is later e = (n, omega arith, is ∙ e)
 
--- a date of the calendar is one by the test
-tested_date : (d : Date) → IsDate (pos d.year) (pos d.month) (pos d.date) → is_date d ≡ true
-tested_date d h =
-    let low : 1 ≤ d.month = omega (arith, ints, h.1.0) in
-    let first : 1 ≤ d.date = omega (arith, ints, h.2.0) in
-    let last : d.date ≤ days_in_month (pos d.year) d.month = omega (arith, ints, h.2.1) in
-    rw (le_test 1 d.month low, le_test 1 d.date first, le_test d.date (days_in_month (pos d.year) d.month) last) refl
+-- what is found below a bound is found at a number below it
+pub found_at : {X : Type 0} (find : ℕ → Option X) (n : ℕ) (x : X) → found_below find n ≡ Some x → (k : ℕ) × (k < n) × (find k ≡ Some x)
+unfolding found_below
+found_at find zero x e = absurd (cc)
+found_at find (suc n) x e = found_first find n x (find n) refl (λ p. found_at find n x p) e
 
--- a date that the calendar has is looked at
-pub record IsLookedAt (d : Date) : Type 0 where
-  pub year : d.year < 10000
-  pub month : d.month < 13
-  pub date : d.date < 32
-  pub tested : is_date d ≡ true
+still_found : {X : Type 0} (first other : Option X) (x : X) → other ≡ Some x → (y : X) × (either_of first other ≡ Some y)
+still_found None other x e = (x, e)
+still_found (Some y) other x e = (y, refl)
 
-month_days : (y m : ℕ) → days_in_month (pos y) m < 32
-month_days y m = grind arith
+first_found : {X : Type 0} (first other : Option X) (x : X) → first ≡ Some x → (y : X) × (either_of first other ≡ Some y)
+first_found first other x e = (x, ap (λ o. either_of o other) e)
 
-pub looked_at : (d : Date) → IsDate (pos d.year) (pos d.month) (pos d.date) → IsLookedAt d
-looked_at d h = record {
-  year = omega (arith, ints, h.0.1);
-  month = omega (arith, ints, h.1.1);
-  date = omega (arith, ints, h.2.1, month_days d.year d.month);
-  tested = tested_date d h;
-}
+by_place : {X : Type 0} (find : ℕ → Option X) (n k : ℕ) (x : X) → k < suc n → find k ≡ Some x → (k < n → (y : X) × (found_below find n ≡ Some y)) → (k < n) ⊎ (n ≤ k)
+    → (y : X) × (either_of (find n) (found_below find n) ≡ Some y)
+by_place find n k x h e later (inl low) = let found = later low in still_found (find n) (found_below find n) found.0 found.1
+by_place find n k x h e later (inr high) = let same : n ≡ k = omega arith in first_found (find n) (found_below find n) x (ap find same ∙ e)
 
-same_int : (d : Date) (n : ℕ) → days_from_civil (pos d.year) d.month d.date ≡ pos n → is_number_of n d ≡ true
-same_int d n e = grind (arith, nat_tests, Decides-int_eq, e)
+-- where something is found at a number below a bound, something is found below it
+pub some_found : {X : Type 0} (find : ℕ → Option X) (n k : ℕ) (x : X) → k < n → find k ≡ Some x → (y : X) × (found_below find n ≡ Some y)
+unfolding found_below
+some_found find zero k x h e = absurd (omega arith)
+some_found find (suc n) k x h e = by_place find n k x h e (λ low. some_found find n k x low e) (cases_lt k n)
 
-int_same : (d : Date) (n : ℕ) → is_number_of n d ≡ true → days_from_civil (pos d.year) d.month d.date ≡ pos n
-int_same d n e = grind (arith, nat_tests, Decides-int_eq, e)
+-- the date that has a number is in the calendar
+has_date : (day year month date : ℕ) → year < 10000 → has_number day year month date ≡ true → IsDayText (date_text year month date) day
+has_date day year month date late test =
+    let p = and_parts (((nat_le 1 month && nat_le month 12) && nat_le 1 date) && nat_le date (days_in_month (pos year) month)) (int_eq (days_from_civil (pos year) month date) (pos day)) test in
+    let q = and_parts ((nat_le 1 month && nat_le month 12) && nat_le 1 date) (nat_le date (days_in_month (pos year) month)) p.0 in
+    let r = and_parts (nat_le 1 month && nat_le month 12) (nat_le 1 date) q.0 in
+    let s = and_parts (nat_le 1 month) (nat_le month 12) r.0 in
+    let a = le_test 1 month s.0 in
+    let b = le_test month 12 s.1 in
+    let c = le_test 1 date r.1 in
+    let d = le_test date (days_in_month (pos year) month) q.1 in
+    record {
+      year = year;
+      month = month;
+      date = date;
+      is_date = ((omega (arith, ints), omega (arith, ints)), (omega (arith, ints), omega (arith, ints)), (omega (arith, ints), omega (arith, ints)));
+      is_text = refl;
+      is_number = (Decides-int_eq (days_from_civil (pos year) month date) (pos day)).0 p.1;
+    }
 
--- the text of a date that was found is that of the day
-text_of_found : (n : ℕ) (d : Date) → FoundDate (is_number_of n) d → IsDayText (date_text d.year d.month d.date) n
-text_of_found n d f = record {
-  year = d.year;
-  month = d.month;
-  date = d.date;
-  is_date = calendar_date d f.year f.month f.is_date;
-  is_text = refl;
-  is_number = int_same d n f.passes;
-}
+-- a date of the calendar has its number
+has_its_number : (day year month date : ℕ) → IsDate (pos year) (pos month) (pos date) → days_from_civil (pos year) month date ≡ pos day
+    → has_number day year month date ≡ true
+has_its_number day year month date is number =
+    let a : 1 ≤ month = omega (arith, ints, is.1.0) in
+    let b : month ≤ 12 = omega (arith, ints, is.1.1) in
+    let c : 1 ≤ date = omega (arith, ints, is.2.0) in
+    let d : date ≤ days_in_month (pos year) month = omega (arith, ints, is.2.1) in
+    and_from _ _ (and_from _ _ (and_from _ _ (and_from _ _ (test_le 1 month a) (test_le month 12 b)) (test_le 1 date c)) (test_le date (days_in_month (pos year) month) d))
+    ((Decides-int_eq (days_from_civil (pos year) month date) (pos day)).1 number)
 
-pub not_both : (a b : Bool) → a ≡ true → b ≡ true → (a && b) ≡ false → ⊥
-not_both a b p q e = cc (rw (p, q) at e)
+text_of_if : (day year month date : ℕ) (text : List ℕ) → text_if day year month date ≡ Some text
+    → (has_number day year month date ≡ true) × (date_text year month date ≡ text)
+text_of_if day year month date text e = cond_some (has_number day year month date) (date_text year month date) text e
 
--- a text that says a day is the day's
-pub spelled_day : (text : List ℕ) (n : ℕ) → IsDayText text n → text ≡ day_text n
+-- what is found among the dates is a text of the day
+found_text : (day : ℕ) (text : List ℕ) → found_below (λ year. found_below (λ month. found_below (text_if day year month) 32) 13) 10000 ≡ Some text
+    → IsDayText text day
+found_text day text e =
+    let year = found_at (λ year. found_below (λ month. found_below (text_if day year month) 32) 13) 10000 text e in
+    let month = found_at (λ month. found_below (text_if day year.0 month) 32) 13 text year.2 in
+    let date = found_at (text_if day year.0 month.0) 32 text month.2 in
+    let test = text_of_if day year.0 month.0 date.0 text date.2 in
+    subst (λ t. IsDayText t day) test.1 (has_date day year.0 month.0 date.0 year.1 test.0)
+
+-- something is found where the day has a text
+text_found : (day : ℕ) (text : List ℕ) → IsDayText text day
+    → (found : List ℕ) × (found_below (λ year. found_below (λ month. found_below (text_if day year month) 32) 13) 10000 ≡ Some found)
+text_found day text is =
+    let test = has_its_number day is.year is.month is.date is.is_date is.is_number in
+    let hit : text_if day is.year is.month is.date ≡ Some (date_text is.year is.month is.date) =
+    ap (λ b. if b then Some (date_text is.year is.month is.date) else None) test in
+    let low : is.month ≤ 12 = omega (arith, ints, is.is_date.1.1) in
+    let few = days_in_month_bounds (pos is.year) is.month in
+    let short : is.date ≤ days_in_month (pos is.year) is.month = omega (arith, ints, is.is_date.2.1) in
+    let date = some_found (text_if day is.year is.month) 32 is.date (date_text is.year is.month is.date) (omega (arith, few, short)) hit in
+    let month = some_found (λ month. found_below (text_if day is.year month) 32) 13 is.month date.0 (omega (arith, low)) date.1 in
+    some_found (λ year. found_below (λ month. found_below (text_if day year month) 32) 13) 10000 is.year month.0 (omega (arith, ints, is.is_date.0.1)) month.1
+
+-- the text of a day is the one that says it
+pub text_of_day : (text : List ℕ) (day : ℕ) → IsDayText text day → text ≡ day_text day
 unfolding day_text
-spelled_day text n is = by (date_with (is_number_of n)) refl
-  where
-    the : Date
-    the = record { year = is.year; month = is.month; date = is.date }
+text_of_day text day is =
+    let found = text_found day text is in
+    one_spelling text found.0 day is (found_text day found.0 found.1) ∙ sym (ap or_nothing found.1)
 
-    by : (found : Option Date) → date_with (is_number_of n) ≡ found → text ≡ day_text n
-    by None e =
-        let l = looked_at the is.is_date in
-        absurd (not_both _ _ l.tested (same_int the n is.is_number) (none_date (is_number_of n) e the l.year l.month l.date))
-    by (Some d) e = one_spelling text (date_text d.year d.month d.date) n is (text_of_found n d (found_date (is_number_of n) d e)) ∙ sym (rw e refl)
+-- where a day has a text at all, its text says it
+pub says_day : (text : List ℕ) (day : ℕ) → IsDayText text day → IsDayText (day_text day) day
+says_day text day is = subst (λ t. IsDayText t day) (text_of_day text day is) is

@@ -1,6 +1,10 @@
-pub mod Appending
+pub mod Cuts
+pub mod Dates
 pub mod DayLaws
-pub mod FirstLaws
-pub mod ListLaws
+pub mod Exact
+pub mod Loops
+pub mod Numbers
+pub mod Parsing
+pub mod Pieces
 pub mod TermLaws
-pub mod TimeLaws
+pub mod Values

@@ -2,15 +2,15 @@
 use Rattle.std.proofs.Common.{◌≡◌, ◌<◌, ◌≤◌, ◌+◌, ◌-◌, ◌/◌, ◌^◌, ℕ, Bool, true, false, ◌&&◌, Option, None, Some, ap, refl, sym, ◌∙◌, arith, nat_le}
 use Rattle.std.specs.Prelude.{◌↔◌, IsTrue, IsSome, IfSome}
 use Rattle.std.specs.Int.{bit_at}
+use Rattle.std.proofs.lemmas.Bool.{and_parts}
 use Rattle.std.proofs.lemmas.Bool.Decides.{nat_tests}
 use Rattle.std.proofs.lemmas.Nat.Bits.{bit_at-lt, same_from_bits_below}
 use Rattle.sect_time.specs.Pattern.{has_bit}
 use Rattle.sect_time.specs.Weeks.{AreDaysOfTerm, MeetsWeek, week_range}
 use Rattle.sect_time.proofs.BitLemmas.{has_bit-one}
 use Rattle.sect_time.proofs.WeekLemmas.{meets_week, has_bit-week_range, week_range_sixty}
-use Rattle.sect_words.specs.First.{only_where}
+use Rattle.sect_words.specs.Reading.{only_where}
 use Rattle.sect_words.specs.Times.{weeks_between}
-use Rattle.sect_words.proofs.FirstLaws.{both}
 
 -- both bits are set, or none is
 one_bit : (a b k : ℕ) → (IsTrue (has_bit a k) → IsTrue (has_bit b k)) → (IsTrue (has_bit b k) → IsTrue (has_bit a k)) → bit_at a k ≡ bit_at b k
@@ -50,8 +50,8 @@ test_days term first last d =
 
 days_test : (term first last : ℕ) → (nat_le term first && nat_le first last && nat_le last (term + 419)) ≡ true → AreDaysOfTerm term first last
 days_test term first last e =
-    let a = both (nat_le term first && nat_le first last) (nat_le last (term + 419)) e in
-    let b = both (nat_le term first) (nat_le first last) a.0 in
+    let a = and_parts (nat_le term first && nat_le first last) (nat_le last (term + 419)) e in
+    let b = and_parts (nat_le term first) (nat_le first last) a.0 in
     record { begun = most term first b.0; order = most first last b.1; within = most last (term + 419) a.1 }
   where
     most : (x y : ℕ) → nat_le x y ≡ true → x ≤ y

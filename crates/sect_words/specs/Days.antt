@@ -1,31 +1,33 @@
--- The word for a day: the date whose number it is.
-use Rattle.std.specs.Prelude.{ℕ, Bool, ◌&&◌, nat_le, List, [], Option, pos}
-use Rattle.std.specs.Option.{option_map_or}
+-- The text of a day by its number.
+use Rattle.std.specs.Prelude.{ℕ, zero, suc, Bool, ◌&&◌, nat_le, List, [], if◌then◌else◌, Option, Some, None, pos}
 use Rattle.std.specs.Ordering.{int_eq}
 use Rattle.jiff_core.specs.Calendar.{days_in_month, days_from_civil}
 use Rattle.sect_time.specs.DayText.{date_text}
-use Rattle.sect_words.specs.First.{first_below, only_where}
 
--- a year, a month and a day of the month
-pub record Date : Type 0 where
-  pub year : ℕ
-  pub month : ℕ
-  pub date : ℕ
+-- the first of the two that is there
+abbrev pub either_of : {X : Type 0} → Option X → Option X → Option X
+either_of None other = other
+either_of (Some x) other = Some x
 
--- the calendar has the date
-abbrev pub is_date : Date → Bool
-is_date d = nat_le 1 d.month && nat_le 1 d.date && nat_le d.date (days_in_month (pos d.year) d.month)
+-- what is found at the largest number below the bound at which anything is
+unfoldable pub found_below : {X : Type 0} → (ℕ → Option X) → ℕ → Option X
+found_below find zero = None
+found_below find (suc n) = either_of (find n) (found_below find n)
 
--- the first date of the years 0 to 9999 that passes a test
-unfoldable pub date_with : (Date → Bool) → Option Date
-date_with test =
-    first_below 10000 (λ year. first_below 13 (λ month. first_below 32 (λ date.
-    only_where (is_date (record { year = year; month = month; date = date }) && test (record { year = year; month = month; date = date })) (record { year = year; month = month; date = date }))))
+-- the date is in the calendar and has this number, from 1970-01-01 as 0
+abbrev pub has_number : ℕ → ℕ → ℕ → ℕ → Bool
+has_number day year month date =
+    nat_le 1 month && nat_le month 12 && nat_le 1 date && nat_le date (days_in_month (pos year) month) && int_eq (days_from_civil (pos year) month date) (pos day)
 
--- the date has this number
-abbrev pub is_number_of : ℕ → Date → Bool
-is_number_of day d = int_eq (days_from_civil (pos d.year) d.month d.date) (pos day)
+-- the text of the date, where it has the number
+abbrev pub text_if : ℕ → ℕ → ℕ → ℕ → Option (List ℕ)
+text_if day year month date = if has_number day year month date then Some (date_text year month date) else None
 
--- the text of the date of a day, as YYYY-MM-DD
+-- the text, or nothing where there is none
+abbrev pub or_nothing : Option (List ℕ) → List ℕ
+or_nothing None = []
+or_nothing (Some text) = text
+
+-- `YYYY-MM-DD`, the date that has the number
 unfoldable pub day_text : ℕ → List ℕ
-day_text day = option_map_or (λ d. date_text d.year d.month d.date) (date_with (is_number_of day)) []
+day_text day = or_nothing (found_below (λ year. found_below (λ month. found_below (text_if day year month) 32) 13) 10000)

@@ -1,6 +1,6 @@
 pub mod Days
-pub mod First
+pub mod Parts
 pub mod Reading
-pub mod Rows
+pub mod ReadingWords
 pub mod Times
 pub mod Words

@@ -1,64 +1,98 @@
--- The words for ids, lists, limits, days, meetings and those a row is made of. A dash, which is 45, stands for none.
-use Rattle.std.specs.Prelude.{ℕ, Bool, List, [], ◌∷◌, ◌++◌, Option, None, Some, codes, decimal, if◌then◌else◌, map}
-use Rattle.sect_base.specs.declared.choice.Curriculum.{Curriculum}
-use Rattle.sect_base.specs.declared.ids.ClassId.{ClassId}
+-- The texts of what stands in one word.
+use Rattle.std.specs.Prelude.{ℕ, Bool, if◌then◌else◌, List, [], ◌∷◌, map, Option, Some, None, codes, decimal}
+use Rattle.sect_base.specs.declared.ids.CourseId.{CourseId}
+use Rattle.sect_base.specs.declared.ids.SectionId.{SectionId}
+use Rattle.sect_base.specs.declared.ids.ReservationId.{ReservationId}
+use Rattle.sect_base.specs.declared.ids.StudentId.{StudentId}
 use Rattle.sect_base.specs.declared.ids.MajorId.{MajorId}
+use Rattle.sect_base.specs.declared.ids.ClassId.{ClassId}
+use Rattle.sect_base.specs.declared.choice.Choice.{Choice}
+use Rattle.sect_base.specs.declared.choice.Curriculum.{Curriculum}
 use Rattle.sect_base.specs.declared.limit.Limit.{Limit}
 use Rattle.sect_base.specs.declared.limit.Limit.TheVariants.{Unlimited, Places}
+use Rattle.sect_base.specs.declared.limit.Caller.{Caller}
+use Rattle.sect_base.specs.declared.limit.Caller.TheVariants as callers
 use Rattle.sect_catalog.specs.declared.row.CourseRow.{CourseRow}
 use Rattle.sect_reserve.specs.declared.row.Audience.{Audience}
-use Rattle.sect_reserve.specs.declared.row.Audience.TheVariants.{Students, Group, Curriculum as OfCurriculum, Course}
-use Rattle.sect_words.specs.Days.{day_text}
+use Rattle.sect_reserve.specs.declared.row.Audience.TheVariants as audiences
+use Rattle.sect_words.specs.Parts.{joined}
 
--- a number, or a dash
-abbrev pub optional_text : Option ℕ → List ℕ
-optional_text None = 45 ∷ []
-optional_text (Some n) = decimal n
+-- `-`, which stands for nothing
+abbrev pub dash : List ℕ
+dash = 45 ∷ []
 
--- a limit, which is a dash where any number may be enrolled
-abbrev pub limit_text : Limit → List ℕ
-limit_text Unlimited = 45 ∷ []
-limit_text (Places n) = decimal n
+-- the elements with the mark between each two, or `-` where there is none
+abbrev pub list_text : {X : Type 0} → ℕ → (X → List ℕ) → List X → List ℕ
+list_text mark text [] = dash
+list_text mark text (x ∷ xs) = joined mark (map text (x ∷ xs))
 
--- each word behind a separator
-abbrev pub more_text : ℕ → List (List ℕ) → List ℕ
-more_text separator [] = []
-more_text separator (word ∷ words) = separator ∷ word ++ more_text separator words
-
--- words with a separator between each two, or a dash where there is none
-abbrev pub list_text : ℕ → List (List ℕ) → List ℕ
-list_text separator [] = 45 ∷ []
-list_text separator (word ∷ words) = word ++ more_text separator words
-
--- words joined by pluses
-abbrev pub plus_text : List (List ℕ) → List ℕ
-plus_text words = list_text 43 words
-
--- a day, or a dash
-abbrev pub optional_day_text : Option ℕ → List ℕ
-optional_day_text None = 45 ∷ []
-optional_day_text (Some day) = day_text day
+-- the value, or `-` for none
+abbrev pub optional_text : {X : Type 0} → (X → List ℕ) → Option X → List ℕ
+optional_text text None = dash
+optional_text text (Some x) = text x
 
 -- 1 for yes and 0 for no
 abbrev pub flag_text : Bool → List ℕ
 flag_text flag = (if flag then 49 ∷ [] else 48 ∷ [])
 
+-- the number of places, or `-` for unlimited
+abbrev pub limit_text : Limit → List ℕ
+limit_text Unlimited = dash
+limit_text (Places n) = decimal n
+
+-- the number of a course
+abbrev pub course_text : CourseId → List ℕ
+course_text id = decimal id.0
+
+-- the number of a section
+abbrev pub section_text : SectionId → List ℕ
+section_text id = decimal id.0
+
+-- the number of a reservation
+abbrev pub reservation_text : ReservationId → List ℕ
+reservation_text id = decimal id.0
+
+-- the number of a student
+abbrev pub student_text : StudentId → List ℕ
+student_text id = decimal id.0
+
+-- the number of a class
+abbrev pub class_text : ClassId → List ℕ
+class_text id = decimal id.0
+
+-- the number of a major
+abbrev pub major_text : MajorId → List ℕ
+major_text id = decimal id.0
+
+-- `r` and an id for a registrar, `s` and an id for a student
+abbrev pub caller_text : Caller → List ℕ
+caller_text (callers.Registrar n) = 114 ∷ decimal n
+caller_text (callers.Student s) = 115 ∷ decimal s.0
+
 -- a course of an offering, `ID:LIMIT:CREDITS`
 abbrev pub course_row_text : CourseRow → List ℕ
-course_row_text c = decimal c.id.0 ++ 58 ∷ limit_text c.limit ++ 58 ∷ decimal c.credits
+course_row_text c = joined 58 (decimal c.id.0 ∷ limit_text c.limit ∷ decimal c.credits ∷ [])
 
 -- a curriculum, `AREA:CLASS:MAJORS`
 abbrev pub curriculum_text : Curriculum → List ℕ
-curriculum_text c = decimal c.area.0 ++ 58 ∷ decimal c.class.0 ++ 58 ∷ plus_text (map (λ id. decimal id.0) c.majors)
+curriculum_text c = joined 58 (decimal c.area.0 ∷ decimal c.class.0 ∷ list_text 43 major_text c.majors ∷ [])
 
--- the students of an area, of one of the classes and of one of the majors
-unfoldable pub fitting_text : ℕ → List ClassId → List MajorId → List ℕ
-fitting_text area classes majors = decimal area ++ 58 ∷ plus_text (map (λ id. decimal id.0) classes) ++ 58 ∷ plus_text (map (λ id. decimal id.0) majors)
+-- the parts of an audience
+abbrev pub audience_parts : Audience → List (List ℕ)
+audience_parts (audiences.Students ids) = codes "students" ∷ list_text 43 student_text ids ∷ []
+audience_parts (audiences.Group id) = codes "group" ∷ decimal id.0 ∷ []
+audience_parts (audiences.Curriculum area classes majors) =
+    codes "curriculum" ∷ decimal area.0 ∷ list_text 43 class_text classes ∷ list_text 43 major_text majors ∷ []
+audience_parts (audiences.Course id) = codes "course" ∷ decimal id.0 ∷ []
 
--- whom a reservation is for
+-- `students:IDS`, `group:ID`, `curriculum:AREA:CLASSES:MAJORS` or `course:ID`
 abbrev pub audience_text : Audience → List ℕ
-audience_text (Students ids) = codes "students:" ++ plus_text (map (λ id. decimal id.0) ids)
-audience_text (Group id) = codes "group:" ++ decimal id.0
-audience_text (OfCurriculum area classes majors) =
-    codes "curriculum:" ++ fitting_text area.0 classes majors
-audience_text (Course id) = codes "course:" ++ decimal id.0
+audience_text a = joined 58 (audience_parts a)
+
+-- the sections of a choice, joined by `+`
+abbrev pub sections_text : List SectionId → List ℕ
+sections_text ids = joined 43 (map section_text ids)
+
+-- `COURSE/RESERVATION/CONFIG/SECTIONS`
+abbrev pub choice_text : Choice → List ℕ
+choice_text c = joined 47 (decimal c.course.0 ∷ optional_text reservation_text c.reservation ∷ decimal c.config.0 ∷ sections_text c.sections ∷ [])

@@ -1,108 +1,120 @@
-// Reading meetings whose weeks may be said by days of a term.
+// Reading meetings whose weeks may be said by days of a term. It takes memory.
 
-ghost use Rattle.std.specs.Prelude.{◌≡◌, ◌<◌, ◌^◌, ◌++◌, ◌∷◌, [], IfOk, IfSome, option_map};
-ghost use Rattle.sect_words.specs.Reading.{joined_of, list_of};
-ghost use Rattle.sect_words.specs.Times.{dated_of, term_meeting_of, weeks_between};
+ghost use Rattle.std.specs.Prelude.{◌≡◌, ◌<◌, ◌^◌, ◌++◌, ◌∷◌, [], IfOk, IfSome};
+ghost use Rattle.sect_words.specs.Parts.{joined, pieces};
+ghost use Rattle.sect_words.specs.Reading.{Means, Reads, all_of};
+ghost use Rattle.sect_words.specs.ReadingWords.{list_of};
+ghost use Rattle.sect_words.specs.Times.{dated_at, dated_of, dates_of, days_at, term_meeting_of, weeks_between};
 
-use crate::read::dash;
-use crate::read_lists::cut_at;
-use crate::read_times::{read_date, read_time};
-use sect_base::Memory;
+use crate::fault::Fault;
+use crate::parts::Parts;
+use crate::readable::Readable;
+use crate::same::same_bytes;
+use sect_base::{Items, Memory};
 use sect_time::{Day, Meeting, weeks_of};
 use std::alloc::Global;
 
 /// The meetings of words joined by pluses, or none for a dash. Their weeks may be said as `DAY..DAY` where there is
-/// a term. None exactly where a word is no meeting. It takes memory.
-pub fn read_meetings(
-    alloc: Global,
-    term: Option<Day>,
-    text: &[u8],
-) -> Result<Option<Vec<Meeting>>, Memory>
-    ensures { IfOk result (λ found. option_map (λ v. v.items) found ≡ list_of (term_meeting_of term) 43 text.now) }
+/// a term. `Bad` exactly where a word is no meeting, unless memory ran out.
+#[tactic(auto, unfolding(crate::specs::ReadingWords::list_of))]
+pub fn read_meetings(alloc: Global, term: Option<Day>, word: &[u8]) -> Result<Items<Meeting>, Fault>
+    ensures { Means result (list_of 43 (term_meeting_of term) word.now) }
 {
-    if dash(text) {
-        return Ok(Some(Vec::new(alloc)));
+    if same_bytes(word, b"-") {
+        return Ok(Items::from_vec(Vec::new(alloc)));
     }
-    read_joined_meetings(alloc, &term, text)
+    read_all_meetings(alloc, &term, word)
 }
 
-// The meetings of words, of which there is one at least.
-fn read_joined_meetings(
+// The meetings of all words.
+fn read_all_meetings(
     alloc: Global,
     term: &Option<Day>,
-    text: &[u8],
-) -> Result<Option<Vec<Meeting>>, Memory>
-    ensures { IfOk result (λ found. option_map (λ v. v.items) found ≡ joined_of (term_meeting_of term.now) 43 text.now) }
+    word: &[u8],
+) -> Result<Items<Meeting>, Fault>
+    ensures { Means result (all_of (term_meeting_of term.now) (pieces 43 word.now)) }
 {
-    let mut values = Vec::new(alloc);
-    let mut rest = text;
-    while let Some((word, behind)) = cut_at(b'+', rest) {
-        let Some(value) = read_term_meeting(alloc, term, word)? else {
-            return Ok(None);
-        };
-        values.push(value)?;
-        rest = behind;
+    let mut parts = Parts::new(word, b'+');
+    let mut items = Vec::new(alloc);
+    while let Some(part) = parts.next() {
+        items.push(read_term_meeting(alloc, term, part)?)?;
     }
-    let Some(value) = read_term_meeting(alloc, term, rest)? else {
-        return Ok(None);
-    };
-    values.push(value)?;
-    Ok(Some(values))
+    Ok(Items::from_vec(items))
 }
 
 // The meeting of a word.
-fn read_term_meeting(
-    alloc: Global,
-    term: &Option<Day>,
-    text: &[u8],
-) -> Result<Option<Meeting>, Memory>
-    ensures { IfOk result (λ found. found ≡ term_meeting_of term.now text.now) }
+fn read_term_meeting(alloc: Global, term: &Option<Day>, word: &[u8]) -> Result<Meeting, Fault>
+    ensures { Means result (term_meeting_of term.now word.now) }
 {
-    if let Some(meeting) = read_time(text) {
-        return Ok(Some(meeting));
-    }
-    match term {
-        Some(term) => read_dated(alloc, *term, text),
-        None => Ok(None),
+    match Meeting::read(alloc, word) {
+        Ok(meeting) => Ok(meeting),
+        Err(Fault::Memory) => Err(Fault::Memory),
+        Err(Fault::Bad) => match term {
+            Some(term) => read_dated(alloc, *term, word),
+            None => Err(Fault::Bad),
+        },
     }
 }
 
 // The meeting of a word whose weeks are said as `DAY..DAY`.
-#[tactic(auto, unfolding(crate::specs::Times::dated_of))]
-fn read_dated(alloc: Global, term: Day, text: &[u8]) -> Result<Option<Meeting>, Memory>
-    ensures { IfOk result (λ found. found ≡ dated_of term text.now) }
+fn read_dated(alloc: Global, term: Day, word: &[u8]) -> Result<Meeting, Fault>
+    ensures { Means result (dated_of term word.now) }
 {
-    let Some((days, rest)) = cut_at(b'/', text) else {
-        return Ok(None);
+    let mut parts = Parts::new(word, b'/');
+    let meeting = read_dated_parts(alloc, term, &mut parts)?;
+    parts.end()?;
+    Ok(meeting)
+}
+
+#[tactic(auto, unfolding(crate::specs::Times::dated_at))]
+fn read_dated_parts(alloc: Global, term: Day, parts: &mut Parts) -> Result<Meeting, Fault>
+    ensures { Reads result parts.new (dated_at term parts.old) }
+{
+    let Some(days) = parts.next() else {
+        return Err(Fault::Bad);
     };
-    let Some((time, dates)) = cut_at(b'/', rest) else {
-        return Ok(None);
+    let Some(time) = parts.next() else {
+        return Err(Fault::Bad);
     };
-    let Some((first, rest)) = cut_at(b'.', dates) else {
-        return Ok(None);
+    let Some(dates) = parts.next() else {
+        return Err(Fault::Bad);
     };
-    let Some(([], last)) = cut_at(b'.', rest) else {
-        return Ok(None);
-    };
-    let Some(first) = read_date(first) else {
-        return Ok(None);
-    };
-    let Some(last) = read_date(last) else {
-        return Ok(None);
-    };
-    let Some(weeks) = term_weeks(term, first, last) else {
-        return Ok(None);
-    };
+    let weeks = read_dates(alloc, term, dates)?;
     let plain = first_week(alloc, days, time)?;
-    match read_time(plain.as_slice()) {
-        Some(meeting) => Ok(Some(in_weeks(&meeting, weeks))),
-        None => Ok(None),
+    let meeting = Meeting::read(alloc, plain.as_slice())?;
+    Ok(in_weeks(&meeting, weeks))
+}
+
+// The weeks of a term that `DAY..DAY` meets.
+#[tactic(auto, unfolding(crate::specs::Times::dates_of))]
+fn read_dates(alloc: Global, term: Day, word: &[u8]) -> Result<u64, Fault>
+    ensures weeks { Means result (dates_of term word.now) }
+    ensures some { IfOk result (λ weeks. 0 < weeks) }
+    ensures sixty { IfOk result (λ weeks. weeks < 2 ^ 60) }
+{
+    let mut parts = Parts::new(word, b'.');
+    let (first, last) = read_days(alloc, &mut parts)?;
+    parts.end()?;
+    match term_weeks(term, first, last) {
+        Some(weeks) => Ok(weeks),
+        None => Err(Fault::Bad),
     }
+}
+
+// The first and the last day.
+#[tactic(auto, unfolding(crate::specs::Times::days_at))]
+fn read_days(alloc: Global, parts: &mut Parts) -> Result<(Day, Day), Fault>
+    ensures { Reads result parts.new (days_at parts.old) }
+{
+    let first = parts.word(alloc)?;
+    parts.key(b"")?;
+    let last = parts.word(alloc)?;
+    Ok((first, last))
 }
 
 // The text of a meeting on these days and at this time in week 1.
 fn first_week(alloc: Global, days: &[u8], time: &[u8]) -> Result<Vec<u8>, Memory>
-    ensures { IfOk result (λ text. text.items ≡ days.now ++ 47 ∷ (time.now ++ 47 ∷ 49 ∷ [])) }
+    ensures { IfOk result (λ text. text.items ≡ joined 47 (days.now ∷ time.now ∷ (49 ∷ []) ∷ [])) }
 {
     let mut text = Vec::from_slice(alloc, days)?;
     text.push(b'/')?;

@@ -1,11 +1,11 @@
 // Texts compared.
 
 ghost use Rattle.std.specs.Prelude.{◌≡◌};
-ghost use Rattle.sect_words.specs.First.{same_text};
+ghost use Rattle.std.specs.Str.{bytes_eq};
 
 /// Whether the bytes are the same. It takes no memory.
 pub fn same_bytes(left: &[u8], right: &[u8]) -> bool
-    ensures { result ≡ same_text left.now right.now }
+    ensures { result ≡ bytes_eq left.now right.now }
 {
     left == right
 }

@@ -1,42 +1,182 @@
-// What has a word of its own.
+// What is printed in one word.
 
-ghost use Rattle.std.specs.Prelude.{◌≡◌, ℕ, ◌++◌, List, OnOk, OnErr, decimal, length, take};
+ghost use Rattle.std.specs.Prelude.{◌≡◌, ℕ, List, [], ◌++◌, ◌∷◌, OnOk, OnErr, decimal, length, take, map, codes, drop};
+ghost use Rattle.sect_base.specs.declared.limit.Limit.{Limit};
 ghost use Rattle.sect_time.specs.MeetingText.{meeting_text};
-ghost use Rattle.sect_words.specs.Words.{course_row_text, curriculum_text};
-
-use crate::lists::print_list;
-use crate::print::{print_limit, print_number, print_text};
-use sect_base::{
-    ClassId, ConfigId, CourseId, Curriculum, GroupId, MajorId, Memory, SectionId, StudentId,
+ghost use Rattle.sect_command.specs.TreeText.{tree_text};
+ghost use Rattle.sect_words.specs.Parts.{joined, behind};
+ghost use Rattle.sect_words.specs.Days.{day_text};
+ghost use Rattle.sect_words.specs.Words.{
+  dash,
+  list_text,
+  optional_text,
+  limit_text,
+  course_text,
+  section_text,
+  reservation_text,
+  student_text,
+  class_text,
+  major_text,
+  caller_text,
+  curriculum_text,
+  audience_text,
+  sections_text,
+  choice_text,
 };
-use sect_catalog::CourseRow;
-use sect_reserve::Place;
-use sect_time::{Meeting, print_meeting};
 
-/// A value that has a word.
+use itoa::{Buffer, Integer};
+use sect_base::{
+    Block, Caller, Choice, ClassId, ConfigId, CourseId, Curriculum, GroupId, Items, Limit, MajorId,
+    Memory, ReservationId, SectionId, Sections, StudentId,
+};
+use sect_command::print_block;
+use sect_reserve::Audience;
+use sect_time::{Day, Meeting, print_day, print_meeting};
+
+/// A value that stands in one word.
 pub trait Spelled {
-    /// The word.
+    /// The bytes of the word.
     ghost spelling: { Self → List ℕ };
 
-    /// Appends the word. After `Memory` the bytes are as before.
+    /// Appends the word. After `Memory` a part of it may stand at the end.
     fn print(&self, into: &mut Vec<u8>) -> Result<(), Memory>
         ensures text { OnOk result (into.new.items ≡ into.old.items ++ spelling self.now) }
-        ensures memory { OnErr result (into.new.items ≡ into.old.items) };
+        ensures front { take (length into.old.items) into.new.items ≡ into.old.items };
 }
 
-impl Spelled for StudentId {
-    ghost spelling = { λ id. decimal id.0 };
+/// Appends these bytes. After `Memory` the text is as before.
+pub fn print_bytes(bytes: &[u8], into: &mut Vec<u8>) -> Result<(), Memory>
+    ensures text { OnOk result (into.new.items ≡ into.old.items ++ bytes.now) }
+    ensures front { take (length into.old.items) into.new.items ≡ into.old.items }
+    ensures memory { OnErr result (into.new.items ≡ into.old.items) }
+{
+    into.extend_from_slice(bytes)?;
+    Ok(())
+}
+
+/// Appends a text. After `Memory` the bytes are as before.
+pub fn print_text(text: &str, into: &mut Vec<u8>) -> Result<(), Memory>
+    ensures text { OnOk result (into.new.items ≡ into.old.items ++ text.now) }
+    ensures memory { OnErr result (into.new.items ≡ into.old.items) }
+{
+    into.extend_from_slice(text.as_bytes())?;
+    Ok(())
+}
+
+/// Appends a value's word. After `Memory` the bytes are as before.
+pub fn print_whole<T: Spelled>(value: &T, into: &mut Vec<u8>) -> Result<(), Memory>
+    ensures text { OnOk result (into.new.items ≡ into.old.items ++ T.spelling value.now) }
+    ensures memory { OnErr result (into.new.items ≡ into.old.items) }
+{
+    let before = into.len();
+    let printed = value.print(into);
+    if printed.is_err() {
+        into.truncate(before);
+    }
+    printed
+}
+
+/// Appends a number in digits. After `Memory` the text is as before.
+pub fn print_number<I: Integer>(number: I, into: &mut Vec<u8>) -> Result<(), Memory>
+    ensures text { OnOk result (into.new.items ≡ into.old.items ++ I.text number) }
+    ensures front { take (length into.old.items) into.new.items ≡ into.old.items }
+    ensures memory { OnErr result (into.new.items ≡ into.old.items) }
+{
+    print_bytes(Buffer::new().format(number).as_bytes(), into)
+}
+
+/// Appends the mark and the value's word. After `Memory` a part of them may stand at the end.
+pub fn print_marked<T: Spelled>(mark: u8, value: &T, into: &mut Vec<u8>) -> Result<(), Memory>
+    ensures text { OnOk result (into.new.items ≡ into.old.items ++ (mark ∷ T.spelling value.now)) }
+    ensures front { take (length into.old.items) into.new.items ≡ into.old.items }
+{
+    into.push(mark)?;
+    value.print(into)
+}
+
+// Appends the elements, each behind the mark. After `Memory` a part of them may stand at the end.
+fn print_behind<T: Spelled>(mark: u8, items: &[T], into: &mut Vec<u8>) -> Result<(), Memory>
+    ensures text { OnOk result (into.new.items ≡ into.old.items ++ behind mark (map T.spelling items.now)) }
+    ensures front { take (length into.old.items) into.new.items ≡ into.old.items }
+{
+    for item in items {
+        print_marked(mark, item, into)?;
+    }
+    Ok(())
+}
+
+// Appends the elements with the mark between each two. After `Memory` a part of them may stand at the end.
+fn print_joined<T: Spelled>(mark: u8, items: &[T], into: &mut Vec<u8>) -> Result<(), Memory>
+    ensures text { OnOk result (into.new.items ≡ into.old.items ++ joined mark (map T.spelling items.now)) }
+    ensures front { take (length into.old.items) into.new.items ≡ into.old.items }
+{
+    match items {
+        [] => Ok(()),
+        [first, rest @ ..] => {
+            first.print(into)?;
+            print_behind(mark, rest, into)
+        }
+    }
+}
+
+/// Appends the elements with the mark between each two, or a dash where there is none. After `Memory` a part of them
+/// may stand at the end.
+pub fn print_list<T: Spelled>(mark: u8, items: &[T], into: &mut Vec<u8>) -> Result<(), Memory>
+    ensures text { OnOk result (into.new.items ≡ into.old.items ++ list_text mark T.spelling items.now) }
+    ensures front { take (length into.old.items) into.new.items ≡ into.old.items }
+{
+    if items.is_empty() {
+        print_bytes(b"-", into)
+    } else {
+        print_joined(mark, items, into)
+    }
+}
+
+impl Spelled for u8 {
+    ghost spelling = { decimal };
 
     fn print(&self, into: &mut Vec<u8>) -> Result<(), Memory> {
-        print_number(u64::from(self.0), into)
+        print_number(*self, into)
+    }
+}
+
+impl Spelled for u16 {
+    ghost spelling = { decimal };
+
+    fn print(&self, into: &mut Vec<u8>) -> Result<(), Memory> {
+        print_number(*self, into)
+    }
+}
+
+impl Spelled for u32 {
+    ghost spelling = { decimal };
+
+    fn print(&self, into: &mut Vec<u8>) -> Result<(), Memory> {
+        print_number(*self, into)
+    }
+}
+
+impl Spelled for u64 {
+    ghost spelling = { decimal };
+
+    fn print(&self, into: &mut Vec<u8>) -> Result<(), Memory> {
+        print_number(*self, into)
     }
 }
 
 impl Spelled for CourseId {
-    ghost spelling = { λ id. decimal id.0 };
+    ghost spelling = { course_text };
 
     fn print(&self, into: &mut Vec<u8>) -> Result<(), Memory> {
-        print_number(u64::from(self.0), into)
+        print_number(self.0, into)
+    }
+}
+
+impl Spelled for SectionId {
+    ghost spelling = { section_text };
+
+    fn print(&self, into: &mut Vec<u8>) -> Result<(), Memory> {
+        print_number(self.0, into)
     }
 }
 
@@ -44,15 +184,7 @@ impl Spelled for ConfigId {
     ghost spelling = { λ id. decimal id.0 };
 
     fn print(&self, into: &mut Vec<u8>) -> Result<(), Memory> {
-        print_number(u64::from(self.0), into)
-    }
-}
-
-impl Spelled for SectionId {
-    ghost spelling = { λ id. decimal id.0 };
-
-    fn print(&self, into: &mut Vec<u8>) -> Result<(), Memory> {
-        print_number(u64::from(self.0), into)
+        print_number(self.0, into)
     }
 }
 
@@ -60,31 +192,47 @@ impl Spelled for GroupId {
     ghost spelling = { λ id. decimal id.0 };
 
     fn print(&self, into: &mut Vec<u8>) -> Result<(), Memory> {
-        print_number(u64::from(self.0), into)
+        print_number(self.0, into)
+    }
+}
+
+impl Spelled for ReservationId {
+    ghost spelling = { reservation_text };
+
+    fn print(&self, into: &mut Vec<u8>) -> Result<(), Memory> {
+        print_number(self.0, into)
+    }
+}
+
+impl Spelled for StudentId {
+    ghost spelling = { student_text };
+
+    fn print(&self, into: &mut Vec<u8>) -> Result<(), Memory> {
+        print_number(self.0, into)
     }
 }
 
 impl Spelled for ClassId {
-    ghost spelling = { λ id. decimal id.0 };
+    ghost spelling = { class_text };
 
     fn print(&self, into: &mut Vec<u8>) -> Result<(), Memory> {
-        print_number(u64::from(self.0), into)
+        print_number(self.0, into)
     }
 }
 
 impl Spelled for MajorId {
-    ghost spelling = { λ id. decimal id.0 };
+    ghost spelling = { major_text };
 
     fn print(&self, into: &mut Vec<u8>) -> Result<(), Memory> {
-        print_number(u64::from(self.0), into)
+        print_number(self.0, into)
     }
 }
 
-impl Spelled for Place {
-    ghost spelling = { λ place. decimal place.section.0 };
+impl Spelled for Day {
+    ghost spelling = { day_text };
 
     fn print(&self, into: &mut Vec<u8>) -> Result<(), Memory> {
-        self.section.print(into)
+        print_bytes(&print_day(*self), into)
     }
 }
 
@@ -92,57 +240,69 @@ impl Spelled for Meeting {
     ghost spelling = { meeting_text };
 
     fn print(&self, into: &mut Vec<u8>) -> Result<(), Memory> {
-        into.extend_from_slice(print_meeting(self).as_bytes())?;
-        Ok(())
+        print_bytes(print_meeting(self).as_bytes(), into)
     }
 }
 
-impl Spelled for CourseRow {
-    ghost spelling = { course_row_text };
+impl Spelled for Block {
+    ghost spelling = { tree_text };
 
     fn print(&self, into: &mut Vec<u8>) -> Result<(), Memory> {
-        let before = into.len();
-        let printed = print_course_row(self, into);
-        if printed.is_err() {
-            into.truncate(before);
-        }
-        printed
+        print_block(self, into)
     }
 }
 
-impl Spelled for Curriculum {
-    ghost spelling = { curriculum_text };
+impl<T: Spelled> Spelled for Option<T> {
+    ghost spelling = { optional_text T.spelling };
 
     fn print(&self, into: &mut Vec<u8>) -> Result<(), Memory> {
-        let before = into.len();
-        let printed = print_curriculum(self, into);
-        if printed.is_err() {
-            into.truncate(before);
+        match self {
+            Some(value) => value.print(into),
+            None => print_bytes(b"-", into),
         }
-        printed
     }
 }
 
-// Appends `ID:LIMIT:CREDITS`. After `Memory` a part of it may stand at the end.
-fn print_course_row(course: &CourseRow, into: &mut Vec<u8>) -> Result<(), Memory>
-    ensures text { OnOk result (into.new.items ≡ into.old.items ++ course_row_text course.now) }
-    ensures front { take (length into.old.items) into.new.items ≡ into.old.items }
-{
-    course.id.print(into)?;
-    print_text(":", into)?;
-    print_limit(course.limit, into)?;
-    print_text(":", into)?;
-    print_number(u64::from(course.credits), into)
+impl<T: Spelled> Spelled for Items<T> {
+    ghost spelling = { list_text 43 T.spelling };
+
+    fn print(&self, into: &mut Vec<u8>) -> Result<(), Memory> {
+        print_list(b'+', self.as_slice(), into)
+    }
 }
 
-// Appends `AREA:CLASS:MAJORS`. After `Memory` a part of it may stand at the end.
-fn print_curriculum(curriculum: &Curriculum, into: &mut Vec<u8>) -> Result<(), Memory>
-    ensures text { OnOk result (into.new.items ≡ into.old.items ++ curriculum_text curriculum.now) }
-    ensures front { take (length into.old.items) into.new.items ≡ into.old.items }
-{
-    print_number(u64::from(curriculum.area.0), into)?;
-    print_text(":", into)?;
-    curriculum.class.print(into)?;
-    print_text(":", into)?;
-    print_list(b'+', curriculum.majors.as_slice(), into)
+impl Spelled for Limit {
+    ghost spelling = { limit_text };
+
+    fn print(&self, into: &mut Vec<u8>) -> Result<(), Memory> {
+        match self {
+            Limit::Unlimited => print_bytes(b"-", into),
+            Limit::Places(places) => print_number(*places, into),
+        }
+    }
+}
+
+impl Spelled for Caller {
+    ghost spelling = { caller_text };
+
+    fn print(&self, into: &mut Vec<u8>) -> Result<(), Memory> {
+        match self {
+            Caller::Registrar(number) => {
+                print_bytes(b"r", into)?;
+                print_number(*number, into)
+            }
+            Caller::Student(student) => {
+                print_bytes(b"s", into)?;
+                print_number(student.0, into)
+            }
+        }
+    }
+}
+
+impl Spelled for Sections {
+    ghost spelling = { sections_text };
+
+    fn print(&self, into: &mut Vec<u8>) -> Result<(), Memory> {
+        print_joined(b'+', self.as_slice(), into)
+    }
 }

@@ -6,13 +6,13 @@ use sect_app::Status;
 use std::test::Fail;
 
 /// The rows of a first run's first three lines.
-const THREE_ROWS: &str =
+pub const THREE_ROWS: &str =
     "2025-09-01 r1 1 offering 1 course 1 - 3 config 1 - subpart 1 section 7 1 - - = amended
 2025-09-01 r1 2 student 11 max 18 = amended
 2025-09-01 r1 3 student 12 max 18 = amended";
 
 /// The same, with a reply in the third row that the machine doesn't give.
-const WRONG_ROWS: &str =
+pub const WRONG_ROWS: &str =
     "2025-09-01 r1 1 offering 1 course 1 - 3 config 1 - subpart 1 section 7 1 - - = amended
 2025-09-01 r1 2 student 11 max 18 = amended
 2025-09-01 r1 3 student 12 max 18 = refused NotYours";
@@ -111,13 +111,6 @@ const EMPTY_AUDIT: Case<'static> = Case {
     ..RUN
 };
 
-const WRONG_AUDIT: Case<'static> = Case {
-    words: "audit",
-    rows: WRONG_ROWS,
-    status: Status::BadEntry(2),
-    ..RUN
-};
-
 const MADE: Case<'static> = Case {
     words: "make 1",
     script: &["=> offerings 1 students 20 met 18 blocked 2 spent 0"],
@@ -205,12 +198,6 @@ fn an_audit(rt: HostRuntime) -> Result<(), Fail> {
 #[test]
 fn an_audit_of_nothing(rt: HostRuntime) -> Result<(), Fail> {
     assert!(rt; ends(&rt, &EMPTY_AUDIT)?);
-    Ok(())
-}
-
-#[test]
-fn an_audit_of_a_wrong_row(rt: HostRuntime) -> Result<(), Fail> {
-    assert!(rt; ends(&rt, &WRONG_AUDIT)?);
     Ok(())
 }
 

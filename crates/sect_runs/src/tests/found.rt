@@ -1,6 +1,6 @@
 // Places that are found, full, given back and waited for.
 
-use crate::{answers, is_audited};
+use crate::{answers, is_told};
 use std::test::Fail;
 
 /// One place, and who has it.
@@ -104,7 +104,7 @@ fn a_number_used_again(rt: HostRuntime) -> Result<(), Fail> {
 #[test]
 fn an_audit_of_what_was_blocked(rt: HostRuntime) -> Result<(), Fail> {
     let text = "entries 7 blocked 2 verified 2 day 2025-09-01\n";
-    assert!(rt; is_audited(&rt, &[FIRST_RUN, FULL, BOUNDARY], text)?);
+    assert!(rt; is_told(&rt, &[FIRST_RUN, FULL, BOUNDARY], "audit", text)?);
     Ok(())
 }
 

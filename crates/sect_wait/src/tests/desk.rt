@@ -10,7 +10,7 @@ ghost use Rattle.sect_model.specs.World.{offering_of};
 ghost use Rattle.sect_space.specs.Undo.{Undoable};
 ghost use Rattle.sect_wait.specs.Undo.{Undoable as QueueUndoable};
 
-use crate::{Placed, Queue, QueueUndo, Waiting, settle};
+use crate::{Marks, Placed, Queue, QueueUndo, Waiting, settle};
 use sect_base::{
     Choice, ConfigId, CourseId, Items, Limit, Memory, OfferingId, SectionId, Sections, StudentId,
     SubpartId, Want,
@@ -164,7 +164,7 @@ fn settled_with(
     }
 }
 
-/// Settles, with the searches counted in a ledger of its own.
+/// Settles with all entries marked, and with the searches counted in a ledger of its own.
 fn counted<L: Ledger>(
     alloc: Global,
     world: &mut World,
@@ -183,7 +183,9 @@ fn counted<L: Ledger>(
     ensures queue_undoable { QueueUndoable queue.new left.new }
 {
     let mut steps: Steps<L> = Steps::new(blank);
-    settle(alloc, world, queue, undo, left, &mut steps)
+    let mut marks = Marks::none(alloc);
+    marks.mark_all();
+    settle(alloc, world, queue, &mut marks, undo, left, &mut steps)
 }
 
 /// Settles, and takes that back again: how many had been placed.

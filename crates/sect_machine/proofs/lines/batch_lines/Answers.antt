@@ -1,5 +1,5 @@
 -- The batch, and then its lines.
-use Rattle.std.proofs.Common.{◌≡◌, ◌∙◌}
+use Rattle.std.proofs.Common.{◌∙◌}
 use Rattle.sect_machine.proofs.AnsweredLemmas.{batch-acted}
 use Rattle.sect_machine.proofs.lines.batch_lines.Goals as goal
 

@@ -1,5 +1,5 @@
 -- Each turn joins the next line.
-use Rattle.std.proofs.Common.{◌≡◌, ◌+◌, ◌<◌, ◌∙◌, ◌++◌, [], ◌∷◌, ap, arith, get_or, length, subst, take}
+use Rattle.std.proofs.Common.{◌≡◌, ◌<◌, ◌∙◌, ◌++◌, [], ◌∷◌, ap, arith, get_or, length, subst, take}
 use Rattle.std.proofs.Math.ListN.{length-set}
 use Rattle.sect_command.specs.declared.reply.Line.{Line}
 use Rattle.sect_model.specs.Batch.{join_line}

@@ -1,7 +1,6 @@
 -- Each turn takes the next choice.
-use Rattle.std.proofs.Common.{◌≡◌, ◌+◌, ◌≤◌, [], ◌∷◌, ◌∙◌, arith, drop, get_or, length, refl, subst, sym, ap, None}
+use Rattle.std.proofs.Common.{◌≡◌, ◌+◌, ◌≤◌, ◌∷◌, ◌∙◌, arith, drop, length, refl, subst, sym, ap}
 use Rattle.std.proofs.lemmas.List.{drop_more, drop_all}
-use Rattle.sect_base.specs.declared.choice.Choice.{Choice}
 use Rattle.sect_model.specs.World.{enrol_all}
 use Rattle.sect_space.proofs.Steps.{since-none, since-both}
 use Rattle.sect_machine.proofs.MoveLemmas.{TakesOn, takes-next, takes-more}

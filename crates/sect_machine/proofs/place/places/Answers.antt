@@ -1,5 +1,5 @@
 -- Each turn adds the place of the next section.
-use Rattle.std.proofs.Common.{◌≡◌, ◌+◌, ◌≤◌, [], ◌∷◌, ◌++◌, ◌∙◌, arith, drop, flat_map, get_or, length, refl, ap, subst, sym}
+use Rattle.std.proofs.Common.{◌≡◌, ◌+◌, ◌≤◌, ◌∷◌, ◌++◌, ◌∙◌, arith, drop, flat_map, get_or, length, ap, subst, sym}
 use Rattle.std.proofs.lemmas.List.{drop_more, drop_all, append-nil}
 use Rattle.sect_base.specs.declared.ids.SectionId.{SectionId}
 use Rattle.sect_model.specs.Change.{place_of}

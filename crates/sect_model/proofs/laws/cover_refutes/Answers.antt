@@ -7,4 +7,4 @@ pub returns-clause-paths : goal.returns-clause-paths
 returns-clause-paths c = λ w mv. cover-no_path w mv
 
 pub returns-clause-moves : goal.returns-clause-moves
-returns-clause-moves c = λ w mv keeps fits. cover_refutes w mv keeps fits
+returns-clause-moves c = λ w mv keeps standing. cover_refutes w mv keeps standing

@@ -3,4 +3,4 @@ use Rattle.sect_model.proofs.MoveLaws.{refutation_covers}
 use Rattle.sect_model.proofs.laws.refutation_covers.Goals as goal
 
 pub returns : goal.returns
-returns c = λ w mv keeps fits. refutation_covers w mv keeps fits
+returns c = λ w mv keeps standing. refutation_covers w mv keeps standing

@@ -4,7 +4,7 @@ use Rattle.sect_model.proofs.SearchLemmas.{search-answers}
 use Rattle.sect_model.proofs.laws.walks_answer.Goals as goal
 
 pub returns-clause-walk : goal.returns-clause-walk
-returns-clause-walk c = walks-answer
+returns-clause-walk c = λ w mv budget keeps standing. walks-answer w mv budget keeps standing
 
 pub returns-clause-budget : goal.returns-clause-budget
-returns-clause-budget c = search-answers
+returns-clause-budget c = λ w mv budget keeps standing. search-answers w mv budget keeps standing

@@ -4,4 +4,4 @@ use Rattle.sect_rules.proofs.NthLemmas.{got-contained}
 use Rattle.sect_rules.proofs.options.option.Goals as goal
 
 pub returns-clause-option : goal.returns-clause-option
-returns-clause-option c = got-contained (options_at c.args.world.now.world c.args.mv.now c.args.path.now) c.args.i c.option_at.result c.option_at.ensures
+returns-clause-option g c = got-contained (options_at c.args.world.now.world c.args.mv.now c.args.path.now) c.args.i c.option_at.result c.option_at.ensures

@@ -1,5 +1,5 @@
 -- an option stands in what was decided, and only the roster differs
-use Rattle.std.proofs.Common.{◌≡◌, ◌∙◌, ap, None, List}
+use Rattle.std.proofs.Common.{rules, ◌≡◌, ◌∙◌, ap, None, List}
 use Rattle.std.specs.Prelude.{refl}
 use Rattle.std.specs.Option.{option_map_or}
 use Rattle.sect_model.specs.Data.{StudentId, CourseId, Choice}
@@ -21,18 +21,20 @@ stands-moved w st give done p (Config id) = refl
 stands-moved w st give done p (Section id) = refl
 
 pub first_rule-requires : goal.first_rule-requires
-first_rule-requires c =
+first_rule-requires g c =
     let w = c.args.world.now.world in
     let mv = c.args.mv.now in
-    let p = c.args.path.now in
-    ap (λ m. stands m.at p c.args.pick) c.new.ensures
-    ∙ ap (λ v. stands v p c.args.pick) (world-moved w mv p)
-    ∙ stands-moved w mv.student mv.give p.done p c.args.pick
-    ∙ option-stands w mv p c.args.pick c.requires.option
+    let p = c.args.path.now in (
+      search rules,
+      ap (λ m. stands m.at p c.args.pick) c.new.ensures
+          ∙ ap (λ v. stands v p c.args.pick) (world-moved w mv p)
+          ∙ stands-moved w mv.student mv.give p.done p c.args.pick
+          ∙ option-stands w mv p c.args.pick c.requires.option,
+    )
 
 pub returns-in-Some : goal.returns-in-Some
 unfolding leaf_of
-returns-in-Some c =
+returns-in-Some g c =
     let p = c.args.path.now in
     c.first_rule.ensures
     ∙ ap (λ m. first_broken (rules_on m.at m.student c.in-Some.want.now p c.args.pick)) c.new.ensures
@@ -40,6 +42,6 @@ returns-in-Some c =
 
 pub returns-in-None : goal.returns-in-None
 unfolding leaf_of
-returns-in-None c =
+returns-in-None g c =
     let p = c.args.path.now in
     ap (λ x. option_map_or (λ want. first_broken (rules_on (world_at c.args.world.now.world c.args.mv.now p) c.args.mv.now.student want p c.args.pick)) x None) c.in-None.ensures

@@ -1,20 +1,11 @@
--- the law of searches with a budget
-use Rattle.std.proofs.Common.{◌≡◌, sym, subst}
-use Rattle.std.specs.Prelude.{IfOk}
-use Rattle.sect_model.proofs.SearchLemmas.{search-answers}
-use Rattle.sect_search.proofs.TextLemmas.{result-told}
+-- at most four wants have at most 36 brackets
+use Rattle.std.proofs.Common.{length}
+use Rattle.sect_search.proofs.TextLemmas.{told-four}
+use Rattle.sect_model.proofs.StandLemmas.{stands}
 use Rattle.sect_search.proofs.finding.search.Goals as goal
 
-pub returns-clause-outcome : goal.returns-clause-outcome
-returns-clause-outcome g c =
-    subst (λ o. IfOk c.find.result (λ outcome. outcome ≡ o))
-    (sym (search-answers c.args.world.now.world c.args.mv.now c.args.budget (record { checked = c.is_kept.ensures.rows_pass; reservations_differ = c.is_kept.ensures.reservations_differ }) c.requires))
-    c.find.ensures.found
+pub search_in-requires-clause-stands : goal.search_in-requires-clause-stands
+search_in-requires-clause-stands g c = stands c.args.world.now.world c.args.mv.now c.requires
 
 pub returns-clause-text : goal.returns-clause-text
-returns-clause-text g c =
-    result-told c.args.world.now.world c.args.mv.now c.args.budget c.find.result (record { checked = c.is_kept.ensures.rows_pass; reservations_differ = c.is_kept.ensures.reservations_differ }) c.requires
-    (subst (λ o. IfOk c.find.result (λ outcome. outcome ≡ o))
-    (sym (search-answers c.args.world.now.world c.args.mv.now c.args.budget (record { checked = c.is_kept.ensures.rows_pass; reservations_differ = c.is_kept.ensures.reservations_differ }) c.requires))
-    c.find.ensures.found)
-    c.find.ensures.numbers
+returns-clause-text g c = told-four (length c.args.mv.now.take) c.search_in.result c.requires.few_taken c.search_in.ensures.text

@@ -6,17 +6,17 @@ use Rattle.sect_model.specs.Path.{options_at}
 use Rattle.sect_search.proofs.verifying.+covering.Given as goal
 
 abbrev pub invariant-cover-options : goal.invariant-cover-options
-invariant-cover-options l = record {
+invariant-cover-options g l = record {
   same : cover_each l.world.world l.mv l.path (options_at l.world.world l.mv l.path) (trees_of l.trees)
       ≡ cover_each l.world.world l.mv l.path (drop l.at (options_at l.world.world l.mv l.path)) (trees_of (drop l.at l.trees));
   within : l.at ≤ length l.trees;
 }
 
 abbrev pub decreases-cover-options : goal.decreases-cover-options
-decreases-cover-options l = length l.trees - l.at
+decreases-cover-options g l = length l.trees - l.at
 
 abbrev pub decreases-covers_pick : goal.decreases-covers_pick
-decreases-covers_pick l = size_of l.tree.now
+decreases-covers_pick g l = size_of l.tree.now
 
 abbrev pub decreases-cover : goal.decreases-cover
-decreases-cover l = sizes_of (trees_of l.trees.now)
+decreases-cover g l = sizes_of (trees_of l.trees.now)

@@ -9,7 +9,7 @@ use Rattle.sect_search.proofs.WalkLemmas.{search-some, from, from-spent, from-no
 use Rattle.sect_search.proofs.walk.+walking.Goals as goal
 
 pub below-returns-then-left-eq0-clause-found : goal.below-returns-then-left-eq0-clause-found
-below-returns-then-left-eq0-clause-found t c =
+below-returns-then-left-eq0-clause-found g t c =
     let w = c.args.world.now.world in
     let mv = c.args.mv.now in
     let p = c.args.path.now in
@@ -20,7 +20,7 @@ below-returns-then-left-eq0-clause-found t c =
     ∙ from-spent w mv rest p (options_at w mv p) c.options.trees.items c.options.at c.in-Some.pick (sym c.in-Some.ensures.value))
 
 pub below-returns-in-Found-clause-found : goal.below-returns-in-Found-clause-found
-below-returns-in-Found-clause-found t c =
+below-returns-in-Found-clause-found g t c =
     let w = c.args.world.now.world in
     let mv = c.args.mv.now in
     let p = c.args.path.now in
@@ -30,7 +30,7 @@ below-returns-in-Found-clause-found t c =
     (sym c.in-Some.ensures.value) (omega (arith, c.if-left-eq0.false)) ((λ i. seen (sym c.in-Found.is i) c.visit.new.left) ∙ c.in_ok-choices.ensures.found))
 
 pub below-returns-in-Spent-clause-found : goal.below-returns-in-Spent-clause-found
-below-returns-in-Spent-clause-found t c =
+below-returns-in-Spent-clause-found g t c =
     let w = c.args.world.now.world in
     let mv = c.args.mv.now in
     let p = c.args.path.now in
@@ -40,10 +40,10 @@ below-returns-in-Spent-clause-found t c =
     (sym c.in-Some.ensures.value) (omega (arith, c.if-left-eq0.false)) ((λ i. seen (sym c.in-Spent.is i) c.visit.new.left) ∙ c.in_ok-choices.ensures.found))
 
 pub below-overflow_add-at : goal.below-overflow_add-at
-below-overflow_add-at t c = omega (arith, c.options.invariant.less, c.if-left-eq0.false)
+below-overflow_add-at g t c = omega (arith, c.options.invariant.less, c.if-left-eq0.false)
 
 pub below-options-preserved : goal.below-options-preserved
-below-options-preserved t c =
+below-options-preserved g t c =
     let w = c.args.world.now.world in
     let mv = c.args.mv.now in
     let p = c.args.path.now in
@@ -59,7 +59,7 @@ below-options-preserved t c =
     }
 
 pub below-returns-clause-found : goal.below-returns-clause-found
-below-returns-clause-found t c =
+below-returns-clause-found g t c =
     let w = c.args.world.now.world in
     let mv = c.args.mv.now in
     let p = c.args.path.now in

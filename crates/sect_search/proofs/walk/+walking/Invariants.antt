@@ -8,13 +8,13 @@ use Rattle.sect_search.specs.Told.{with_trees}
 use Rattle.sect_search.proofs.walk.+walking.Given as goal
 
 abbrev pub decreases-below : goal.decreases-below
-decreases-below l = 2 * l.decisions + 1
+decreases-below g l = 2 * l.decisions + 1
 
 abbrev pub decreases-visit : goal.decreases-visit
-decreases-visit l = 2 * l.decisions
+decreases-visit g l = 2 * l.decisions
 
 abbrev pub invariant-below-options : goal.invariant-below-options
-invariant-below-options l = record {
+invariant-below-options g l = record {
   same : search_options l.world.world l.mv (search_from l.world.world l.mv (l.decisions - 1)) l.path (options_at l.world.world l.mv l.path) l.initial.left
       ≡ with_trees l.trees.items (search_options l.world.world l.mv (search_from l.world.world l.mv (l.decisions - 1)) l.path (drop l.at (options_at l.world.world l.mv l.path)) l.left);
   less : l.at + l.left ≤ l.budget;
@@ -23,4 +23,4 @@ invariant-below-options l = record {
 }
 
 abbrev pub decreases-below-options : goal.decreases-below-options
-decreases-below-options l = l.left
+decreases-below-options g l = l.left

@@ -1,7 +1,7 @@
 -- What was printed so far, and what stood before still does.
 use Rattle.std.proofs.Common.{◌≡◌, ◌++◌, length, take}
 use Rattle.std.specs.Prelude.{flat_map}
-use Rattle.sect_text.specs.Parts.{behind}
+use Rattle.sect_words.specs.Parts.{behind}
 use Rattle.sect_text.proofs.phrase.print_each.Given as goal
 
 abbrev pub invariant-loop-value : goal.invariant-loop-value

@@ -5,6 +5,7 @@ use Rattle.std.specs.Option.{option_map}
 use Rattle.sect_base.specs.declared.choice.Choice.{Choice}
 use Rattle.sect_model.specs.Outcome.{outcome_of}
 use Rattle.sect_model.specs.Settle.{move_of}
+use Rattle.sect_wait.proofs.MarkLemmas.{blocked-others}
 use Rattle.sect_wait.proofs.NextLemmas.{found-choice}
 use Rattle.sect_wait.proofs.entry.placement.Goals as goal
 
@@ -15,3 +16,10 @@ returns-in-Found-clause-choice g c =
     let outcome : c.in_ok-choices.field-0 ≡ outcome_of w (move_of w e) 2000 = c.in_ok-choices.ensures.outcome ∙ (λ i. outcome_of w (c.in_ok-mv.ensures i) (c.budget.ensures i)) in
     ap (option_map (λ (x : Choice). x ∷ [])) (c.copied.ensures ∙ c.first.ensures.value ∙ ap (λ xs. slice_get xs 0) c.as_slice.ensures)
     ∙ found-choice w e c.in_ok-choices.field-0 c.in-Found.choices c.in-Found.field-1 outcome c.in-Found.is
+
+pub returns-in-Blocked-clause-others : goal.returns-in-Blocked-clause-others
+returns-in-Blocked-clause-others g c =
+    let w = c.args.world.now.world in
+    let e = c.args.entry.now in
+    let outcome : c.in_ok-choices.field-0 ≡ outcome_of w (move_of w e) 2000 = c.in_ok-choices.ensures.outcome ∙ (λ i. outcome_of w (c.in_ok-mv.ensures i) (c.budget.ensures i)) in
+    blocked-others w e c.args.marks.now c.in_ok-choices.field-0 c.in-Blocked.field-0 c.in-Blocked.field-1 c.is_kept.ensures c.requires outcome c.in-Blocked.is

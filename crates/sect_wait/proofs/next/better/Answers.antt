@@ -3,8 +3,14 @@ use Rattle.std.proofs.Common.{◌∙◌, [], ◌∷◌, ◌++◌, Some, ap, sym,
 use Rattle.std.specs.Option.{option_map}
 use Rattle.sect_base.specs.declared.choice.Choice.{Choice}
 use Rattle.sect_wait.specs.Placing.{IsBest}
-use Rattle.sect_wait.proofs.NextLemmas.{best-stays, best-found}
+use Rattle.sect_wait.proofs.MarkLemmas.{others-unplaced}
+use Rattle.sect_wait.proofs.NextLemmas.{best-stays, best-found, best-unplaced}
 use Rattle.sect_wait.proofs.next.better.Goals as goal
+
+pub returns-then-not-has-clause-best : goal.returns-then-not-has-clause-best
+returns-then-not-has-clause-best g c = λ before b.
+    best-unplaced c.args.world.now.world before c.args.entry.now c.args.best.now
+    (others-unplaced c.args.world.now.world c.args.entry.now c.args.marks.now (sym c.has.ensures ∙ c.if-not-has.true) c.requires.others) b
 
 pub returns-then-is_behind-clause-best : goal.returns-then-is_behind-clause-best
 returns-then-is_behind-clause-best g c = λ before b.

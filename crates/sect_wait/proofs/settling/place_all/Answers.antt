@@ -4,9 +4,22 @@ use Rattle.sect_space.proofs.Steps.{since-both}
 use Rattle.sect_wait.specs.Placing.{placed_of}
 use Rattle.sect_wait.specs.Queued.{state_of}
 use Rattle.sect_wait.proofs.PlacingLemmas.{best-fits}
+use Rattle.sect_wait.proofs.MarkLemmas.{others-of}
 use Rattle.sect_wait.proofs.SettlingLemmas.{best-of, none-of, passed, shorter, settling-more, settling-done, settling-counted}
 use Rattle.sect_wait.proofs.UndoLemmas.{since-joins}
 use Rattle.sect_wait.proofs.settling.place_all.Goals as goal
+
+pub next-requires-clause-others : goal.next-requires-clause-others
+next-requires-clause-others g c =
+    others-of c.rounds.world.world c.entries.result.now c.rounds.queue.queue.entries c.rounds.marks (sym c.entries.ensures) c.rounds.invariant.5
+
+pub place-requires-clause-others : goal.place-requires-clause-others
+place-requires-clause-others g c =
+    others-of c.rounds.world.world c.rounds.queue.queue.entries c.entries.result.now c.next.new.marks c.entries.ensures c.in_ok-candidate.ensures.others
+
+pub returns-in-None-clause-others : goal.returns-in-None-clause-others
+returns-in-None-clause-others g c =
+    others-of c.rounds.world.world c.rounds.queue.queue.entries c.entries.result.now c.next.new.marks c.entries.ensures c.in_ok-candidate.ensures.others
 
 pub place-requires-clause-fits : goal.place-requires-clause-fits
 place-requires-clause-fits g c =
@@ -51,6 +64,7 @@ rounds-preserved g c =
       since-joins c.args.queue.now.queue q c.place.new.queue.queue c.args.left.now c.rounds.left c.place.new.left c.rounds.invariant.2 c.place.ensures.queue_since,
       c.place.ensures.undoable,
       c.place.ensures.queue_undoable,
+      c.in_ok-place-in-Some.ensures.others,
     )
 
 pub returns-in-None-clause-settled : goal.returns-in-None-clause-settled

@@ -3,6 +3,7 @@ use Rattle.std.proofs.Common.{◌≡◌, ◌∙◌, ap, drop, length, subst, sym
 use Rattle.sect_space.specs.Undo.{Since, undone}
 use Rattle.sect_space.proofs.Steps.{since-none, since-undone}
 use Rattle.sect_wait.specs.Queued.{state_of}
+use Rattle.sect_wait.proofs.MarkLemmas.{unmarked-settled, unmarked-rests, all-others, ok-of}
 use Rattle.sect_wait.proofs.SettlingLemmas.{nobody-left, on-err}
 use Rattle.sect_wait.proofs.settling.settle.Goals as goal
 
@@ -30,3 +31,22 @@ pub returns-else-is_err-clause-nobody_left : goal.returns-else-is_err-clause-nob
 returns-else-is_err-clause-nobody_left g c =
     nobody-left (state_of c.args.world.now.world c.args.queue.now.queue) (state_of c.place_all-placed.new.world.world c.place_all-placed.new.queue.queue)
     c.place_all-placed.result c.place_all-placed.ensures.settled
+
+pub returns-then-is_none-clause-settled : goal.returns-then-is_none-clause-settled
+returns-then-is_none-clause-settled g c =
+    let w = c.args.world.now.world in
+    let q = c.args.queue.now.queue in
+    unmarked-settled w q c.args.marks.now (c.is_none.ensures.none c.if-is_none.true) c.requires.others
+    ∙ ap (λ ps. record { state = state_of w q; placed = ps }) (sym (c.from_vec.ensures ∙ c.new.ensures.items))
+
+pub returns-then-is_none-clause-nobody_left : goal.returns-then-is_none-clause-nobody_left
+returns-then-is_none-clause-nobody_left g c =
+    let w = c.args.world.now.world in
+    let q = c.args.queue.now.queue in
+    unmarked-rests w q c.args.marks.now (c.is_none.ensures.none c.if-is_none.true) c.requires.others
+
+pub returns-then-is_err-clause-others : goal.returns-then-is_err-clause-others
+returns-then-is_err-clause-others g c = all-others c.undo_to.new.self.world c.undo_to-then-is_err.new.self.queue.entries c.place_all-placed.new.marks c.mark_all.new.self c.mark_all.ensures
+
+pub returns-else-is_err-clause-others : goal.returns-else-is_err-clause-others
+returns-else-is_err-clause-others g c = ok-of c.place_all-placed.result (sym c.is_err.ensures.value ∙ c.if-is_err.false) c.place_all-placed.ensures.others

@@ -17,7 +17,7 @@ invariant_of-self-2 c =
     let step = finished_step s c.end.new.self rows c.self.invariant going well c.end.ensures.same (search rules) in
     let read : c.take_last_rows.new.reading ≡ (with_end (rows_read s.reading rows)).0 = search rules in
     let reads = read ∙ sym (ap (λ (t : Step). t.0) step) in
-    record { whole = λ _. c.self.invariant.whole well; reads = λ _ _. reads; counts = c.rows-self-inside.ensures ∙ ap (λ (p : Progress). p.rows) reads }
+    record { whole = λ _. c.self.invariant.whole well; reads = λ _ _. reads; counts = c.rows-self-inside.ensures ∙ ap (λ (p : Progress). p.rows) reads; opened = c.open_row-self-inside.ensures ∙ ap (λ (p : Progress). p.open_row) reads }
 
 pub returns-clause-after : goal.returns-clause-after
 returns-clause-after c =

@@ -30,7 +30,7 @@ invariant_of-self-2 c =
     let step = fed_step s c.feed.new.self c.args.piece.now rows c.self.invariant going well (search rules) (search rules) in
     let read : c.take_rows.new.reading ≡ (rows_read s.reading rows).0 = search rules in
     let reads = read ∙ sym (ap (λ (t : Step). t.0) step) in
-    record { whole = λ _. c.self.invariant.whole well; reads = λ _ _. reads; counts = c.rows-self-inside.ensures ∙ ap (λ (p : Progress). p.rows) reads }
+    record { whole = λ _. c.self.invariant.whole well; reads = λ _ _. reads; counts = c.rows-self-inside.ensures ∙ ap (λ (p : Progress). p.rows) reads; opened = c.open_row-self-inside.ensures ∙ ap (λ (p : Progress). p.open_row) reads }
 
 pub returns-clause-after : goal.returns-clause-after
 returns-clause-after c =

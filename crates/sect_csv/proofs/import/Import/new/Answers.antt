@@ -16,4 +16,4 @@ invariant_of-result c =
     ap (λ (bytes : List ℕ). (read_so_far table term bytes false).0) bytes ∙ ap (λ (t : Step). t.0) (read_so_far-nothing table term) in
     let same_term : c.copied.result ≡ term = c.copied.ensures ∙ c.as_ref.ensures.value in
     let reads : c.new-reading.result ≡ opening table term = cc in
-    record { whole = λ _. refl; reads = λ _ _. reads ∙ sym nothing; counts = sym (ap (λ (p : Progress). p.rows) nothing) }
+    record { whole = λ _. refl; reads = λ _ _. reads ∙ sym nothing; counts = sym (ap (λ (p : Progress). p.rows) nothing); opened = sym (ap (λ (p : Progress). p.open_row) nothing) }

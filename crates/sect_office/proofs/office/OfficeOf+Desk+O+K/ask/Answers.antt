@@ -16,5 +16,5 @@ returns-clause-grown g c =
 pub returns-clause-shows : goal.returns-clause-shows
 returns-clause-shows g c =
     rw c.give.ensures.front
-    (shows_answer g.O.Object.stepped g.O.Object.is_row g.K.Keeper.rows g.K.Keeper.faults c.args.id c.args.day c.args.command c.take-desk.result c.ask-answer.new.self _ _ c.ask-answer.result c.ask-answer.ensures.answer
+    (shows_answer g.O.Object.stepped g.O.Object.is_row g.K.Keeper.rows g.K.Keeper.faults c.args.id c.args.day c.args.command _ c.take-desk.result c.ask-answer.new.self _ _ c.ask-answer.result c.take-desk.ensures.grown c.ask-answer.ensures.answer
     (c.give.ensures.own ∙ (λ k. calls_after (c.take-desk.ensures.same.2 k) (c.take-desk.ensures.front k) c.ask-answer.new.self.log)))

@@ -1,7 +1,7 @@
 use Rattle.std.proofs.Common.{◌≡◌, ◌++◌, [], ◌∷◌, arith, rules, ap, sym, ◌∙◌, length, subst}
 use Rattle.sect_once.specs.History.{IsNew}
 use Rattle.sect_once.proofs.Logs.{new-index}
-use Rattle.sect_once.proofs.Pasts.{past_added, past_same}
+use Rattle.sect_once.proofs.Pasts.{past_added, past_same, row_behind}
 use Rattle.sect_once.proofs.past.Past.act.Goals as goal
 
 pub keep-kept-requires : goal.keep-kept-requires
@@ -24,3 +24,8 @@ invariant_of-self-in-Err-kept g c =
     (past_same g.O.Object.start g.O.Object.stepped g.O.Object.is_row _ (λ a b h. search rules) (λ a. search rules)
     (g.O.Object.state c.self.inside.object) (g.O.Object.state c.undo.new.self) c.self.inside.entries.items c.self.inside.places c.keep-kept.new.places c.self.inside.row_bytes
     c.self.invariant (c.undo.ensures (g.O.Object.state c.self.inside.object) c.in-Ok.ensures.undo) c.in-Err.ensures.places_stay)
+
+pub step-requires : goal.step-requires
+step-requires g c =
+    row_behind g.O.Object.start g.O.Object.stepped g.O.Object.is_row g.O.Object.may_ask _ g.met.O.Object.next_has_row (g.O.Object.state c.self.inside.object) c.self.inside.entries.items c.self.inside.places c.self.inside.row_bytes
+    c.self.invariant c.args.id c.args.day c.args.command c.requires.askable

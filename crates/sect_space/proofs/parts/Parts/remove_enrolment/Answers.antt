@@ -3,8 +3,8 @@ use Rattle.std.proofs.Common.{◌≡◌, ◌+◌, ◌∙◌, ap, arith, length}
 use Rattle.sect_space.proofs.Lengths.{length-put}
 use Rattle.sect_space.proofs.parts.Parts.remove_enrolment.Goals as goal
 
-pub returns : goal.returns
-returns c =
+pub returns-clause-taken : goal.returns-clause-taken
+returns-clause-taken c =
     let old = c.args.self.now in
     let e : length old.roster.items ≡ length c.remove_last_of.new.self.items + 1 = ap length c.remove_last_of.ensures.back ∙ length-put (λ x. x.student.0) c.remove_last_of.result c.remove_last_of.new.self.items in
     record {

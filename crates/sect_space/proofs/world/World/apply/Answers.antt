@@ -8,7 +8,7 @@ use Rattle.sect_space.proofs.world.World.apply.Goals as goal
 pub returns-in_err-back-clause-undoable : goal.returns-in_err-back-clause-undoable
 returns-in_err-back-clause-undoable c =
     λ u. subst (Undoable c.change.new.self) (sym c.reserve.ensures.backs)
-    (undoable-room c.args.self.now c.change.new.self c.args.undo.now.backs u c.in_err-back.ensures.err.world c.in_err-back.ensures.err.room)
+    (undoable-room c.args.self.now c.change.new.self c.args.undo.now.backs u c.in_err-back.ensures.err.world (record { lists = c.in_err-back.ensures.err.room; uses = c.change.ensures.uses }))
 
 pub returns-clause-spare : goal.returns-clause-spare
 returns-clause-spare c = takes-one c.args.self.now c.change.new.self c.args.change c.in_ok-back.ensures.ok.world c.in_ok-back.ensures.ok.room
@@ -17,4 +17,4 @@ pub returns-clause-undoable : goal.returns-clause-undoable
 returns-clause-undoable c =
     λ u. subst (Undoable c.change.new.self)
     (sym (c.push.ensures.backs ∙ (λ i. c.reserve.ensures.backs i ++ c.in_ok-back.ensures.ok.recorded i ∷ [])))
-    (undoable-more c.args.self.now c.change.new.self c.args.undo.now.backs c.args.change u c.requires c.in_ok-back.ensures.ok.world c.in_ok-back.ensures.ok.room)
+    (undoable-more c.args.self.now c.change.new.self c.args.undo.now.backs c.args.change u c.requires c.in_ok-back.ensures.ok.world (record { lists = c.in_ok-back.ensures.ok.room; uses = c.change.ensures.uses }))

@@ -1,4 +1,0 @@
-use Rattle.sect_app.proofs.audit.print_audit.Goals as goal
-
-pub returns : goal.returns
-returns c = (c.print_day-day.result, c.print_day-day.ensures.text, c.in_ok-print_line.ensures)

@@ -1,0 +1,46 @@
+// Prints the line that answers a request.
+ghost use Rattle.std.specs.Prelude.{◌≡◌, ◌++◌, OnOk, decimal};
+ghost use Rattle.sect_asking.specs.AnswerLines.{answer_line};
+ghost use Rattle.sect_command.specs.declared.reply.Reply.{Reply};
+ghost use Rattle.sect_once.specs.declared.answer.Answer.TheVariants.{Done, NumberReused};
+
+use sect_base::Memory;
+use sect_command::Reply;
+use sect_once::Answer;
+use sect_wire::print_reply;
+use sect_words::print_number;
+
+/// Appends the line that answers a request. After `Memory` a part of it may stand at the end.
+pub fn print_answer(answer: &Answer<Reply>, into: &mut Vec<u8>) -> Result<(), Memory>
+    ensures { OnOk result (into.new.items ≡ into.old.items ++ answer_line answer.now) }
+{
+    match answer {
+        Answer::Done { place, reply } => print_done(*place, reply, into)?,
+        Answer::NumberReused(place) => print_reused(*place, into)?,
+        Answer::LogFull => into.extend_from_slice(b"full\n")?,
+        Answer::KeeperFault => into.extend_from_slice(b"fault\n")?,
+        Answer::Memory => into.extend_from_slice(b"memory\n")?,
+    }
+    Ok(())
+}
+
+// Appends the place and the reply.
+fn print_done(place: u32, reply: &Reply, into: &mut Vec<u8>) -> Result<(), Memory>
+    ensures { OnOk result (into.new.items ≡ into.old.items ++ answer_line (Done place reply.now)) }
+{
+    print_number(place, into)?;
+    into.extend_from_slice(b" ")?;
+    print_reply(reply, into)?;
+    into.extend_from_slice(b"\n")?;
+    Ok(())
+}
+
+// Appends the place that has the number.
+fn print_reused(place: u32, into: &mut Vec<u8>) -> Result<(), Memory>
+    ensures { OnOk result (into.new.items ≡ into.old.items ++ answer_line (NumberReused place)) }
+{
+    into.extend_from_slice(b"reused ")?;
+    print_number(place, into)?;
+    into.extend_from_slice(b"\n")?;
+    Ok(())
+}

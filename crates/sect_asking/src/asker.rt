@@ -1,0 +1,151 @@
+// Answers the lines of a script.
+ghost use Rattle.std.specs.Prelude.{◌≡◌, ℕ, List, [], false, IfOk, OnOk, IsErrOf};
+ghost use Rattle.sect_script.specs.declared.script.LineFault.TheVariants as faults;
+ghost use Rattle.sect_once.specs.Desks.{Answers as AnswersAsk, IsSound};
+ghost use Rattle.sect_asking.specs.Asks.{is_passed_over, AnswersScript, IsAskedOn, IsKnown, TakesTexts};
+ghost use Rattle.sect_script.specs.Run.{MayAnswer};
+ghost use Rattle.sect_wire.specs.Fits.{FitsCommand, FitsDay, FitsId};
+ghost use Rattle.sect_wire.specs.Lines.{IsLine};
+
+use crate::answer::print_answer;
+use sect_base::Memory;
+use sect_command::{Command, Reply};
+use sect_edge::{Clock, Keeper};
+use sect_machine::Machine;
+use sect_once::{Answer, Desk, Object};
+use sect_script::{Handler, LineFault};
+use sect_time::Day;
+use sect_wire::{LineAsk, WireFault, read_line};
+use std::alloc::Global;
+use std::marker::Model;
+
+/// An object that lines ask: each request whose id, day and command have texts may be asked of it.
+pub trait LineObject: Object<Command = Command, Reply = Reply> {
+    /// A request that was read may be asked.
+    ghost takes_texts: { TakesTexts Self.may_ask };
+}
+
+impl LineObject for Machine {
+    ghost takes_texts = { λ id day command named dated told. (named, dated, told) };
+}
+
+/// A desk whose requests come in lines, and the clock that gives the day of those that name none.
+#[derive(Drop)]
+pub struct Asker<O: Object, K: Keeper, C: Clock> {
+    desk: Desk<O, K>,
+    clock: C,
+}
+
+impl<O: Object, K: Keeper, C: Clock> Model for Asker<O, K, C> {
+    ghost use Rattle.std.specs.Prelude.{◌≡◌};
+    ghost use Rattle.sect_once.specs.Desks.{IsSound};
+    ghost use Rattle.sect_asking.specs.Asks.{Sitting};
+
+    ghost Value = { Sitting O.State O.Command O.Reply K };
+
+    ghost view = { λ a. record { desk = a.desk; days = C.days a.clock } };
+
+    ghost invariant = { λ a. IsSound O.stepped O.is_row K.rows K.faults O.start a.desk };
+}
+
+impl<O: Object, K: Keeper, C: Clock> Asker<O, K, C> {
+    /// The desk, of which nothing was asked in lines yet.
+    pub fn new(desk: Desk<O, K>, clock: C) -> Self
+        requires { IsSound O.stepped O.is_row K.rows K.faults O.start desk }
+        ensures { result ≡ record { desk = desk; days = C.days clock } }
+    {
+        Asker { desk, clock }
+    }
+
+    /// The keeper, with the rows that it has.
+    pub fn close(self) -> K
+    where
+        O: Drop,
+        C: Drop,
+        ensures keeper { result ≡ self.desk.keeper }
+        ensures sound { IsSound O.stepped O.is_row K.rows K.faults O.start self.desk }
+    {
+        let Asker { desk, clock: _ } = self;
+        desk.close()
+    }
+}
+
+impl<O: LineObject, K: Keeper, C: Clock> Asker<O, K, C> {
+    /// Asks a request with a text on its day, or where it names none on the clock's.
+    pub fn ask(&mut self, ask: LineAsk) -> Answer<Reply>
+        requires { FitsId ask.id × FitsCommand ask.command }
+        ensures { (day : ℕ) × IsAskedOn ask.day self.old.days self.new.days day
+            × AnswersAsk O.stepped O.is_row K.rows K.faults ask.id day ask.command self.old.desk self.new.desk result }
+    {
+        let LineAsk { day, id, command } = ask;
+        let day = asked_on(day, &mut self.clock);
+        self.desk.ask(id, day, command)
+    }
+
+    // Puts the answer to a line that isn't passed over behind what `into` holds, which is nothing.
+    fn answer_request(&mut self, line: &[u8], into: &mut Vec<u8>) -> Result<(), LineFault>
+        requires empty { into.old.items ≡ [] }
+        requires request { is_passed_over line.now ≡ false }
+        ensures answered { OnOk result (AnswersScript O.stepped O.is_row K.rows K.faults self.old line.now into.new.items self.new) }
+        ensures bad { IsErrOf result faults.Bad → IsKnown line.now → ⊥ }
+        ensures kept { IsErrOf result faults.Bad → self.new ≡ self.old }
+        ensures memory { IsErrOf result faults.Memory → MayAnswer (AnswersScript O.stepped O.is_row K.rows K.faults) self.old line.now self.new }
+    {
+        let ask = read_request(*into.allocator(), line)?;
+        let answer = self.ask(ask);
+        match print_answer(&answer, into) {
+            Ok(()) => Ok(()),
+            Err(Memory) => Err(LineFault::Memory),
+        }
+    }
+}
+
+impl<O: LineObject, K: Keeper, C: Clock> Handler for Asker<O, K, C> {
+    ghost known = { IsKnown };
+
+    ghost answers = { AnswersScript O.stepped O.is_row K.rows K.faults };
+
+    fn answer(&mut self, line: &[u8], into: &mut Vec<u8>) -> Result<(), LineFault> {
+        into.clear();
+        if is_passed_over(line) {
+            return Ok(());
+        }
+        self.answer_request(line, into)
+    }
+}
+
+// The request of a line that isn't passed over.
+fn read_request(alloc: Global, line: &[u8]) -> Result<LineAsk, LineFault>
+    requires { is_passed_over line.now ≡ false }
+    ensures found { IfOk result (λ ask. IsLine line.now ask) }
+    ensures bad { IsErrOf result faults.Bad → IsKnown line.now → ⊥ }
+{
+    match read_line(alloc, line) {
+        Ok(ask) => Ok(ask),
+        Err(WireFault::BadLine) => Err(LineFault::Bad),
+        Err(WireFault::UnknownVerb) => Err(LineFault::Bad),
+        Err(WireFault::BadBody(_)) => Err(LineFault::Bad),
+        Err(WireFault::Memory) => Err(LineFault::Memory),
+    }
+}
+
+// The day that a line names, or else the clock's next.
+fn asked_on<C: Clock>(named: Option<Day>, clock: &mut C) -> Day
+    ensures on { IsAskedOn named (C.days clock.old) (C.days clock.new) result }
+    ensures text { FitsDay result }
+{
+    match named {
+        Some(day) => day,
+        None => clock.today(),
+    }
+}
+
+// Whether a line is empty, or begins with `#`.
+fn is_passed_over(line: &[u8]) -> bool
+    ensures { result ≡ is_passed_over line.now }
+{
+    match line {
+        [] => true,
+        [byte, ..] => *byte == b'#',
+    }
+}

@@ -1,0 +1,10 @@
+//! Requests in lines, asked of a desk over a keeper: the lines of their answers, and a run over a source.
+#![tactic(auto)]
+
+mod answer;
+mod asker;
+mod runs;
+
+pub use answer::print_answer;
+pub use asker::{Asker, LineObject};
+pub use runs::{run, shut_status};

@@ -1,0 +1,5 @@
+mod Leading
+mod Moving
+mod BatchLemmas
+mod StepLemmas
+pub mod Histories

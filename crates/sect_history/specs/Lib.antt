@@ -1,0 +1,5 @@
+pub mod Step
+pub mod Changes
+pub mod BatchLines
+pub mod Throughout
+pub mod Laws

@@ -1,0 +1,6 @@
+pub mod Asking
+pub mod Machine
+pub mod Numbers
+pub mod Opened
+pub mod Table
+pub mod Underway

@@ -1,0 +1,14 @@
+//! Commands as JSON bodies, and answers as JSON.
+#![tactic(auto)]
+
+mod answer;
+mod body;
+mod field;
+mod law;
+mod told;
+mod verbs;
+
+pub use answer::print_answer;
+pub use body::read_body;
+pub use law::{a_read_command_has_a_text, an_answer_is_read_again};
+

@@ -1,0 +1,12 @@
+pub mod HeldLemmas
+pub mod IdLemmas
+pub mod LawLemmas
+pub mod MoreLemmas
+pub mod QuietLemmas
+pub mod StepLemmas
+pub mod ToldLemmas
+pub mod TurnLemmas
+pub mod GrownLemmas
+pub mod KnownLemmas
+pub mod BackLemmas
+pub mod OwnLemmas

@@ -1,0 +1,17 @@
+pub mod ArgumentLaws
+pub mod Bytes
+pub mod CommandLaws
+pub mod CommandSpaces
+pub mod Found
+pub mod LineLaws
+pub mod PartLaws
+pub mod ReplyLaws
+pub mod RowLaws
+pub mod RowSteps
+pub mod Rows
+pub mod Spaces
+pub mod Steps
+pub mod TextLaws
+pub mod ValueLaws
+pub mod WordLaws
+pub mod WordSpaces

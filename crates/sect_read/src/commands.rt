@@ -1,0 +1,231 @@
+// Reading commands.
+
+ghost use Rattle.std.specs.Prelude.{◌≡◌, codes};
+ghost use Rattle.sect_words.specs.Reading.{Reads};
+ghost use Rattle.sect_read.specs.ReadingCommands.{
+  offering_command_at,
+  student_command_at,
+  requests_at,
+  reserve_command_at,
+  unreserve_at,
+  expire_at,
+  restrict_command_at,
+  unrestrict_at,
+  set_limit_at,
+  cancel_at,
+  enrol_at,
+  drop_at,
+  swap_at,
+  wait_at,
+  unwait_at,
+  batch_at,
+  arguments_at,
+  command_at,
+};
+
+use crate::read_phrase::read_each;
+use crate::read_rows::{read_cap, read_offering, read_reserve, read_restrict, read_student};
+use crate::read_want::{read_budget, read_give, read_stated, read_want};
+use crate::verb::{Verb, verb_of};
+use sect_command::Command;
+use sect_words::{Fault, Parts};
+use std::alloc::Global;
+
+#[tactic(auto, unfolding(crate::specs::ReadingCommands::requests_at))]
+fn read_requests(alloc: Global, words: &mut Parts) -> Result<Command, Fault>
+    ensures { Reads result words.new (requests_at words.old) }
+{
+    let student = words.word(alloc)?;
+    let asks = read_each(alloc, false, words)?;
+    Ok(Command::Requests { student, asks })
+}
+
+#[tactic(auto, unfolding(crate::specs::ReadingCommands::expire_at))]
+fn read_expire(alloc: Global, words: &mut Parts) -> Result<Command, Fault>
+    ensures { Reads result words.new (expire_at words.old) }
+{
+    let reservation = words.word(alloc)?;
+    let expiry = words.word(alloc)?;
+    Ok(Command::Expire {
+        reservation,
+        expiry,
+    })
+}
+
+#[tactic(auto, unfolding(crate::specs::ReadingCommands::set_limit_at))]
+fn read_limit(alloc: Global, words: &mut Parts) -> Result<Command, Fault>
+    ensures { Reads result words.new (set_limit_at words.old) }
+{
+    let cap = read_cap(alloc, words)?;
+    let limit = words.word(alloc)?;
+    Ok(Command::SetLimit { cap, limit })
+}
+
+#[tactic(auto, unfolding(crate::specs::ReadingCommands::enrol_at))]
+fn read_enrol(alloc: Global, shown: bool, words: &mut Parts) -> Result<Command, Fault>
+    ensures { Reads result words.new (enrol_at shown words.old) }
+{
+    let student = words.word(alloc)?;
+    let want = read_want(alloc, shown, words)?;
+    let budget = read_budget(shown, words)?;
+    Ok(Command::Enrol {
+        student,
+        want,
+        budget,
+    })
+}
+
+#[tactic(auto, unfolding(crate::specs::ReadingCommands::drop_at))]
+fn read_drop(alloc: Global, words: &mut Parts) -> Result<Command, Fault>
+    ensures { Reads result words.new (drop_at words.old) }
+{
+    let student = words.word(alloc)?;
+    let course = words.word(alloc)?;
+    Ok(Command::Drop { student, course })
+}
+
+#[tactic(auto, unfolding(crate::specs::ReadingCommands::swap_at))]
+fn read_swap(alloc: Global, shown: bool, words: &mut Parts) -> Result<Command, Fault>
+    ensures { Reads result words.new (swap_at shown words.old) }
+{
+    let student = words.word(alloc)?;
+    let give = read_each(alloc, shown, words)?;
+    let take = read_each(alloc, shown, words)?;
+    let budget = read_budget(shown, words)?;
+    Ok(Command::Swap {
+        student,
+        give,
+        take,
+        budget,
+    })
+}
+
+#[tactic(auto, unfolding(crate::specs::ReadingCommands::wait_at))]
+fn read_wait(alloc: Global, shown: bool, words: &mut Parts) -> Result<Command, Fault>
+    ensures { Reads result words.new (wait_at shown words.old) }
+{
+    let student = words.word(alloc)?;
+    let want = read_want(alloc, shown, words)?;
+    let give = read_give(alloc, words)?;
+    let class = read_stated(b"class", 9, 5, shown, words)? as u8;
+    Ok(Command::Wait {
+        student,
+        want,
+        give,
+        class,
+    })
+}
+
+#[tactic(auto, unfolding(crate::specs::ReadingCommands::unwait_at))]
+fn read_unwait(alloc: Global, words: &mut Parts) -> Result<Command, Fault>
+    ensures { Reads result words.new (unwait_at words.old) }
+{
+    let student = words.word(alloc)?;
+    let ticket = words.word(alloc)?;
+    Ok(Command::Unwait { student, ticket })
+}
+
+#[tactic(auto, unfolding(crate::specs::ReadingCommands::offering_command_at))]
+fn read_offering_command(alloc: Global, words: &mut Parts) -> Result<Command, Fault>
+    ensures { Reads result words.new (offering_command_at words.old) }
+{
+    Ok(Command::Offering(read_offering(alloc, words)?))
+}
+
+#[tactic(auto, unfolding(crate::specs::ReadingCommands::student_command_at))]
+fn read_student_command(alloc: Global, words: &mut Parts) -> Result<Command, Fault>
+    ensures { Reads result words.new (student_command_at words.old) }
+{
+    Ok(Command::Student(read_student(alloc, words)?))
+}
+
+#[tactic(auto, unfolding(crate::specs::ReadingCommands::reserve_command_at))]
+fn read_reserve_command(alloc: Global, words: &mut Parts) -> Result<Command, Fault>
+    ensures { Reads result words.new (reserve_command_at words.old) }
+{
+    Ok(Command::Reserve(read_reserve(alloc, words)?))
+}
+
+#[tactic(auto, unfolding(crate::specs::ReadingCommands::restrict_command_at))]
+fn read_restrict_command(alloc: Global, words: &mut Parts) -> Result<Command, Fault>
+    ensures { Reads result words.new (restrict_command_at words.old) }
+{
+    Ok(Command::Restrict(read_restrict(alloc, words)?))
+}
+
+#[tactic(auto, unfolding(crate::specs::ReadingCommands::unreserve_at))]
+fn read_unreserve_command(alloc: Global, words: &mut Parts) -> Result<Command, Fault>
+    ensures { Reads result words.new (unreserve_at words.old) }
+{
+    Ok(Command::Unreserve(words.word(alloc)?))
+}
+
+#[tactic(auto, unfolding(crate::specs::ReadingCommands::unrestrict_at))]
+fn read_unrestrict_command(alloc: Global, words: &mut Parts) -> Result<Command, Fault>
+    ensures { Reads result words.new (unrestrict_at words.old) }
+{
+    Ok(Command::Unrestrict(words.word(alloc)?))
+}
+
+#[tactic(auto, unfolding(crate::specs::ReadingCommands::cancel_at))]
+fn read_cancel_command(alloc: Global, words: &mut Parts) -> Result<Command, Fault>
+    ensures { Reads result words.new (cancel_at words.old) }
+{
+    Ok(Command::Cancel(words.word(alloc)?))
+}
+
+#[tactic(auto, unfolding(crate::specs::ReadingCommands::batch_at))]
+fn read_batch_command(alloc: Global, words: &mut Parts) -> Result<Command, Fault>
+    ensures { Reads result words.new (batch_at words.old) }
+{
+    Ok(Command::Batch {
+        students: words.word(alloc)?,
+    })
+}
+
+// What stands behind a verb. Where `shown`, a default may be written.
+pub(crate) fn read_arguments(
+    alloc: Global,
+    shown: bool,
+    verb: Verb,
+    words: &mut Parts,
+) -> Result<Command, Fault>
+    ensures { Reads result words.new (arguments_at shown verb words.old) }
+{
+    match verb {
+        Verb::Offering => read_offering_command(alloc, words),
+        Verb::Student => read_student_command(alloc, words),
+        Verb::Requests => read_requests(alloc, words),
+        Verb::Reserve => read_reserve_command(alloc, words),
+        Verb::Unreserve => read_unreserve_command(alloc, words),
+        Verb::Expire => read_expire(alloc, words),
+        Verb::Restrict => read_restrict_command(alloc, words),
+        Verb::Unrestrict => read_unrestrict_command(alloc, words),
+        Verb::Limit => read_limit(alloc, words),
+        Verb::Cancel => read_cancel_command(alloc, words),
+        Verb::Enrol => read_enrol(alloc, shown, words),
+        Verb::Drop => read_drop(alloc, words),
+        Verb::Swap => read_swap(alloc, shown, words),
+        Verb::Wait => read_wait(alloc, shown, words),
+        Verb::Unwait => read_unwait(alloc, words),
+        Verb::Batch => read_batch_command(alloc, words),
+    }
+}
+
+// A command. Where `shown`, a default may be written.
+#[tactic(auto, unfolding(crate::specs::ReadingCommands::command_at))]
+pub(crate) fn read_command_words(
+    alloc: Global,
+    shown: bool,
+    words: &mut Parts,
+) -> Result<Command, Fault>
+    ensures { Reads result words.new (command_at shown words.old) }
+{
+    let Some(verb) = words.next() else {
+        return Err(Fault::Bad);
+    };
+    let Some(verb) = verb_of(verb) else {
+        return Err(Fault::Bad);
+    };
+    read_arguments(alloc, shown, verb, words)
+}

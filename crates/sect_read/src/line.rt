@@ -1,0 +1,109 @@
+// Reading script lines.
+
+ghost use Rattle.std.specs.Prelude.{◌≡◌, IfOk, Ok, Err, true};
+ghost use Rattle.std.specs.Option.{option_map};
+ghost use Rattle.sect_words.specs.Parts.{pieces};
+ghost use Rattle.sect_words.specs.Reading.{Reads};
+ghost use Rattle.sect_read.specs.ReadingLines.{at_of, line_day_at, front_at, line_of, command_in, Says};
+ghost use Rattle.sect_read.specs.Lines.{IsCommand, IsLine, HasUnknownVerb};
+ghost use Rattle.sect_command.specs.declared.command.Command.{Command};
+ghost use Rattle.sect_read.specs.declared.line.LineAsk.{LineAsk};
+
+use crate::commands::{read_arguments, read_command_words};
+use crate::fault::WireFault;
+use crate::row::read_id;
+use crate::verb::verb_of;
+use sect_base::Id;
+use sect_command::Command;
+use sect_time::Day;
+use sect_words::{Fault, Parts, Readable};
+use std::alloc::Global;
+
+/// A request as a script line asks it. Where the line names no day, it is asked on the clock's.
+#[derive(Drop)]
+pub struct LineAsk {
+    pub day: Option<Day>,
+    pub id: Id,
+    pub command: Command,
+}
+
+// What stands behind `@` in the next word.
+fn behind_at<'a>(words: &Parts<'a>) -> Option<&'a [u8]>
+    ensures { option_map (λ text. text.now) result ≡ at_of words.now }
+{
+    match words.first()? {
+        [b'@', text @ ..] => Some(text),
+        _ => None,
+    }
+}
+
+// `@` and a day, where the line names one.
+#[tactic(auto, unfolding(crate::specs::ReadingLines::line_day_at))]
+fn read_line_day(alloc: Global, words: &mut Parts) -> Result<Option<Day>, Fault>
+    ensures { Reads result words.new (line_day_at words.old) }
+{
+    let Some(text) = behind_at(words) else {
+        return Ok(None);
+    };
+    words.take();
+    Ok(Some(Day::read(alloc, text)?))
+}
+
+// What stands before the verb.
+#[tactic(auto, unfolding(crate::specs::ReadingLines::front_at))]
+fn read_front(alloc: Global, words: &mut Parts) -> Result<(Option<Day>, Id), Fault>
+    ensures { Reads result words.new (front_at words.old) }
+{
+    let day = read_line_day(alloc, words)?;
+    let id = read_id(alloc, words)?;
+    Ok((day, id))
+}
+
+// What the line asks.
+fn read_ask(alloc: Global, line: &[u8]) -> Result<LineAsk, WireFault>
+    ensures { Says result (line_of line.now) }
+{
+    let mut words = Parts::new(line, b' ');
+    let (day, id) = read_front(alloc, &mut words)?;
+    let Some(verb) = words.next() else {
+        return Err(WireFault::BadLine);
+    };
+    let Some(verb) = verb_of(verb) else {
+        return Err(WireFault::UnknownVerb);
+    };
+    let command = read_arguments(alloc, true, verb, &mut words)?;
+    words.end()?;
+    Ok(LineAsk { day, id, command })
+}
+
+/// The request that a line asks. `UnknownVerb` exactly where the caller and the number are there and the next word is
+/// no verb, `BadLine` where the line asks nothing for another cause. It takes memory.
+pub fn read_line(alloc: Global, line: &[u8]) -> Result<LineAsk, WireFault>
+    ensures found { IfOk result (λ ask. IsLine line.now ask) }
+    ensures only { (ask : LineAsk) → IsLine line.now ask → Says result (Ok ask) }
+    ensures unknown { HasUnknownVerb line.now → Says result (Err WireFault.UnknownVerb) }
+    ensures told { result ≡ Err WireFault.UnknownVerb → HasUnknownVerb line.now }
+    ensures reads { Says result (line_of line.now) }
+{
+    read_ask(alloc, line)
+}
+
+// What the text of a command says.
+fn read_whole_command(alloc: Global, text: &[u8]) -> Result<Command, WireFault>
+    ensures { Says result (command_in text.now) }
+{
+    let mut words = Parts::new(text, b' ');
+    let command = read_command_words(alloc, true, &mut words)?;
+    words.end()?;
+    Ok(command)
+}
+
+/// The command of a text that has nothing else, where what has a default may be written. `BadLine` exactly where it is
+/// the text of none. It takes memory.
+pub fn read_command(alloc: Global, text: &[u8]) -> Result<Command, WireFault>
+    ensures found { IfOk result (λ c. IsCommand true c (pieces 32 text.now)) }
+    ensures only { (c : Command) → IsCommand true c (pieces 32 text.now) → Says result (Ok c) }
+    ensures reads { Says result (command_in text.now) }
+{
+    read_whole_command(alloc, text)
+}

@@ -1,0 +1,57 @@
+// The keeper that the words name.
+ghost use Rattle.std.specs.Prelude.{None};
+ghost use Rattle.sect_edge.specs.Memory.{keeper_faults};
+ghost use Rattle.sect_real.specs.Kept.{faults_of};
+
+use crate::SqliteKeeper;
+use sect_edge::{KeepFault, Keeper, MemKeeper};
+use sect_journal::Journal;
+use sect_system::FileDisk;
+
+/// One of the keepers. It doesn't tell its rows.
+pub enum AnyKeeper {
+    Memory(MemKeeper),
+    Sqlite(SqliteKeeper),
+    Journal(Journal<FileDisk>),
+}
+
+impl AnyKeeper {
+    /// Closes a database, so that all stands in one file. The others have nothing left to do.
+    pub fn close(self) -> Result<(), KeepFault> {
+        match self {
+            AnyKeeper::Sqlite(keeper) => keeper.close(),
+            AnyKeeper::Memory(_) => Ok(()),
+            AnyKeeper::Journal(_) => Ok(()),
+        }
+    }
+}
+
+impl Keeper for AnyKeeper {
+    ghost rows = { λ k. None };
+
+    ghost faults = { faults_of };
+
+    fn append(&mut self, row: &[u8]) -> Result<(), KeepFault> {
+        match self {
+            AnyKeeper::Memory(keeper) => keeper.append(row),
+            AnyKeeper::Sqlite(keeper) => keeper.append(row),
+            AnyKeeper::Journal(keeper) => keeper.append(row),
+        }
+    }
+
+    fn row(&mut self, at: u64, into: &mut Vec<u8>) -> Result<bool, KeepFault> {
+        match self {
+            AnyKeeper::Memory(keeper) => keeper.row(at, into),
+            AnyKeeper::Sqlite(keeper) => keeper.row(at, into),
+            AnyKeeper::Journal(keeper) => keeper.row(at, into),
+        }
+    }
+
+    fn len(&mut self) -> Result<u64, KeepFault> {
+        match self {
+            AnyKeeper::Memory(keeper) => keeper.len(),
+            AnyKeeper::Sqlite(keeper) => keeper.len(),
+            AnyKeeper::Journal(keeper) => keeper.len(),
+        }
+    }
+}

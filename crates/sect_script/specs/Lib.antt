@@ -1,0 +1,5 @@
+pub mod Lines
+pub mod Progress
+pub mod Reading
+pub mod Run
+pub mod Statuses

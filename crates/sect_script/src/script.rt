@@ -1,0 +1,155 @@
+// The loop over the lines.
+ghost use Rattle.std.specs.Prelude.{◌≡◌, ◌≤◌, ◌<◌, ◌+◌, List, ℕ, Option, Some, IfOk, OnOk, OnErr, IfNone, IsErrOf};
+ghost use Rattle.std.specs.Io.KnownBytes.{IsAtEnd};
+ghost use Rattle.sect_edge.specs.Causes.{Rose};
+ghost use Rattle.sect_script.specs.declared.script.LineFault.TheVariants as faults;
+ghost use Rattle.sect_script.specs.declared.script.RunEnd.TheVariants as ends;
+ghost use Rattle.sect_script.specs.Run.{LINES_LIMIT, MayAnswer, Ran};
+ghost use Rattle.sect_script.specs.Progress.{Progress, GoesOn, Turns};
+
+use crate::{LineEnd, LineError, LineReader, write_all};
+use sect_edge::{Failed, Sink, Source};
+use std::alloc::Global;
+
+const MAX_LINES: u64 = 16_777_216;
+
+/// Why a line has no answer.
+#[derive(Clone, Copy, Debug, PartialEq, Eq)]
+pub enum LineFault {
+    Bad,
+    Memory,
+}
+
+/// How a run ended.
+#[derive(Clone, Copy, Debug, PartialEq, Eq)]
+pub enum RunEnd {
+    Done,
+    /// This line, counted from 1, can't be read; the field is 0 where none is named.
+    BadLine { line: u64, field: u32 },
+    ReadFault,
+    WriteFault,
+    Memory,
+}
+
+/// What answers lines.
+pub trait Handler {
+    /// The line has an answer.
+    ghost known: { List ℕ → Type 0 };
+
+    /// In one state the line is answered by these bytes, which leads to another state.
+    ghost answers: { Self → List ℕ → List ℕ → Self → Type 0 };
+
+    /// Puts the answer to a line in place of what `into` held. `Bad` comes only where the line has none.
+    /// At `Memory` the line was answered or not, and what `into` holds is left open.
+    fn answer(&mut self, line: &[u8], into: &mut Vec<u8>) -> Result<(), LineFault>
+        ensures answered { OnOk result (answers self.old line.now into.new.items self.new) }
+        ensures bad { IsErrOf result faults.Bad → known line.now → ⊥ }
+        ensures kept { IsErrOf result faults.Bad → self.new ≡ self.old }
+        ensures memory { IsErrOf result faults.Memory → MayAnswer answers self.old line.now self.new };
+}
+
+/// Answers each line of the source into the sink, up to the first that is bad.
+pub fn run_lines<S: Source, K: Sink, H: Handler>(
+    alloc: Global,
+    source: &mut S,
+    sink: &mut K,
+    handler: &mut H,
+) -> RunEnd
+    ensures ran { Ran H.known H.answers (S.left source.old) (S.left source.new) (K.taken sink.old) (K.taken sink.new)
+        handler.old handler.new result }
+    ensures end { result ≡ ends.Done → IsAtEnd (S.left source.new) }
+    ensures read_fault { result ≡ ends.ReadFault → Rose (S.faults source.old) (S.faults source.new) }
+    ensures write_fault { result ≡ ends.WriteFault → Rose (K.faults sink.old) (K.faults sink.new) }
+{
+    let Ok(mut reader) = LineReader::new(alloc) else {
+        return RunEnd::Memory;
+    };
+    let mut line = Vec::new(alloc);
+    let mut answer = Vec::new(alloc);
+    let mut number = 1;
+    loop {
+        match turn(
+            &mut reader,
+            source,
+            sink,
+            handler,
+            &mut line,
+            &mut answer,
+            number,
+        ) {
+            None => number += 1,
+            Some(status) => return status,
+        }
+    }
+}
+
+// Reads and answers one line. The status is there where the run ends.
+fn turn<S: Source, K: Sink, H: Handler>(
+    reader: &mut LineReader,
+    source: &mut S,
+    sink: &mut K,
+    handler: &mut H,
+    line: &mut Vec<u8>,
+    answer: &mut Vec<u8>,
+    number: u64,
+) -> Option<RunEnd>
+    ensures ran { (left taken : Option (List ℕ)) (old : H)
+        → Progress H.answers left (S.left source.old) taken (K.taken sink.old) old handler.old number reader.old
+        → GoesOn H.known H.answers left (S.left source.new) taken (K.taken sink.new) old handler.new number reader.new result }
+    ensures few { IfNone result (number ≤ LINES_LIMIT) }
+    ensures end { result ≡ Some ends.Done → IsAtEnd (S.left source.new) }
+    ensures read_fault { result ≡ Some ends.ReadFault → Rose (S.faults source.old) (S.faults source.new) }
+    ensures write_fault { result ≡ Some ends.WriteFault → Rose (K.faults sink.old) (K.faults sink.new) }
+    ensures read_faults { S.faults source.old ≤ S.faults source.new }
+    ensures write_faults { K.faults sink.old ≤ K.faults sink.new }
+{
+    match reader.read_line(source, line) {
+        Ok(LineEnd::LineFeed) => answer_line(sink, handler, line, answer, number),
+        Ok(LineEnd::EndOfInput) => {
+            if line.is_empty() {
+                return Some(RunEnd::Done);
+            }
+            match answer_line(sink, handler, line, answer, number) {
+                None => Some(RunEnd::Done),
+                Some(status) => Some(status),
+            }
+        }
+        Err(LineError::TooLong) => Some(RunEnd::BadLine {
+            line: number,
+            field: 0,
+        }),
+        Err(LineError::Failed) => Some(RunEnd::ReadFault),
+        Err(LineError::Memory) => Some(RunEnd::Memory),
+    }
+}
+
+// Answers one line. The status is there where the run ends.
+fn answer_line<K: Sink, H: Handler>(
+    sink: &mut K,
+    handler: &mut H,
+    line: &[u8],
+    answer: &mut Vec<u8>,
+    number: u64,
+) -> Option<RunEnd>
+    ensures answered { Turns H.known H.answers K.taken handler.old handler.new sink.old sink.new number line.now result }
+    ensures write_fault { result ≡ Some ends.WriteFault → Rose (K.faults sink.old) (K.faults sink.new) }
+    ensures write_faults { K.faults sink.old ≤ K.faults sink.new }
+{
+    if number > MAX_LINES {
+        return Some(RunEnd::BadLine {
+            line: number,
+            field: 0,
+        });
+    }
+    match handler.answer(line, answer) {
+        Ok(()) => match write_all(sink, answer) {
+            Ok(()) => None,
+            Err(Failed) => Some(RunEnd::WriteFault),
+        },
+        Err(LineFault::Bad) => Some(RunEnd::BadLine {
+            line: number,
+            field: 0,
+        }),
+        Err(LineFault::Memory) => Some(RunEnd::Memory),
+    }
+}

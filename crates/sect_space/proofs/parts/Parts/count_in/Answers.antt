@@ -1,0 +1,17 @@
+-- one enrolment more than before
+use Rattle.std.proofs.Common.{sym}
+use Rattle.sect_numbers.specs.OneMore.{with_roster}
+use Rattle.sect_space.specs.Parts.{roomed_of}
+use Rattle.sect_space.proofs.parts.Parts.count_in.Goals as goal
+
+pub enrolled-requires : goal.enrolled-requires
+enrolled-requires c =
+    let w = (roomed_of c.args.self.now).world in
+    let b = c.requires in
+    (with_roster w b.less, w.roster, b.told, record { is_more = b.is_more; kept = b.kept; its_offering = sym c.course_offering-offering.ensures; is_over = sym c.is_over_limit-over.ensures })
+
+pub returns-clause-told : goal.returns-clause-told
+returns-clause-told c =
+    let w = (roomed_of c.args.self.now).world in
+    let b = c.requires in
+    c.enrolled.ensures.told (with_roster w b.less) w.roster b.told (record { is_more = b.is_more; kept = b.kept; its_offering = sym c.course_offering-offering.ensures; is_over = sym c.is_over_limit-over.ensures })

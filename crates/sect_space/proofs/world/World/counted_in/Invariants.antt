@@ -1,7 +1,0 @@
--- so many of the enrolments so far
-use Rattle.std.proofs.Common.{◌≡◌, ◌≤◌, length, filter, take}
-use Rattle.sect_space.specs.Counting.{is_counted}
-use Rattle.sect_space.proofs.world.World.counted_in.Given as goal
-
-abbrev pub invariant-loop-enrolment : goal.invariant-loop-enrolment
-invariant-loop-enrolment l = (l.count ≡ length (filter (is_counted l.self.world l.level) (take l.enrolment-index l.roster))) × (l.count ≤ l.enrolment-index)

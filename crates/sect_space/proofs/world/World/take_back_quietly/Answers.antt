@@ -1,0 +1,19 @@
+-- the counts stay
+use Rattle.sect_space.proofs.NumberLemmas.{made-in, back-ready, back-kept, back-quiet, uses-kept}
+use Rattle.sect_space.proofs.world.World.take_back_quietly.Goals as goal
+
+pub take_back-requires-clause-ready : goal.take_back-requires-clause-ready
+take_back-requires-clause-ready c =
+    back-ready c.self.inside.parts c.self.inside.numbers c.args.back (made-in c.args.self.now c.self.inside.parts c.self.inside.numbers c.args.back c.self.view_is c.requires.made)
+
+pub take_back-requires-clause-kept : goal.take_back-requires-clause-kept
+take_back-requires-clause-kept c =
+    back-kept c.self.inside.parts c.self.inside.numbers c.args.back (made-in c.args.self.now c.self.inside.parts c.self.inside.numbers c.args.back c.self.view_is c.requires.made)
+
+pub invariant_of-self : goal.invariant_of-self
+invariant_of-self c =
+    back-quiet c.self.inside.parts c.take_back.new.self c.self.inside.numbers c.args.back c.self.invariant
+    (made-in c.args.self.now c.self.inside.parts c.self.inside.numbers c.args.back c.self.view_is c.requires.made) c.requires.quiet c.take_back.ensures
+
+pub returns-clause-uses : goal.returns-clause-uses
+returns-clause-uses c = uses-kept c.args.self.now c.self.inside.parts c.take_back.new.self c.self.inside.numbers c.self.inside.numbers c.self.view_is c.self.invariant (λ id h. h)

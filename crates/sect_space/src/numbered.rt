@@ -1,0 +1,115 @@
+// Each change of the world, and each taken back, with the numbers that tell of it.
+
+ghost use Rattle.std.specs.Prelude.{◌≡◌, ◌<◌, true, IfOk, IsOk, OnErr, IsTrue};
+ghost use Rattle.sect_model.specs.Fits.{Fits};
+ghost use Rattle.sect_numbers.specs.Quiet.{is_quiet as enrols_nobody};
+ghost use Rattle.sect_space.specs.Back.{is_of_quiet};
+ghost use Rattle.sect_space.specs.Made.{Made, Unchanged, Taken};
+ghost use Rattle.sect_space.specs.Room.{KeepsUses};
+ghost use Rattle.sect_space.specs.Undo.{takes_none};
+ghost use Rattle.sect_space.specs.Undoing.{MadeBy};
+
+use crate::back::Back;
+use crate::world::World;
+use sect_base::{CourseId, Memory, OfferingId, StudentId};
+use sect_model::{Change, Enrolment};
+
+impl World {
+    /// Makes a change that fits, and hands back what is kept of it. Where memory runs out, nothing is changed.
+    pub(crate) fn change(&mut self, change: Change) -> Result<Back, Memory>
+        requires { Fits self.old.world change }
+        ensures ok { IfOk result (λ back. Made self.old self.new change back) }
+        ensures err { OnErr result (Unchanged self.old self.new) }
+        ensures uses { KeepsUses self.old self.new }
+        ensures enough { IsTrue (takes_none change) → 0 < self.old.spare → IsOk result }
+    {
+        match change {
+            Change::Enrol(enrolment) => self.enrol(enrolment),
+            Change::Leave(student, course) => Ok(self.leave(student, course)),
+            quiet => self.change_quietly(quiet),
+        }
+    }
+
+    /// Makes a change that enrols nobody, and by which nobody leaves.
+    fn change_quietly(&mut self, change: Change) -> Result<Back, Memory>
+        requires fits { Fits self.old.world change }
+        requires quiet { enrols_nobody change ≡ true }
+        ensures ok { IfOk result (λ back. Made self.old self.new change back) }
+        ensures err { OnErr result (Unchanged self.old self.new) }
+        ensures uses { KeepsUses self.old self.new }
+        ensures enough { IsTrue (takes_none change) → 0 < self.old.spare → IsOk result }
+    {
+        self.numbers.add_rows(&change)?;
+        self.parts.change(change)
+    }
+
+    fn enrol(&mut self, enrolment: Enrolment) -> Result<Back, Memory>
+        requires { Fits self.old.world (Change.Enrol enrolment) }
+        ensures ok { IfOk result (λ back. Made self.old self.new (Change.Enrol enrolment) back) }
+        ensures err { OnErr result (Unchanged self.old self.new) }
+        ensures uses { KeepsUses self.old self.new }
+        ensures enough { 0 < self.old.spare → IsOk result }
+    {
+        let back = self.parts.enrol(enrolment)?;
+        self.parts.count_in(&mut self.numbers, &enrolment);
+        Ok(back)
+    }
+
+    fn leave(&mut self, student: StudentId, course: CourseId) -> Back
+        requires { Fits self.old.world (Change.Leave student course) }
+        ensures made { Made self.old self.new (Change.Leave student course) result }
+        ensures uses { KeepsUses self.old self.new }
+    {
+        let (place, enrolment, offering) = self.parts.leave(student, course);
+        self.parts.count_out(&mut self.numbers, &enrolment);
+        Back::Left(place, enrolment, offering)
+    }
+
+    /// Takes the last change back. It takes no memory.
+    pub(crate) fn take_back(&mut self, back: Back)
+        requires { MadeBy self.old back }
+        ensures taken { Taken self.old self.new back }
+        ensures uses { KeepsUses self.old self.new }
+    {
+        match back {
+            Back::Enrolled(student, offering) => self.remove_enrolment(student, offering),
+            Back::Left(place, enrolment, offering) => {
+                self.put_enrolment_back(place, enrolment, offering)
+            }
+            quiet => self.take_back_quietly(quiet),
+        }
+    }
+
+    /// Takes a change back that enrolled nobody, and by which nobody left.
+    fn take_back_quietly(&mut self, back: Back)
+        requires made { MadeBy self.old back }
+        requires quiet { is_of_quiet back ≡ true }
+        ensures taken { Taken self.old self.new back }
+        ensures uses { KeepsUses self.old self.new }
+    {
+        self.parts.take_back(back);
+    }
+
+    fn remove_enrolment(&mut self, student: StudentId, offering: Option<OfferingId>)
+        requires { MadeBy self.old (Back.Enrolled student offering) }
+        ensures taken { Taken self.old self.new (Back.Enrolled student offering) }
+        ensures uses { KeepsUses self.old self.new }
+    {
+        let enrolment = self.parts.remove_enrolment(student, offering);
+        self.parts.count_out(&mut self.numbers, &enrolment);
+    }
+
+    fn put_enrolment_back(
+        &mut self,
+        place: usize,
+        enrolment: Enrolment,
+        offering: Option<OfferingId>,
+    )
+        requires { MadeBy self.old (Back.Left place enrolment offering) }
+        ensures taken { Taken self.old self.new (Back.Left place enrolment offering) }
+        ensures uses { KeepsUses self.old self.new }
+    {
+        self.parts.put_enrolment_back(place, enrolment, offering);
+        self.parts.count_in(&mut self.numbers, &enrolment);
+    }
+}

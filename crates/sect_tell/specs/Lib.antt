@@ -1,0 +1,4 @@
+pub mod Audit
+pub mod Audited
+pub mod Told
+pub mod Views

@@ -1,0 +1,4 @@
+pub mod GrammarLaws
+pub mod Ranges
+pub mod SpellingLaws
+pub mod Texts

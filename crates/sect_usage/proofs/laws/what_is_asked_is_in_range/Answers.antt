@@ -1,0 +1,6 @@
+-- By the definitions.
+use Rattle.sect_usage.proofs.Ranges.{asked_in_range}
+use Rattle.sect_usage.proofs.laws.what_is_asked_is_in_range.Goals as goal
+
+pub returns : goal.returns
+returns c = asked_in_range

@@ -1,0 +1,140 @@
+-- What the words of the command line ask for.
+use Rattle.std.specs.Prelude.{ℕ, ◌&&◌, ◌||◌, Bool, true, false, not, if◌then◌else◌, List, [], ◌∷◌, Option, None, Some, codes, option_map}
+use Rattle.std.specs.Str.{bytes_eq}
+use Rattle.sect_command.specs.declared.view.Table.{Table}
+use Rattle.sect_command.specs.declared.view.Table.TheVariants as tables
+use Rattle.sect_command.specs.declared.view.Query.{Query}
+use Rattle.sect_command.specs.declared.view.Query.TheVariants as queries
+use Rattle.sect_words.specs.Reading.{◌>>=◌}
+use Rattle.sect_words.specs.ReadingWords.{between_of, day_of, offering_of, section_of, student_of, u64_of}
+use Rattle.sect_usage.specs.declared.verb.Verb.{Verb}
+use Rattle.sect_usage.specs.declared.verb.Verb.TheVariants as verbs
+use Rattle.sect_usage.specs.declared.verb.Topic.TheVariants as topics
+use Rattle.sect_usage.specs.declared.words.Words.{Words}
+use Rattle.sect_usage.specs.declared.words.Words.TheVariants as asked
+use Rattle.sect_usage.specs.Items.{Item, positional, option, bad, items_of, positionals, value_of}
+
+-- the command of a word
+unfoldable pub verb_of : List ℕ → Option Verb
+verb_of word =
+    if bytes_eq word (codes "run") then Some verbs.Run else
+    (if bytes_eq word (codes "make") then Some verbs.Make else
+    (if bytes_eq word (codes "audit") then Some verbs.Audit else
+    (if bytes_eq word (codes "report") then Some verbs.Report else
+    (if bytes_eq word (codes "import") then Some verbs.Import else
+    (if bytes_eq word (codes "export") then Some verbs.Export else None)))))
+
+-- the option names a keeper
+abbrev pub is_keeper : List ℕ → Bool
+is_keeper name = bytes_eq name (codes "db") || bytes_eq name (codes "journal")
+
+-- the command has the option
+unfoldable pub takes : Verb → List ℕ → Bool
+takes verbs.Run name = is_keeper name
+takes verbs.Make name = false
+takes verbs.Audit name = is_keeper name
+takes verbs.Report name = is_keeper name
+takes verbs.Import name = is_keeper name || (bytes_eq name (codes "first") || bytes_eq name (codes "term"))
+takes verbs.Export name = is_keeper name
+
+-- there is a value
+abbrev pub is_given : Option (List ℕ) → Bool
+is_given None = false
+is_given (Some value) = true
+
+-- each word is an item, and each option is a known one that stands once
+abbrev pub allows : (List ℕ → Bool) → List Item → Bool
+allows known [] = true
+allows known (positional word ∷ items) = allows known items
+allows known (option name value ∷ items) = known name && (not (is_given (value_of name items)) && allows known items)
+allows known (bad ∷ items) = false
+
+-- not both keepers are named
+abbrev pub one_keeper : List Item → Bool
+one_keeper items = not (is_given (value_of (codes "db") items) && is_given (value_of (codes "journal") items))
+
+-- the value, where no words are left
+abbrev pub where_none : {A : Type 0} → Option A → List (List ℕ) → Option A
+where_none value [] = value
+where_none value (word ∷ words) = None
+
+-- the word, where it is the only one
+abbrev pub the_one : List (List ℕ) → Option (List ℕ)
+the_one [] = None
+the_one (word ∷ words) = where_none (Some word) words
+
+-- a table
+unfoldable pub table_of : List ℕ → Option Table
+table_of word =
+    if bytes_eq word (codes "offerings") then Some tables.Offerings else
+    (if bytes_eq word (codes "students") then Some tables.Students else
+    (if bytes_eq word (codes "requests") then Some tables.Requests else
+    (if bytes_eq word (codes "reservations") then Some tables.Reservations else None)))
+
+-- what a report of this kind asks for, with the words behind the kind
+unfoldable pub query_by : List ℕ → List (List ℕ) → Option Query
+query_by kind words =
+    if bytes_eq kind (codes "waiting") then where_none (Some queries.Waiting) words else
+    (if bytes_eq kind (codes "unmet") then where_none (Some queries.Unmet) words else
+    (if bytes_eq kind (codes "roll") then option_map queries.Roll (the_one words >>= section_of) else
+    (if bytes_eq kind (codes "open") then option_map queries.Open (the_one words >>= offering_of) else
+    (if bytes_eq kind (codes "schedule") then option_map queries.Schedule (the_one words >>= student_of) else None))))
+
+-- what a report asks for, by the words that stand alone
+abbrev pub query_of : List (List ℕ) → Option Query
+query_of [] = None
+query_of (kind ∷ words) = query_by kind words
+
+-- a day, where there is a text
+abbrev pub term_of : Option (List ℕ) → Option (Option ℕ)
+term_of None = Some None
+term_of (Some text) = option_map Some (day_of text)
+
+-- what `make` asks for
+abbrev pub make_of : List Item → Option Words
+make_of items = do
+  offerings ← the_one (positionals items) >>= between_of 1 100
+  Some (asked.Make offerings)
+
+-- what `import` asks for
+abbrev pub import_of : List Item → Option Words
+import_of items = do
+  table ← the_one (positionals items) >>= table_of
+  first ← value_of (codes "first") items >>= u64_of
+  term ← term_of (value_of (codes "term") items)
+  Some (asked.Import table first term)
+
+-- what a command asks for by items that it allows
+unfoldable pub asked_for : Verb → List Item → Option Words
+asked_for verbs.Run items = where_none (Some asked.Run) (positionals items)
+asked_for verbs.Make items = make_of items
+asked_for verbs.Audit items = where_none (Some asked.Audit) (positionals items)
+asked_for verbs.Report items = option_map asked.Report (query_of (positionals items))
+asked_for verbs.Import items = import_of items
+asked_for verbs.Export items = option_map asked.Export (the_one (positionals items) >>= table_of)
+
+-- what a command asks for by these items
+unfoldable pub asked_by : Verb → List Item → Option Words
+asked_by verb items = if allows (takes verb) items && one_keeper items then asked_for verb items else None
+
+-- the words are `--help` alone
+abbrev pub is_help : List (List ℕ) → Bool
+is_help [] = false
+is_help (word ∷ []) = bytes_eq word (codes "--help")
+is_help (word ∷ (other ∷ words)) = false
+
+-- a word that stands in place of a command
+unfoldable pub lone_of : List ℕ → Option Words
+lone_of word =
+    if bytes_eq word (codes "--help") then Some (asked.Help topics.Desk) else
+    (if bytes_eq word (codes "--version") then Some asked.Version else None)
+
+-- what the words ask for, by the command that the first is, where it is one
+abbrev pub words_by : Option Verb → List ℕ → List (List ℕ) → Option Words
+words_by None word words = where_none (lone_of word) words
+words_by (Some verb) word words = if is_help words then Some (asked.Help (topics.Command verb)) else asked_by verb (items_of words)
+
+-- what the words ask for
+unfoldable pub words_of : List (List ℕ) → Option Words
+words_of [] = None
+words_of (word ∷ words) = words_by (verb_of word) word words

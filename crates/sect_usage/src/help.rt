@@ -1,0 +1,126 @@
+// What the desk says of itself.
+
+ghost use Rattle.std.specs.Prelude.{◌≡◌};
+ghost use Rattle.sect_usage.specs.Help.{help_text, version_text};
+
+use crate::verb::{Topic, Verb};
+
+const DESK_HELP: &[u8] =
+    b"desk: a registrar's sectioning desk. It keeps offerings with their sections, students with their\n\
+requests, reservations and a wait-list, and answers each request with a place or the reason why there is none.\n\
+\n\
+Commands:\n\
+  desk run                       reads requests from standard input, one a line, and answers each by a line\n\
+  desk import TABLE --first N    reads a table in CSV from standard input, and asks for what it says\n\
+  desk export TABLE              prints a table in CSV\n\
+  desk report KIND [ID]          prints a roll, the open places, a schedule, who waits or what is unmet\n\
+  desk audit                     checks each refusal of the history again, and tells how many there are\n\
+  desk make N                    makes N offerings with their students, and tells how many requests are met\n\
+  desk COMMAND --help            says more of a command, with its options\n\
+  desk --help                    prints this text\n\
+  desk --version                 prints the version\n\
+\n\
+Each command but make takes --db FILE or --journal FILE, where the history is kept. Without one it begins empty\n\
+and ends with the program.\n\
+\n\
+An example line, by which student 11 asks for course 1:\n\
+  s11 1 enrol 11 1\n";
+
+const RUN_HELP: &[u8] =
+    b"desk run [--db FILE | --journal FILE]: reads requests from standard input, one a line, and answers each by a line.\n\
+\n\
+  r1 1 offering 1 course 1 - 3 config 1 - subpart 1 section 7 1 - M/0900-0950/1-15\n\
+  r1 2 student 11 max 18\n\
+  s11 1 enrol 11 1\n\
+  s11 2 drop 11 1\n\
+A line begins with who asks (r and a registrar's number, s and a student's) and their number for it; @DAY in\n\
+front of them names the day, as in @2025-09-01. The verbs are offering, student, requests, reserve, unreserve,\n\
+expire, restrict, unrestrict, limit, cancel, enrol, drop, swap, wait, unwait and batch; the manual has each.\n\
+An answer is the request's place and its reply. A request that was answered before is answered again, and acts\n\
+once. Empty lines, and lines that begin with #, are passed over.\n\
+\n\
+Options:\n\
+  --db FILE       the history is kept in this database of SQLite (default: in memory, until the program ends)\n\
+  --journal FILE  the history is kept in this journal (default: in memory, until the program ends)\n\
+Either file is made where there is none. Only one of the two may be given.\n";
+
+const MAKE_HELP: &[u8] =
+    b"desk make N: makes N offerings (1 to 100) and twenty students for each, meets their requests, and prints one line:\n\
+\n\
+  offerings N students M met A blocked B spent C\n\
+A requests were met, B were blocked, and C would have taken too long a search. No input is read and nothing is kept.\n\
+\n\
+Options: none.\n";
+
+const AUDIT_HELP: &[u8] =
+    b"desk audit [--db FILE | --journal FILE]: opens a history, checks the tree of each blocked reply at its place, and\n\
+prints one line:\n\
+\n\
+  entries E blocked B verified V day D\n\
+E requests have acted, B of them were blocked, and V of these by a tree that refutes every choice. D is the day.\n\
+\n\
+Options:\n\
+  --db FILE       the history is in this database of SQLite (default: there is none)\n\
+  --journal FILE  the history is in this journal (default: there is none)\n\
+Either file is made where there is none. Only one of the two may be given.\n";
+
+const REPORT_HELP: &[u8] =
+    b"desk report KIND [ID] [--db FILE | --journal FILE]: prints what the history tells.\n\
+\n\
+  desk report roll SECTION      who is in a section\n\
+  desk report open OFFERING     how many places of an offering are taken and free\n\
+  desk report schedule STUDENT  what a student is enrolled in\n\
+  desk report waiting           who waits, in the order of their tickets\n\
+  desk report unmet             the requests of which no course is held\n\
+\n\
+Options:\n\
+  --db FILE       the history is in this database of SQLite (default: there is none)\n\
+  --journal FILE  the history is in this journal (default: there is none)\n\
+Either file is made where there is none. Only one of the two may be given.\n";
+
+const IMPORT_HELP: &[u8] =
+    b"desk import TABLE --first N [--term DAY] [--db FILE | --journal FILE]: reads a table in CSV from standard input,\n\
+and asks for what its rows say as registrar 0, with the numbers N, N+1 and so on. TABLE is offerings, students,\n\
+requests or reservations. Each command that the rows make is answered by a line, as in run. The same table again\n\
+with the same numbers changes nothing.\n\
+\n\
+Options:\n\
+  --first N       the number of the first command, from 0 to 18446744073709551615 (must be given)\n\
+  --term DAY      the day on which week 1 begins, as 2025-09-01; with it a meeting's weeks may be said by days, as\n\
+                  2025-09-01..2025-12-12 (default: none, and weeks are said by their numbers)\n\
+  --db FILE       the history is kept in this database of SQLite (default: in memory, until the program ends)\n\
+  --journal FILE  the history is kept in this journal (default: in memory, until the program ends)\n\
+Either file is made where there is none. Only one of the two may be given.\n";
+
+const EXPORT_HELP: &[u8] =
+    b"desk export TABLE [--db FILE | --journal FILE]: prints a table in CSV, as import reads it. TABLE is offerings,\n\
+students, requests or reservations.\n\
+\n\
+Options:\n\
+  --db FILE       the history is in this database of SQLite (default: there is none)\n\
+  --journal FILE  the history is in this journal (default: there is none)\n\
+Either file is made where there is none. Only one of the two may be given.\n";
+
+const VERSION: &[u8] = b"desk 0.1.0\n";
+
+/// The text of a topic.
+pub fn help_of(topic: Topic) -> &'static [u8]
+    ensures { result.now ≡ help_text topic }
+{
+    match topic {
+        Topic::Desk => DESK_HELP,
+        Topic::Command(Verb::Run) => RUN_HELP,
+        Topic::Command(Verb::Make) => MAKE_HELP,
+        Topic::Command(Verb::Audit) => AUDIT_HELP,
+        Topic::Command(Verb::Report) => REPORT_HELP,
+        Topic::Command(Verb::Import) => IMPORT_HELP,
+        Topic::Command(Verb::Export) => EXPORT_HELP,
+    }
+}
+
+/// The text of the version.
+pub fn version() -> &'static [u8]
+    ensures { result.now ≡ version_text }
+{
+    VERSION
+}

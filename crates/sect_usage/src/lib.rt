@@ -1,0 +1,17 @@
+//! The words of the command line, and what they ask for.
+#![tactic(auto)]
+
+mod help;
+mod items;
+pub mod laws;
+mod needed;
+mod needing;
+mod number;
+mod verb;
+mod words;
+
+pub use help::{help_of, version};
+pub use needed::{Needs, WordFault};
+pub use needing::needs;
+pub use verb::{Topic, Verb};
+pub use words::{Words, read_words};

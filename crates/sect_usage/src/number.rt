@@ -1,0 +1,49 @@
+// Numbers and days of words. It takes no memory.
+
+ghost use Rattle.std.specs.Prelude.{◌≡◌, ◌≤◌, IfSome};
+ghost use Rattle.sect_words.specs.ReadingWords.{between_of, day_of, number_of};
+
+use sect_time::{Day, read_day};
+use sect_words::parse_number;
+
+/// The number of at most `most` that is written in digits. None exactly where the word is none.
+pub(crate) fn number(word: &[u8], most: u64) -> Option<u64>
+    ensures value { result ≡ number_of most word.now }
+    ensures high { IfSome result (λ n. n ≤ most) }
+{
+    match parse_number(word) {
+        Some(number) if number <= most => Some(number),
+        _ => None,
+    }
+}
+
+/// The number of 32 bits.
+pub(crate) fn id(word: &[u8]) -> Option<u32>
+    ensures { result ≡ number_of 4294967295 word.now }
+{
+    Some(number(word, 4_294_967_295)? as u32)
+}
+
+/// The number from the least to the most. None exactly where the word is none.
+#[tactic(auto, unfolding(sect_words::specs::ReadingWords::between_of))]
+pub(crate) fn between(word: &[u8], least: u32, most: u32) -> Option<u32>
+    ensures value { result ≡ between_of least most word.now }
+    ensures low { IfSome result (λ n. least ≤ n) }
+    ensures high { IfSome result (λ n. n ≤ most) }
+{
+    let number = number(word, u64::from(most))? as u32;
+    if least <= number { Some(number) } else { None }
+}
+
+/// The day of a word. None exactly where the word is none.
+pub(crate) fn day(word: &[u8]) -> Option<Day>
+    ensures { result ≡ day_of word.now }
+{
+    match read_day(word) {
+        Ok(day) => {
+            prove!(day.get() >= 0);
+            Some(day)
+        }
+        Err(_) => None,
+    }
+}

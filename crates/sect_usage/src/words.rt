@@ -1,0 +1,254 @@
+// What the words of the command line ask for. It takes no memory.
+
+ghost use Rattle.std.specs.Prelude.{◌≡◌, Some, map, option_map};
+ghost use Rattle.std.specs.String.{string_bytes};
+ghost use Rattle.sect_usage.specs.Items.{items_of, positionals, value_of};
+ghost use Rattle.sect_usage.specs.Grammar.{allows, asked_by, asked_for, import_of, is_given, is_help, lone_of, make_of, one_keeper, query_by, query_of, table_of, takes as takes_name, term_of, the_one, where_none, words_of};
+
+use crate::items::{Item, next_item, next_positional, value};
+use crate::number::{between, day, id, number};
+use crate::verb::{Topic, Verb, read_verb, takes};
+use sect_base::{OfferingId, SectionId, StudentId};
+use sect_command::{Query, Table};
+use sect_time::Day;
+use sect_words::same_bytes;
+
+/// What the words ask for.
+#[derive(Clone, Copy, Debug, PartialEq, Eq)]
+pub enum Words {
+    Run,
+    /// So many offerings, from 1 to 100, are made.
+    Make(u32),
+    Audit,
+    Report(Query),
+    /// The commands of a table are asked, the first of them by this number. The term begins on the day, where one is given.
+    Import {
+        table: Table,
+        first: u64,
+        term: Option<Day>,
+    },
+    Export(Table),
+    Help(Topic),
+    Version,
+}
+
+/// What the words ask for. None exactly where they aren't in the grammar.
+#[tactic(auto, unfolding(crate::specs::Grammar::words_of))]
+pub fn read_words(words: &[String]) -> Option<Words>
+    ensures { result ≡ words_of (map string_bytes words.now) }
+{
+    match words {
+        [] => None,
+        [word, others @ ..] => match read_verb(word.as_bytes()) {
+            Some(verb) if helps(others) => Some(Words::Help(Topic::Command(verb))),
+            Some(verb) => asked(verb, others),
+            None if others.is_empty() => read_lone(word.as_bytes()),
+            None => None,
+        },
+    }
+}
+
+// Whether the words are `--help` alone.
+fn helps(words: &[String]) -> bool
+    ensures { result ≡ is_help (map string_bytes words.now) }
+{
+    match words {
+        [word] => same_bytes(word.as_bytes(), b"--help"),
+        _ => false,
+    }
+}
+
+// What a word in place of a command asks for.
+#[tactic(auto, unfolding(crate::specs::Grammar::lone_of))]
+fn read_lone(word: &[u8]) -> Option<Words>
+    ensures { result ≡ lone_of word.now }
+{
+    if same_bytes(word, b"--help") {
+        Some(Words::Help(Topic::Desk))
+    } else if same_bytes(word, b"--version") {
+        Some(Words::Version)
+    } else {
+        None
+    }
+}
+
+// What a command with these words behind it asks for.
+#[tactic(auto, unfolding(crate::specs::Grammar::asked_by))]
+fn asked(verb: Verb, words: &[String]) -> Option<Words>
+    ensures { result ≡ asked_by verb (items_of (map string_bytes words.now)) }
+{
+    if allowed(verb, words) && one_keeper_named(words) {
+        asked_of(verb, words)
+    } else {
+        None
+    }
+}
+
+// Whether each word is an item, and each option is one of the command that stands once.
+fn allowed(verb: Verb, words: &[String]) -> bool
+    ensures { result ≡ allows (takes_name verb) (items_of (map string_bytes words.now)) }
+{
+    let mut rest = words;
+    while let Some((item, behind)) = next_item(rest) {
+        match item {
+            Item::Bad => return false,
+            Item::Positional(_) => {}
+            Item::Setting(name, _) => {
+                if !takes(verb, name) || given(name, behind) {
+                    return false;
+                }
+            }
+        }
+        rest = behind;
+    }
+    true
+}
+
+// Whether there is an option of this name.
+fn given(name: &[u8], words: &[String]) -> bool
+    ensures { result ≡ is_given (value_of name.now (items_of (map string_bytes words.now))) }
+{
+    match value(name, words) {
+        Some(_) => true,
+        None => false,
+    }
+}
+
+// Whether not both keepers are named.
+fn one_keeper_named(words: &[String]) -> bool
+    ensures { result ≡ one_keeper (items_of (map string_bytes words.now)) }
+{
+    !(given(b"db", words) && given(b"journal", words))
+}
+
+// What a command asks for by words that it allows.
+#[tactic(auto, unfolding(crate::specs::Grammar::asked_for))]
+fn asked_of(verb: Verb, words: &[String]) -> Option<Words>
+    ensures { result ≡ asked_for verb (items_of (map string_bytes words.now)) }
+{
+    match verb {
+        Verb::Run => alone(Words::Run, words),
+        Verb::Make => read_make(words),
+        Verb::Audit => alone(Words::Audit, words),
+        Verb::Report => read_report(words),
+        Verb::Import => read_import(words),
+        Verb::Export => read_export(words),
+    }
+}
+
+// What is asked for, where no word stands alone.
+fn alone(asked: Words, words: &[String]) -> Option<Words>
+    ensures { result ≡ where_none (Some asked) (positionals (items_of (map string_bytes words.now))) }
+{
+    match next_positional(words) {
+        Some(_) => None,
+        None => Some(asked),
+    }
+}
+
+// The only word that stands alone.
+fn only(words: &[String]) -> Option<&[u8]>
+    ensures { option_map (λ w. w.now) result ≡ the_one (positionals (items_of (map string_bytes words.now))) }
+{
+    let (word, behind) = next_positional(words)?;
+    match next_positional(behind) {
+        Some(_) => None,
+        None => Some(word),
+    }
+}
+
+fn read_make(words: &[String]) -> Option<Words>
+    ensures { result ≡ make_of (items_of (map string_bytes words.now)) }
+{
+    let offerings = between(only(words)?, 1, 100)?;
+    Some(Words::Make(offerings))
+}
+
+fn read_report(words: &[String]) -> Option<Words>
+    ensures { result ≡ option_map Words.Report (query_of (positionals (items_of (map string_bytes words.now)))) }
+{
+    let (kind, behind) = next_positional(words)?;
+    let query = read_query(kind, behind)?;
+    Some(Words::Report(query))
+}
+
+// What a report of this kind asks for, with the words behind the kind.
+#[tactic(auto, unfolding(crate::specs::Grammar::query_by))]
+fn read_query(kind: &[u8], words: &[String]) -> Option<Query>
+    ensures { result ≡ query_by kind.now (positionals (items_of (map string_bytes words.now))) }
+{
+    if same_bytes(kind, b"waiting") {
+        lone_query(Query::Waiting, words)
+    } else if same_bytes(kind, b"unmet") {
+        lone_query(Query::Unmet, words)
+    } else if same_bytes(kind, b"roll") {
+        let id = id(only(words)?)?;
+        Some(Query::Roll(SectionId(id)))
+    } else if same_bytes(kind, b"open") {
+        let id = id(only(words)?)?;
+        Some(Query::Open(OfferingId(id)))
+    } else if same_bytes(kind, b"schedule") {
+        let id = id(only(words)?)?;
+        Some(Query::Schedule(StudentId(id)))
+    } else {
+        None
+    }
+}
+
+// A query, where no word stands alone.
+fn lone_query(query: Query, words: &[String]) -> Option<Query>
+    ensures { result ≡ where_none (Some query) (positionals (items_of (map string_bytes words.now))) }
+{
+    match next_positional(words) {
+        Some(_) => None,
+        None => Some(query),
+    }
+}
+
+fn read_import(words: &[String]) -> Option<Words>
+    ensures { result ≡ import_of (items_of (map string_bytes words.now)) }
+{
+    let table = read_table(only(words)?)?;
+    let first = number(value(b"first", words)?, 18_446_744_073_709_551_615)?;
+    let term = read_term(value(b"term", words))?;
+    Some(Words::Import { table, first, term })
+}
+
+// The day, where there is a text.
+fn read_term(text: Option<&[u8]>) -> Option<Option<Day>>
+    ensures { result ≡ term_of (option_map (λ t. t.now) text.entry) }
+{
+    match text {
+        None => Some(None),
+        Some(text) => {
+            let term = day(text)?;
+            Some(Some(term))
+        }
+    }
+}
+
+#[tactic(auto, unfolding(crate::specs::Grammar::asked_for))]
+fn read_export(words: &[String]) -> Option<Words>
+    ensures { result ≡ asked_for Verb.Export (items_of (map string_bytes words.now)) }
+{
+    let table = read_table(only(words)?)?;
+    Some(Words::Export(table))
+}
+
+// A table.
+#[tactic(auto, unfolding(crate::specs::Grammar::table_of))]
+fn read_table(word: &[u8]) -> Option<Table>
+    ensures { result ≡ table_of word.now }
+{
+    if same_bytes(word, b"offerings") {
+        Some(Table::Offerings)
+    } else if same_bytes(word, b"students") {
+        Some(Table::Students)
+    } else if same_bytes(word, b"requests") {
+        Some(Table::Requests)
+    } else if same_bytes(word, b"reservations") {
+        Some(Table::Reservations)
+    } else {
+        None
+    }
+}

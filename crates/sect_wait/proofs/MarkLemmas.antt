@@ -1,0 +1,260 @@
+-- Marks: what a change may open is marked, and an entry that isn't marked has no move.
+use Rattle.std.specs.Prelude.{◌≡◌, ℕ, zero, suc, ◌+◌, ◌<◌, Bool, true, false, not, ◌||◌, ◌&&◌, ◌==◌, cond, List, [], ◌∷◌, ◌++◌, length, take, filter, Option, Some, None, Result, Ok, Err, OnOk, IsTrue, refl, ◌⊎◌}
+use Rattle.std.specs.List.{list_any, list_all}
+use Rattle.std.specs.Option.{option_map_or}
+use Rattle.std.specs.Ordering.{nat_cmp, is_eq}
+use Rattle.std.specs.BTreeSet.{BTreeSet, contains}
+use Rattle.std.proofs.lemmas.Bool.Decides.{nat_tests}
+use Rattle.sect_catalog.proofs.SearchLemmas.{any-append}
+use Rattle.std.proofs.Common.{sym, ◌∙◌, ap, subst, arith, inl, inr, get_or}
+use Rattle.std.proofs.lemmas.Bool.{eq-eqb}
+use Rattle.std.proofs.lemmas.List.{take_more}
+use Rattle.sect_base.specs.Tree.{Tree}
+use Rattle.sect_catalog.specs.Catalogue.{has_course}
+use Rattle.sect_model.specs.Data.{OfferingRow, StudentId, CourseId, Want}
+use Rattle.sect_model.specs.declared.held.Enrolment.{Enrolment}
+use Rattle.sect_model.specs.declared.pick.Outcome.{Outcome}
+use Rattle.sect_model.specs.declared.held.Waiting.{Waiting}
+use Rattle.sect_model.specs.declared.change.Change.{Change}
+use Rattle.sect_model.specs.declared.change.Change.TheVariants.{Enrol, Leave}
+use Rattle.sect_model.specs.declared.pick.Outcome.TheVariants.{Blocked}
+use Rattle.sect_model.specs.World.{World, leave, offering_of, is_of}
+use Rattle.sect_model.specs.Outcome.{outcome_of}
+use Rattle.sect_model.specs.Fits.{Fits, changed}
+use Rattle.sect_model.specs.Kept.{KeptWorld, entry_fits}
+use Rattle.sect_model.specs.Settle.{without, is_placeable, placement_of, move_of}
+use Rattle.sect_model.specs.Freer.{Among, NoMove, may_open, touches, frees_some}
+use Rattle.sect_model.proofs.Members
+use Rattle.sect_model.proofs.Members.{all-at, neither-left, neither-right, none-of}
+use Rattle.sect_model.proofs.FreerLemmas.{among, member}
+use Rattle.sect_model.proofs.FreerChanges.{changes-open}
+use Rattle.sect_model.proofs.FreerIndex.{touches-listed}
+use Rattle.sect_model.proofs.FreerSettle.{blocked-no-move, no-move-unplaced}
+use Rattle.sect_model.specs.Settle.{Settled, settle, is_settled, first_entry}
+use Rattle.sect_model.proofs.SettleLemmas.{settles, settled-stays, next_entry-none}
+use Rattle.sect_wait.specs.Placing.{IsBest}
+use Rattle.sect_wait.specs.Queued.{Queued, left, state_of}
+use Rattle.std.specs.Prelude.{is_err}
+use Rattle.sect_wait.specs.Marked.{Marked, no_marks, is_marked, OthersHaveNoMove, MarksKept, MarksMore, concerns, IsSetOf}
+
+neither : (a b : Bool) → a ≡ false → b ≡ false → a || b ≡ false
+neither true b h i = h
+neither false b h i = i
+
+-- ---- entries
+
+pub among-append : (es : List Waiting) (f e : Waiting) → Among (es ++ f ∷ []) e → Among es e ⊎ Among (f ∷ []) e
+among-append [] f e h = inr h
+among-append (d ∷ es) f e (inl h) = inl (inl h)
+among-append (d ∷ es) f e (inr h) = by_rest (among-append es f e h)
+  where
+    by_rest : Among es e ⊎ Among (f ∷ []) e → Among (d ∷ es) e ⊎ Among (f ∷ []) e
+    by_rest (inl i) = inl (inr i)
+    by_rest (inr i) = inr i
+
+among-get : (es : List Waiting) (i : ℕ) (d : Waiting) → i < length es → Among es (get_or es i d)
+among-get [] i d h = absurd (omega (arith, h))
+among-get (e ∷ es) zero d h = inl refl
+among-get (e ∷ es) (suc i) d h = inr (among-get es i d (omega (arith, h)))
+
+among-without : (es : List Waiting) (ticket : ℕ) (e : Waiting) → Among (without es ticket) e → Among es e
+among-without es ticket e h = among es e (Members.member-filter (λ f. not (f.ticket == ticket)) es e (member (without es ticket) e h)).0
+
+-- the entry at a place
+pub others-at : (w : World) (es : List Waiting) (m : Marked) (i : ℕ) (e : Waiting) → i < length es → e ≡ get_or es i e → OthersHaveNoMove w es m → OthersHaveNoMove w (e ∷ []) m
+others-at w es m i e few at others f (inl h) unmarked = others f (subst (Among es) (sym at ∙ h) (among-get es i e few)) unmarked
+others-at w es m i e few at others f (inr h) unmarked = absurd h
+
+-- the entries so far, and one more
+pub others-more : (w : World) (es : List Waiting) (i : ℕ) (e : Waiting) (m n : Marked) → i < length es → e ≡ get_or es i e → MarksKept m n
+    → OthersHaveNoMove w (take i es) m → OthersHaveNoMove w (e ∷ []) n → OthersHaveNoMove w (take (i + 1) es) n
+others-more w es i e m n few at kept others one f among_f unmarked =
+    by_place (among-append (take i es) e f (subst (λ fs. Among fs f) (take_more es i e few ∙ ap (λ d. take i es ++ d ∷ []) (sym at)) among_f))
+  where
+    by_place : Among (take i es) f ⊎ Among (e ∷ []) f → NoMove w f
+    by_place (inl a) = others f a (kept f.ticket unmarked)
+    by_place (inr a) = one f a unmarked
+
+-- the marks so far, and those for one entry more
+pub marks-more : (test : Waiting → Bool) (es : List Waiting) (i : ℕ) (e : Waiting) (m k n : Marked) → i < length es → e ≡ get_or es i e
+    → MarksMore test (take i es) m k → MarksMore test (e ∷ []) k n → MarksMore test (take (i + 1) es) m n
+marks-more test es i e m k n few at so_far one = record {
+  kept = λ t h. so_far.kept t (one.kept t h);
+  added = λ f among_f unmarked. by_place f unmarked (among-append (take i es) e f (subst (λ fs. Among fs f) (take_more es i e few ∙ ap (λ d. take i es ++ d ∷ []) (sym at)) among_f));
+}
+  where
+    by_place : (f : Waiting) → is_marked n f.ticket ≡ false → Among (take i es) f ⊎ Among (e ∷ []) f → test f ≡ false
+    by_place f unmarked (inl a) = so_far.added f a (one.kept f.ticket unmarked)
+    by_place f unmarked (inr a) = one.added f a unmarked
+
+pub others-without : (w : World) (es : List Waiting) (m : Marked) (ticket : ℕ) → OthersHaveNoMove w es m → OthersHaveNoMove w (without es ticket) m
+others-without w es m ticket others e a unmarked = others e (among-without es ticket e a) unmarked
+
+-- ---- one entry
+
+any-more : (ts : List ℕ) (t ticket : ℕ) → list_any (λ s. s == ticket) (ts ++ t ∷ []) ≡ false → list_any (λ s. s == ticket) ts ≡ false
+any-more [] t ticket h = refl
+any-more (s ∷ ts) t ticket h = neither (s == ticket) (list_any (λ s. s == ticket) ts) (neither-left (s == ticket) _ h) (any-more ts t ticket (neither-right (s == ticket) _ h))
+
+-- marking a ticket takes no mark off
+pub mark-kept : (m : Marked) (ticket : ℕ) → MarksKept m (record m { tickets = m.tickets ++ ticket ∷ [] })
+mark-kept m ticket t h = neither m.all (list_any (λ s. s == t) m.tickets) (neither-left m.all _ h) (any-more m.tickets ticket t (neither-right m.all _ h))
+
+any-last : (ts : List ℕ) (t : ℕ) → list_any (λ s. s == t) (ts ++ t ∷ []) ≡ false → ⊥
+any-last [] t h = differ (sym (eq-eqb t t refl) ∙ neither-left (t == t) false h)
+  where
+    differ : true ≡ false → ⊥
+    differ e = cc
+any-last (s ∷ ts) t h = any-last ts t (neither-right (s == t) _ h)
+
+-- the ticket is marked
+pub mark-marks : {P : Type 0} (m : Marked) (ticket : ℕ) → is_marked (record m { tickets = m.tickets ++ ticket ∷ [] }) ticket ≡ false → P
+mark-marks m ticket h = absurd (any-last m.tickets ticket (neither-right m.all _ h))
+
+-- a blocked search tells that the entry has no move
+pub blocked-others : (w : World) (e : Waiting) (m : Marked) (o : Outcome) (tree : Tree) (visits : ℕ) → KeptWorld w → IsTrue (entry_fits w e)
+    → o ≡ outcome_of w (move_of w e) 2000 → o ≡ Blocked tree visits → OthersHaveNoMove w (e ∷ []) m
+blocked-others w e m o tree visits k fits is blocked f (inl h) unmarked = subst (NoMove w) h (blocked-no-move w e visits tree k fits (sym is ∙ blocked))
+blocked-others w e m o tree visits k fits is blocked f (inr h) unmarked = absurd h
+
+-- an entry that is marked isn't one of the others
+pub marked-others : (w : World) (e : Waiting) (m n : Marked) → n ≡ record m { tickets = m.tickets ++ e.ticket ∷ [] } → OthersHaveNoMove w (e ∷ []) n
+marked-others w e m n is f (inl h) unmarked = mark-marks m e.ticket (ap (λ x. is_marked x e.ticket) (sym is) ∙ ap (λ x. is_marked n x.ticket) h ∙ unmarked)
+marked-others w e m n is f (inr h) unmarked = absurd h
+
+-- an entry that isn't marked isn't placed
+pub others-unplaced : (w : World) (e : Waiting) (m : Marked) → is_marked m e.ticket ≡ false → OthersHaveNoMove w (e ∷ []) m → is_placeable w e ≡ false
+others-unplaced w e m unmarked others = no-move-unplaced w e (others e (inl refl) unmarked)
+
+-- ---- changes
+
+-- a want touches a course where it lists a course of its offering
+touches-row : (w : World) (want : Want) (course : CourseId) (o : Option OfferingRow) → KeptWorld w → offering_of w course ≡ o
+    → touches w want course ≡ option_map_or (λ o. list_any (has_course o) want.courses) o false
+touches-row w want course (Some o) k its = touches-listed w want course o k its
+touches-row w want course None k its =
+    none-of (λ c. option_map_or (λ o. is_of w o.id course) (offering_of w c) false) want.courses (λ c m. by_row (offering_of w c))
+  where
+    by_row : (x : Option OfferingRow) → option_map_or (λ o. is_of w o.id course) x false ≡ false
+    by_row None = refl
+    by_row (Some x) = ap (λ y. option_map_or (λ z. z.id.0 == x.id.0) y false) its
+
+leave-concerns : (w : World) (student : StudentId) (course : CourseId) (e : Waiting) → KeptWorld w → concerns (Some student) (offering_of w course) e ≡ false
+    → may_open w e (Leave student course) ≡ false
+leave-concerns w student course e k h =
+    neither (student.0 == e.student.0) (touches w e.want course) (neither-left (student.0 == e.student.0) _ h)
+    (touches-row w e.want course (offering_of w course) k refl ∙ neither-right (student.0 == e.student.0) _ h)
+
+enrol-concerns : (w : World) (x : Enrolment) (e : Waiting) → KeptWorld w → concerns (Some x.student) (cond (frees_some w x.choice) (offering_of w x.choice.course) None) e ≡ false
+    → may_open w e (Enrol x) ≡ false
+enrol-concerns w x e k h =
+    neither (x.student.0 == e.student.0) (touches w e.want x.choice.course && frees_some w x.choice) (neither-left (x.student.0 == e.student.0) _ h)
+    (by_frees (frees_some w x.choice) (neither-right (x.student.0 == e.student.0) _ h))
+  where
+    and_false : (b : Bool) → b && false ≡ false
+    and_false true = refl
+    and_false false = refl
+
+    and_none : (b c : Bool) → b ≡ false → b && c ≡ false
+    and_none true c h = cc
+    and_none false c h = refl
+
+    by_frees : (f : Bool) → option_map_or (λ o. list_any (has_course o) e.want.courses) (cond f (offering_of w x.choice.course) None) false ≡ false
+        → touches w e.want x.choice.course && f ≡ false
+    by_frees true h = and_none (touches w e.want x.choice.course) true (touches-row w e.want x.choice.course (offering_of w x.choice.course) k refl ∙ h)
+    by_frees false h = and_false (touches w e.want x.choice.course)
+
+more-test : (test more : Waiting → Bool) (es : List Waiting) (m n : Marked) → ((e : Waiting) → more e ≡ false → test e ≡ false) → MarksMore more es m n → MarksMore test es m n
+more-test test more es m n h marks = record { kept = marks.kept; added = λ e a unmarked. h e (marks.added e a unmarked) }
+
+pub on-ok : {A E P Q : Type 0} (r : Result A E) → (P → Q) → OnOk r P → OnOk r Q
+on-ok (Ok x) f p = f p
+on-ok (Err x) f p = tt
+
+pub leave-marks : {A E : Type 0} (w : World) (es : List Waiting) (student : StudentId) (course : CourseId) (o : Option OfferingRow) (m n : Marked) (r : Result A E) → KeptWorld w
+    → o ≡ offering_of w course → OnOk r (MarksMore (concerns (Some student) o) es m n) → OnOk r (MarksMore (λ e. may_open w e (Leave student course)) es m n)
+leave-marks w es student course o m n r k its marks =
+    on-ok r (more-test (λ e. may_open w e (Leave student course)) (concerns (Some student) (offering_of w course)) es m n (λ e h. leave-concerns w student course e k h))
+    (subst (λ x. OnOk r (MarksMore (concerns (Some student) x) es m n)) its marks)
+
+pub enrol-marks : {A E : Type 0} (w : World) (es : List Waiting) (x : Enrolment) (o : Option OfferingRow) (m n : Marked) (r : Result A E) → KeptWorld w
+    → o ≡ cond (frees_some w x.choice) (offering_of w x.choice.course) None → OnOk r (MarksMore (concerns (Some x.student) o) es m n)
+    → OnOk r (MarksMore (λ e. may_open w e (Enrol x)) es m n)
+enrol-marks w es x o m n r k its marks =
+    on-ok r (more-test (λ e. may_open w e (Enrol x)) (concerns (Some x.student) (cond (frees_some w x.choice) (offering_of w x.choice.course) None)) es m n (λ e h. enrol-concerns w x e k h))
+    (subst (λ y. OnOk r (MarksMore (concerns (Some x.student) y) es m n)) its marks)
+
+-- once what a change may open is marked, the others have no move after it
+pub changed-others : (w v : World) (es : List Waiting) (m n : Marked) (change : Change) → KeptWorld w → Fits w change → IsTrue (list_all (entry_fits w) es)
+    → v ≡ changed w change → OthersHaveNoMove w es m → MarksMore (λ e. may_open w e change) es m n → OthersHaveNoMove v es n
+changed-others w v es m n change k fits fit is others marks e a unmarked =
+    subst (λ u. NoMove u e) (sym is)
+    (changes-open w e change k fits (all-at (entry_fits w) es fit e (member es e a)) (marks.added e a unmarked) (others e a (marks.kept e.ticket unmarked)))
+
+pub made-others : {A E : Type 0} (w v : World) (es : List Waiting) (m n : Marked) (change : Change) (r : Result A E) → KeptWorld w → Fits w change
+    → IsTrue (list_all (entry_fits w) es) → OnOk r (v ≡ changed w change) → OthersHaveNoMove w es m → MarksMore (λ e. may_open w e change) es m n
+    → OnOk r (OthersHaveNoMove v es n)
+made-others w v es m n change (Ok x) k fits fit is others marks = changed-others w v es m n change k fits fit is others marks
+made-others w v es m n change (Err x) k fits fit is others marks = tt
+
+-- ---- settling
+
+none-left : (w : World) (es : List Waiting) → ((e : Waiting) → Among es e → is_placeable w e ≡ false) → filter (is_placeable w) es ≡ []
+none-left w [] h = refl
+none-left w (e ∷ es) h = (λ i. cond (h e (inl refl) i) (e ∷ filter (is_placeable w) es) (filter (is_placeable w) es)) ∙ none-left w es (λ f a. h f (inr a))
+
+-- where nobody is marked, nobody is placed
+pub unmarked-none : (w : World) (es : List Waiting) (m : Marked) → m ≡ no_marks → OthersHaveNoMove w es m → IsBest w es None
+unmarked-none w es m none others =
+    ap first_entry (none-left w es (λ e a. no-move-unplaced w e (others e a (ap (λ x. is_marked x e.ticket) none))))
+
+pub unmarked-settled : (w : World) (q : Queued) (m : Marked) → m ≡ no_marks → OthersHaveNoMove w q.entries m
+    → settle (state_of w q) ≡ record { state = state_of w q; placed = [] }
+unmarked-settled w q m none others = settled-stays (state_of w q) (next_entry-none (state_of w q) (unmarked-none w q.entries m none others))
+
+pub unmarked-rests : (w : World) (q : Queued) (m : Marked) → m ≡ no_marks → OthersHaveNoMove w q.entries m → IsTrue (is_settled (state_of w q))
+unmarked-rests w q m none others = subst (λ u. IsTrue (is_settled u)) (ap (λ (x : Settled). x.state) (unmarked-settled w q m none others)) (settles (state_of w q))
+
+-- where all are marked, there are no others
+pub all-others : (w : World) (es : List Waiting) (m n : Marked) → n ≡ record m { all = true } → OthersHaveNoMove w es n
+all-others w es m n is e a h = absurd (differ (ap (λ x. is_marked x e.ticket) (sym is) ∙ h))
+  where
+    differ : true ≡ false → ⊥
+    differ d = cc
+
+pub others-of : (w : World) (es fs : List Waiting) (m : Marked) → fs ≡ es → OthersHaveNoMove w fs m → OthersHaveNoMove w es m
+others-of w es fs m same others = subst (λ gs. OthersHaveNoMove w gs m) same others
+
+pub ok-of : {A E P : Type 0} (r : Result A E) → is_err r ≡ false → OnOk r P → P
+ok-of (Ok x) h p = p
+ok-of (Err x) h p = cc
+
+pub marks-of : (test : Waiting → Bool) (es fs : List Waiting) (m n : Marked) → fs ≡ es → MarksMore test fs m n → MarksMore test es m n
+marks-of test es fs m n same marks = subst (λ gs. MarksMore test gs m n) same marks
+
+pub left-others : (w : World) (q p : Queued) (es : List Waiting) (m : Marked) (ticket : ℕ) → p ≡ left q ticket → es ≡ q.entries → OthersHaveNoMove w es m → OthersHaveNoMove w p.entries m
+left-others w q p es m ticket is same others = subst (λ (x : Queued). OthersHaveNoMove w x.entries m) (sym is) (others-without w q.entries m ticket (others-of w q.entries es m same others))
+
+-- the entries fit where a student left
+pub left-fit : {A E : Type 0} (w v : World) (es : List Waiting) (student : StudentId) (course : CourseId) (r : Result A E) → OnOk r (v ≡ leave w student course) → IsTrue (list_all (entry_fits w) es)
+    → OnOk r (IsTrue (list_all (entry_fits v) es))
+left-fit w v es student course (Ok x) is fit = subst (λ u. IsTrue (list_all (entry_fits u) es)) (sym is) fit
+left-fit w v es student course (Err x) is fit = tt
+
+-- ---- the set of the tickets
+
+same_order : (a b : ℕ) → is_eq (nat_cmp a b) ≡ (a == b)
+same_order a b = grind (arith, nat_tests)
+
+-- the set has one ticket more
+pub set-more : (ts : List ℕ) (ticket : ℕ) (old new : BTreeSet ℕ) → IsSetOf ts old
+    → ((q : ℕ) → contains nat_cmp new q ≡ cond (is_eq (nat_cmp ticket q)) true (contains nat_cmp old q)) → IsSetOf (ts ++ ticket ∷ []) new
+set-more ts ticket old new k after = record {
+  has = λ q. after q ∙ (λ i. cond (same_order ticket q i) true (k.has q i)) ∙ by_test (ticket == q) (list_any (λ t. t == q) ts) ∙ sym (any-append (λ t. t == q) ts (ticket ∷ []));
+}
+  where
+    by_test : (b a : Bool) → cond b true a ≡ a || (b || false)
+    by_test true true = refl
+    by_test true false = refl
+    by_test false true = refl
+    by_test false false = refl

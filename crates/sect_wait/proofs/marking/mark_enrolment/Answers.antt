@@ -1,0 +1,8 @@
+-- Whom the change concerns is whom it may give a move.
+use Rattle.std.specs.Prelude.{option_copied}
+use Rattle.sect_wait.proofs.MarkLemmas.{enrol-marks}
+use Rattle.sect_wait.proofs.marking.mark_enrolment.Goals as goal
+
+pub returns : goal.returns
+returns c =
+    enrol-marks c.args.world.now.world c.args.entries.now c.args.enrolment.now (option_copied c.freed-row.result) c.args.marks.now c.mark.new.marks c.mark.result c.is_kept.ensures c.freed-row.ensures c.mark.ensures

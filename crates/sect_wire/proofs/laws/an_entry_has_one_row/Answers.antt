@@ -1,6 +1,0 @@
--- By the laws of readers.
-use Rattle.sect_wire.proofs.TextLaws.{one_row}
-use Rattle.sect_wire.proofs.laws.an_entry_has_one_row.Goals as goal
-
-pub returns : goal.returns
-returns c = one_row

@@ -1,0 +1,366 @@
+// Reading what stands in one word.
+
+ghost use Rattle.std.specs.Prelude.{◌≡◌, ◌≤◌, ◌<◌, ◌^◌, ℕ, List, Option, Some, None, decimal, IfSome, IfNone, IfOk, IsSomeAnd, length};
+ghost use Rattle.std.specs.Option.{option_map};
+ghost use Rattle.sect_words.specs.Parts.{pieces};
+ghost use Rattle.sect_words.specs.Reading.{Means, Reads, all_of, word_at};
+ghost use Rattle.sect_words.specs.ReadingWords.{
+  number_of,
+  between_of,
+  u8_of,
+  u16_of,
+  u32_of,
+  u64_of,
+  day_of,
+  meeting_of,
+  course_of,
+  config_of,
+  subpart_of,
+  offering_of,
+  restriction_of,
+  section_of,
+  reservation_of,
+  student_of,
+  group_of,
+  area_of,
+  class_of,
+  major_of,
+  list_of,
+  flag_of,
+  optional_of,
+  limit_of,
+  caller_of,
+  sections_of,
+  few_sections,
+  tree_of_word,
+};
+
+use crate::fault::Fault;
+use crate::parts::Parts;
+use crate::same::same_bytes;
+use itoa::Buffer;
+use sect_base::{
+    AreaId, Block, Caller, ClassId, ConfigId, CourseId, GroupId, Items, Limit, MajorId, OfferingId,
+    ReservationId, RestrictionId, SectionId, Sections, StudentId, SubpartId,
+};
+use sect_command::read_block;
+use sect_time::{Day, Meeting, read_day, read_meeting};
+use std::alloc::Global;
+
+/// A value that is read from one word.
+pub trait Readable: Drop {
+    /// The value of a word, where it has one.
+    ghost reads: { List ℕ → Option Self };
+
+    /// The value of a word. `Bad` exactly where it has none, unless memory ran out.
+    fn read(alloc: Global, word: &[u8]) -> Result<Self, Fault>
+        ensures { Means result (reads word.now) };
+}
+
+/// The number of which these bytes are the text. It takes no memory.
+pub fn parse_number(word: &[u8]) -> Option<u64>
+    ensures found { IfSome result (λ n. decimal n ≡ word.now) }
+    ensures only { (n : ℕ) → n < 2 ^ 64 → decimal n ≡ word.now → IsSomeAnd result (λ read. read ≡ n) }
+{
+    let Ok(text) = str::from_utf8(word) else {
+        return None;
+    };
+    let Ok(number) = text.parse::<u64>() else {
+        return None;
+    };
+    let mut buffer = Buffer::new();
+    if buffer.format(number).as_bytes() == word {
+        Some(number)
+    } else {
+        None
+    }
+}
+
+/// The number of at most `most` that is written in digits. It takes no memory.
+pub fn read_number(word: &[u8], most: u64) -> Result<u64, Fault>
+    ensures range { IfOk result (λ n. n ≤ most) }
+    ensures means { Means result (number_of most word.now) }
+{
+    match parse_number(word) {
+        Some(number) if number <= most => Ok(number),
+        _ => Err(Fault::Bad),
+    }
+}
+
+impl Readable for u8 {
+    ghost reads = { u8_of };
+
+    fn read(_alloc: Global, word: &[u8]) -> Result<u8, Fault> {
+        Ok(read_number(word, 255)? as u8)
+    }
+}
+
+impl Readable for u16 {
+    ghost reads = { u16_of };
+
+    fn read(_alloc: Global, word: &[u8]) -> Result<u16, Fault> {
+        Ok(read_number(word, 65_535)? as u16)
+    }
+}
+
+impl Readable for u32 {
+    ghost reads = { u32_of };
+
+    fn read(_alloc: Global, word: &[u8]) -> Result<u32, Fault> {
+        Ok(read_number(word, 4_294_967_295)? as u32)
+    }
+}
+
+impl Readable for u64 {
+    ghost reads = { u64_of };
+
+    fn read(_alloc: Global, word: &[u8]) -> Result<u64, Fault> {
+        read_number(word, u64::MAX)
+    }
+}
+
+impl Readable for AreaId {
+    ghost reads = { area_of };
+
+    fn read(alloc: Global, word: &[u8]) -> Result<AreaId, Fault> {
+        Ok(AreaId(u32::read(alloc, word)?))
+    }
+}
+
+impl Readable for ClassId {
+    ghost reads = { class_of };
+
+    fn read(alloc: Global, word: &[u8]) -> Result<ClassId, Fault> {
+        Ok(ClassId(u32::read(alloc, word)?))
+    }
+}
+
+impl Readable for ConfigId {
+    ghost reads = { config_of };
+
+    fn read(alloc: Global, word: &[u8]) -> Result<ConfigId, Fault> {
+        Ok(ConfigId(u32::read(alloc, word)?))
+    }
+}
+
+impl Readable for CourseId {
+    ghost reads = { course_of };
+
+    fn read(alloc: Global, word: &[u8]) -> Result<CourseId, Fault> {
+        Ok(CourseId(u32::read(alloc, word)?))
+    }
+}
+
+impl Readable for GroupId {
+    ghost reads = { group_of };
+
+    fn read(alloc: Global, word: &[u8]) -> Result<GroupId, Fault> {
+        Ok(GroupId(u32::read(alloc, word)?))
+    }
+}
+
+impl Readable for MajorId {
+    ghost reads = { major_of };
+
+    fn read(alloc: Global, word: &[u8]) -> Result<MajorId, Fault> {
+        Ok(MajorId(u32::read(alloc, word)?))
+    }
+}
+
+impl Readable for OfferingId {
+    ghost reads = { offering_of };
+
+    fn read(alloc: Global, word: &[u8]) -> Result<OfferingId, Fault> {
+        Ok(OfferingId(u32::read(alloc, word)?))
+    }
+}
+
+impl Readable for ReservationId {
+    ghost reads = { reservation_of };
+
+    fn read(alloc: Global, word: &[u8]) -> Result<ReservationId, Fault> {
+        Ok(ReservationId(u32::read(alloc, word)?))
+    }
+}
+
+impl Readable for RestrictionId {
+    ghost reads = { restriction_of };
+
+    fn read(alloc: Global, word: &[u8]) -> Result<RestrictionId, Fault> {
+        Ok(RestrictionId(u32::read(alloc, word)?))
+    }
+}
+
+impl Readable for SectionId {
+    ghost reads = { section_of };
+
+    fn read(alloc: Global, word: &[u8]) -> Result<SectionId, Fault> {
+        Ok(SectionId(u32::read(alloc, word)?))
+    }
+}
+
+impl Readable for StudentId {
+    ghost reads = { student_of };
+
+    fn read(alloc: Global, word: &[u8]) -> Result<StudentId, Fault> {
+        Ok(StudentId(u32::read(alloc, word)?))
+    }
+}
+
+impl Readable for SubpartId {
+    ghost reads = { subpart_of };
+
+    fn read(alloc: Global, word: &[u8]) -> Result<SubpartId, Fault> {
+        Ok(SubpartId(u32::read(alloc, word)?))
+    }
+}
+
+/// 1 for yes and 0 for no.
+impl Readable for bool {
+    ghost reads = { flag_of };
+
+    fn read(_alloc: Global, word: &[u8]) -> Result<bool, Fault> {
+        match word {
+            [b'1'] => Ok(true),
+            [b'0'] => Ok(false),
+            _ => Err(Fault::Bad),
+        }
+    }
+}
+
+impl Readable for Day {
+    ghost reads = { day_of };
+
+    fn read(_alloc: Global, word: &[u8]) -> Result<Day, Fault> {
+        match read_day(word) {
+            Ok(day) => {
+                prove!(day.get() >= 0);
+                Ok(day)
+            }
+            Err(_) => Err(Fault::Bad),
+        }
+    }
+}
+
+impl Readable for Meeting {
+    ghost reads = { meeting_of };
+
+    fn read(_alloc: Global, word: &[u8]) -> Result<Meeting, Fault> {
+        match read_meeting(word) {
+            Ok(meeting) => {
+                prove!(meeting.slots() > 0);
+                Ok(meeting)
+            }
+            Err(_) => Err(Fault::Bad),
+        }
+    }
+}
+
+impl Readable for Block {
+    ghost reads = { tree_of_word };
+
+    fn read(alloc: Global, word: &[u8]) -> Result<Block, Fault> {
+        match read_block(alloc, word)? {
+            Some(tree) => Ok(tree),
+            None => Err(Fault::Bad),
+        }
+    }
+}
+
+#[tactic(auto, unfolding(crate::specs::ReadingWords::optional_of))]
+impl<T: Readable> Readable for Option<T> {
+    ghost reads = { optional_of T.reads };
+
+    fn read(alloc: Global, word: &[u8]) -> Result<Option<T>, Fault> {
+        if same_bytes(word, b"-") {
+            return Ok(None);
+        }
+        Ok(Some(T::read(alloc, word)?))
+    }
+}
+
+#[tactic(auto, unfolding(crate::specs::ReadingWords::limit_of))]
+impl Readable for Limit {
+    ghost reads = { limit_of };
+
+    fn read(alloc: Global, word: &[u8]) -> Result<Limit, Fault> {
+        if same_bytes(word, b"-") {
+            return Ok(Limit::Unlimited);
+        }
+        Ok(Limit::Places(u32::read(alloc, word)?))
+    }
+}
+
+#[tactic(auto, unfolding(crate::specs::ReadingWords::caller_of))]
+impl Readable for Caller {
+    ghost reads = { caller_of };
+
+    fn read(alloc: Global, word: &[u8]) -> Result<Caller, Fault> {
+        match word {
+            [b'r', number @ ..] => Ok(Caller::Registrar(u32::read(alloc, number)?)),
+            [b's', number @ ..] => Ok(Caller::Student(StudentId(u32::read(alloc, number)?))),
+            _ => Err(Fault::Bad),
+        }
+    }
+}
+
+/// The values of all parts of a text between marks, of which there is one at least. It takes memory.
+pub fn read_all<T: Readable>(alloc: Global, word: &[u8], mark: u8) -> Result<Items<T>, Fault>
+    ensures { Means result (all_of T.reads (pieces mark word.now)) }
+{
+    let mut parts = Parts::new(word, mark);
+    let mut items = Vec::new(alloc);
+    while let Some(part) = parts.next() {
+        items.push(T::read(alloc, part)?)?;
+    }
+    Ok(Items::from_vec(items))
+}
+
+/// The values of a word's parts between marks, or none for a dash. It takes memory.
+#[tactic(auto, unfolding(crate::specs::ReadingWords::list_of))]
+pub fn read_list<T: Readable>(alloc: Global, word: &[u8], mark: u8) -> Result<Items<T>, Fault>
+    ensures { Means result (list_of mark T.reads word.now) }
+{
+    if same_bytes(word, b"-") {
+        return Ok(Items::from_vec(Vec::new(alloc)));
+    }
+    read_all(alloc, word, mark)
+}
+
+impl<T: Readable> Readable for Items<T> {
+    ghost reads = { list_of 43 T.reads };
+
+    fn read(alloc: Global, word: &[u8]) -> Result<Items<T>, Fault> {
+        read_list(alloc, word, b'+')
+    }
+}
+
+#[tactic(auto, unfolding(crate::specs::ReadingWords::sections_of))]
+impl Readable for Sections {
+    ghost reads = { sections_of };
+
+    fn read(alloc: Global, word: &[u8]) -> Result<Sections, Fault> {
+        let mut parts = Parts::new(word, b'+');
+        let mut sections = Sections::empty();
+        while let Some(part) = parts.next() {
+            if sections.len() == 6 {
+                return Err(Fault::Bad);
+            }
+            sections.push(SectionId::read(alloc, part)?);
+        }
+        Ok(sections)
+    }
+}
+
+/// The number from `least` to `most` that is written in digits. It takes no memory.
+#[tactic(auto, unfolding(crate::specs::ReadingWords::between_of))]
+pub fn read_between(word: &[u8], least: u32, most: u32) -> Result<u32, Fault>
+    ensures range { IfOk result (λ n. (least ≤ n) × (n ≤ most)) }
+    ensures means { Means result (between_of least most word.now) }
+{
+    let number = read_number(word, u64::from(most))? as u32;
+    if number < least {
+        return Err(Fault::Bad);
+    }
+    Ok(number)
+}

@@ -1,0 +1,64 @@
+// Runs over memory.
+
+use crate::case::Case;
+use sect_base::Memory;
+use sect_edge::{MemClock, MemKeeper, MemSink, MemSource};
+use sect_intake::import_table;
+use sect_script::Status;
+use sect_time::{Day, read_day};
+use std::alloc::Global;
+
+/// What a run left.
+#[derive(Drop)]
+pub struct Ended {
+    pub status: Status,
+    pub written: Vec<u8>,
+    pub keeper: MemKeeper,
+}
+
+/// A keeper with no rows, whose append with this number fails.
+pub fn keeper_of(alloc: Global, failing: u64) -> Result<MemKeeper, Memory> {
+    Ok(MemKeeper::new(Vec::new(alloc), number_alone(alloc, failing)?))
+}
+
+/// Imports the table of a case over a keeper on 2025-09-01, the first day of its term.
+pub fn run_case(
+    alloc: Global,
+    case: &Case,
+    text: &[u8],
+    keeper: MemKeeper,
+) -> Result<Ended, Memory> {
+    let day = day()?;
+    let mut source = MemSource::new(
+        text.to_vec(alloc)?,
+        case.piece.max(1),
+        number_alone(alloc, case.failing_read)?,
+    );
+    let mut sink = MemSink::new(alloc, 4_000, 64, number_alone(alloc, case.failing_write)?)?;
+    let clock = MemClock::new(day, Vec::new(alloc));
+    let (status, keeper) = import_table(
+        alloc,
+        case.table,
+        Some(day),
+        case.first,
+        &mut source,
+        &mut sink,
+        keeper,
+        clock,
+    );
+    Ok(Ended {
+        status,
+        written: sink.bytes().to_vec(alloc)?,
+        keeper,
+    })
+}
+
+fn day() -> Result<Day, Memory> {
+    read_day(b"2025-09-01").map_err(|_| Memory)
+}
+
+fn number_alone(alloc: Global, number: u64) -> Result<Vec<u64>, Memory> {
+    let mut numbers = Vec::new(alloc);
+    numbers.push(number)?;
+    Ok(numbers)
+}

@@ -1,0 +1,39 @@
+//! Words of the command line read: tests alone. Each line of the input is a list of words with bars between them, and
+//! `(none)` is the list without words. The output has what each list asks for and the keeper that it names.
+#![tactic(auto)]
+
+use sect_usage::{WordFault, needs, read_words};
+use std::alloc::{AllocError, Global};
+use std::io;
+
+fn main(rt: HostRuntime) -> io::Result<()> {
+    let alloc = rt.alloc();
+    for line in rt.lines(alloc) {
+        let line = line?;
+        match told(alloc, line.as_str()) {
+            Ok(text) => println!(rt; "{text}")?,
+            Err(_) => println!(rt; "out of memory")?,
+        }
+    }
+    Ok(())
+}
+
+// What the words of a line ask for, and the keeper that they name.
+fn told(alloc: Global, line: &str) -> Result<String, AllocError> {
+    let mut words = Vec::new(alloc);
+    if line != "(none)" {
+        for word in line.split('|') {
+            words.push(word.to_string(alloc)?)?;
+        }
+    }
+    let asked = read_words(&words);
+    match needs(alloc, &words) {
+        Ok(needs) => match (needs.db, needs.journal) {
+            (Some(path), _) => format!(in alloc; "{asked:?} db {path}"),
+            (None, Some(path)) => format!(in alloc; "{asked:?} journal {path}"),
+            (None, None) => format!(in alloc; "{asked:?}"),
+        },
+        Err(WordFault::BadWords) => format!(in alloc; "{asked:?} bad words"),
+        Err(WordFault::Memory) => Err(AllocError),
+    }
+}

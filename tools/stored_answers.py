@@ -1,0 +1,336 @@
+#!/usr/bin/env python3
+"""What a second computation of the desk in Python answers to the input of test_machine, test_tables, test_usage and
+test_bodies.
+
+  stored_answers.py --oracle FOLDER                      compares the stored answers with the second computation's
+  stored_answers.py --oracle FOLDER --write              writes them
+  stored_answers.py --oracle FOLDER --add CRATE A..B     adds inputs of the oracle's fuzzer with these seeds to the crate's
+
+test_machine: a line that begins with `#` begins a new machine, one with `= ` asks for a report, one with `? ` has a tree
+that is held against the request before it; each other line is a request.
+test_tables: a line `# NAME` begins a new machine, `< TABLE` begins a text of that table, whose lines follow, `> TABLE` asks
+for an export.
+test_usage: each line is a list of words with bars between them, and `(none)` is the list without words.
+test_bodies: `< TEXT`, `x HEX` and `* N TEXT` make up bytes, which `body` reads as a body and `head` as a head of HTTP;
+other lines print an answer.
+"""
+import argparse
+import copy
+import os
+import subprocess
+import sys
+
+CRATES = os.path.join(os.path.dirname(os.path.abspath(__file__)), "..", "crates")
+TABLES = ("offerings", "students", "requests", "reservations")
+
+
+def read(crate, name):
+    with open(os.path.join(CRATES, crate, name), newline="\n") as file:
+        return file.read()
+
+
+def write(crate, name, text):
+    with open(os.path.join(CRATES, crate, name), "w", newline="\n") as file:
+        file.write(text)
+
+
+# ---- scripts over the machine
+
+def request_of(texts, line):
+    """(day, caller, command) of a line, or None where it is no request."""
+    try:
+        day, caller, _, command = texts.read_line(line)
+    except texts.Bad:
+        return None
+    return texts.day("2025-09-01") if day is None else day, caller, command
+
+
+def judge(texts, machine, line, tree):
+    """Whether a tree refutes a line that would be blocked."""
+    request = request_of(texts, line)
+    try:
+        tree = texts.tree(tree)
+    except texts.Bad:
+        return "no tree"
+    day, caller, command = request
+    if copy.deepcopy(machine).step(day, caller, command)[0] != "blocked":
+        return "not blocked"
+    return "refuted" if machine.recheck(day, command, tree) else "not refuted"
+
+
+def report(machine, words):
+    import reports
+    kind, *ids = words.split(" ")
+    known = {"roll": reports.roll, "open": reports.open_, "schedule": reports.schedule,
+             "waiting": reports.waiting, "unmet": reports.unmet}
+    if kind not in known:
+        return "no report\n"
+    return known[kind](machine, *map(int, ids))
+
+
+def machine_answers(lines):
+    import texts
+    from machine import Machine
+    machine, last = Machine(), ""
+    for line in lines:
+        if line.startswith("#"):
+            machine = Machine()
+            yield line + "\n"
+        elif line.startswith("= "):
+            yield report(machine, line[2:])
+        elif line.startswith("? "):
+            yield judge(texts, machine, last, line[2:]) + "\n"
+        else:
+            last = line
+            request = request_of(texts, line)
+            yield (texts.print_reply(machine.step(*request)) if request else "no request") + "\n"
+
+
+def fuzzed_script(oracle, seed):
+    done = subprocess.run([sys.executable, os.path.join(oracle, "fuzz.py"), "--seed", str(seed), "--lines", "60", "--plain"],
+                          capture_output=True, check=True)
+    lines = done.stdout.decode("latin-1").split("\n")
+    lines = [line for line in lines if line and line[0] not in "#=?" and line.isascii() and line.isprintable()]
+    return f"# Random requests, {seed}.\n" + "".join(line + "\n" for line in lines)
+
+
+# ---- tables
+
+def escaped(data):
+    """The bytes as lines of an input."""
+    out = []
+    for at, byte in enumerate(data):
+        begins = at == 0 or data[at - 1] == 10
+        if byte == 13:
+            out.append("\\r")
+        elif byte == 10:
+            out.append("\n")
+        elif not 32 <= byte < 127 or byte == 92 or begins and chr(byte) in "#<>.":
+            out.append("\\x%02x" % byte)
+        else:
+            out.append(chr(byte))
+    return "".join(out) + ("" if data.endswith(b"\n") or not data else "\\.\n")
+
+
+def unescaped(lines):
+    out = bytearray()
+    for line in lines:
+        at = 0
+        while at < len(line):
+            if line[at:] == "\\.":
+                break
+            if line.startswith("\\r", at):
+                out.append(13)
+                at += 2
+            elif line.startswith("\\x", at):
+                out.append(int(line[at + 2:at + 4], 16))
+                at += 4
+            else:
+                out.append(ord(line[at]))
+                at += 1
+        else:
+            out.append(10)
+    return bytes(out)
+
+
+def imported(machine, table, data):
+    import csvio
+    import texts
+    term = texts.day("2025-09-01")
+    out = []
+    try:
+        for row, command in csvio.commands(table, data, term):
+            out.append(f"{row} {texts.print_command(command)}\n{texts.print_reply(machine.step(term, ('r', 0), command))}\n")
+        out.append("ended\n")
+    except csvio.BadRow as bad:
+        out.append(f"line {bad.row} field {bad.field}\n")
+    return "".join(out)
+
+
+def table_answers(lines):
+    import csvio
+    from machine import Machine
+    machine, table, text = Machine(), None, []
+    for line in lines:
+        if line[:1] not in ("#", "<", ">", "."):
+            text.append(line)
+            continue
+        if table:
+            yield imported(machine, table, unescaped(text))
+        table, text = None, []
+        if line.startswith("< ") and line[2:] in TABLES:
+            table = line[2:]
+        elif line.startswith("> ") and line[2:] in TABLES:
+            yield csvio.export(machine, line[2:])
+        elif line.startswith("#"):
+            machine = Machine()
+            yield line + "\n"
+
+
+def fuzzed_table(seed):
+    import fuzz
+    table = TABLES[seed % 4]
+    return f"# Random {table}, {seed}.\n< {table}\n{escaped(fuzz.csv_bytes(seed // 4, table))}> {table}\n"
+
+
+# ---- words of the command line
+
+COMMANDS = ("run", "make", "audit", "report", "import", "export")
+
+
+def asked(app, words):
+    """What the words ask for, as the program prints it, and their options; BadWords where they ask for nothing."""
+    if words[:1] not in ([command] for command in (*COMMANDS, "--help", "--version")):
+        raise app.BadWords
+    if app.asks_help(words):
+        lone = {"--help": "Help(Desk)", "--version": "Version"}
+        return lone.get(words[0], f"Help(Command({words[0].capitalize()}))"), {}
+    command, positionals, options = app.parse(words)
+    if "rows" in options:                                # the second computation's own
+        raise app.BadWords
+    if command == "make":
+        return f"Make({positionals[0]})", options
+    if command == "export":
+        return f"Export({positionals[0].capitalize()})", options
+    if command == "report":
+        kinds = {"roll": "Roll(SectionId(%d))", "open": "Open(OfferingId(%d))", "schedule": "Schedule(StudentId(%d))"}
+        kind = positionals[0]
+        return f"Report({kinds[kind] % positionals[1] if kind in kinds else kind.capitalize()})", options
+    if command == "import":
+        term = f"Some(Day({options['term']}))" if "term" in options else "None"
+        return f"Import {{ table: {positionals[0].capitalize()}, first: {options['first']}, term: {term} }}", options
+    return command.capitalize(), options
+
+
+def usage_answers(lines):
+    import app
+    for line in lines:
+        try:
+            text, options = asked(app, [] if line == "(none)" else line.split("|"))
+        except app.BadWords:
+            yield "None bad words\n"
+            continue
+        keeper = [f" {name} {options[name]}" for name in ("db", "journal") if name in options]
+        yield f"Some({text}){''.join(keeper)}\n"
+
+
+def fuzzed_words(seed):
+    import fuzz
+    import word_lists
+    lists = fuzz.word_lists(seed, 60) + word_lists.word_lists(seed, 60)
+    return "".join("|".join(words) + "\n" for words in lists if words and not any("|" in word for word in words))
+
+
+# ---- bodies, heads and answers of HTTP
+
+def body_told(data):
+    import texts
+    try:
+        return texts.print_command(texts.read_body(data))
+    except texts.BadBody as bad:
+        return f"bad {bad.args[0]}"
+
+
+def framing_told(head):
+    """What the fields say of the body, step by step as a session looks at them."""
+    lengths = [value for name, value in head.fields if name == b"content-length"]
+    if any(name == b"transfer-encoding" for name, _ in head.fields):
+        return "refuses coding"
+    if not all(value.isdigit() and len(value) <= 10 for value in lengths) or len({int(value) for value in lengths}) > 1:
+        return "refuses head"
+    if head.method == b"POST" and not lengths:
+        return "refuses length"
+    length = int(lengths[0]) if lengths else 0
+    return "refuses size" if length > 65536 else f"body {length}"
+
+
+def target_told(target):
+    import httpd
+    import reports
+    found = httpd.route(target.split(b"?")[0])
+    if found is None:
+        return " no route"
+    if found[0] == b"POST":
+        (caller, id_), number = found[1]
+        return f" ask {caller}{id_} {number}"
+    if found[1] in (reports.waiting, reports.unmet):
+        return f" {found[1].__name__} 0"
+    kind = found[1].__code__.co_names[1].strip("_")
+    return f" {kind} {found[1].__closure__[0].cell_contents}"
+
+
+def head_told(data):
+    import httpd
+    reader = httpd.HeadReader()
+    try:
+        if not any(reader.take(byte) for byte in data[:16384]):
+            return "unfinished"
+    except httpd.BadHead:
+        return "impossible"
+    head = reader.head
+    if len(head.fields) > 64:
+        return "crowded"
+    parts = [part for name, value in head.fields if name == b"connection" for part in value.split(b",")]
+    closes = head.minor == 0 or any(part.strip(b" \t").lower() == b"close" for part in parts)
+    return framing_told(head) + (" closes" if closes else "") + target_told(head.target)
+
+
+def answer_told(line):
+    import texts
+    kind, *rest = line.split(" ", 2)
+    if kind == "memory":
+        return '507 {"error":"memory"}'
+    if kind == "done":
+        return "%d %s" % texts.print_answer((kind, int(rest[0]), texts.read_reply(rest[1])))
+    return "%d %s" % texts.print_answer((kind, *map(int, rest)))
+
+
+def body_answers(lines):
+    data = b""
+    for line in lines:
+        if line.startswith("#"):
+            yield line + "\n"
+        elif line.startswith("< "):
+            data += line[2:].encode()
+        elif line.startswith("x "):
+            data += bytes.fromhex(line[2:])
+        elif line.startswith("* "):
+            _, count, text = line.split(" ", 2)
+            data += int(count) * text.encode()
+        elif line in ("body", "head"):
+            yield (body_told(data) if line == "body" else head_told(data)) + "\n"
+            data = b""
+        else:
+            yield answer_told(line) + "\n"
+
+
+ANSWERS = {"test_machine": machine_answers, "test_tables": table_answers, "test_usage": usage_answers,
+           "test_bodies": body_answers}
+
+
+def main():
+    parser = argparse.ArgumentParser()
+    parser.add_argument("--oracle", required=True)
+    parser.add_argument("--write", action="store_true")
+    parser.add_argument("--add", nargs=2, metavar=("CRATE", "SEEDS"))
+    given = parser.parse_args()
+    sys.path.insert(0, given.oracle)
+    if given.add:
+        crate, seeds = given.add
+        low, high = map(int, seeds.split(".."))
+        fuzzed = {"test_machine": lambda seed: fuzzed_script(given.oracle, seed), "test_tables": fuzzed_table,
+                  "test_usage": fuzzed_words}[crate]
+        more = [fuzzed(seed) for seed in range(low, high + 1)]
+        write(crate, "stdin", read(crate, "stdin") + "".join(more))
+    status = 0
+    for crate, answers in ANSWERS.items():
+        told = "".join(answers(read(crate, "stdin").split("\n")[:-1]))
+        if given.write or given.add:
+            write(crate, "stdout", told)
+        elif told != read(crate, "stdout"):
+            print(f"{crate}: the answers differ from those that are stored")
+            status = 1
+    return status
+
+
+sys.exit(main())
