@@ -7,9 +7,9 @@ use std::io::{self, Write};
 
 #[test]
 fn a_database_has_its_rows_again(rt: HostRuntime) -> io::Result<()> {
-    let path = "/tmp/sect_real_rows.db";
+    let path = "sect_real_rows.db";
     let _ = fs::remove_file(&rt, path);
-    let _ = fs::remove_file(&rt, "/tmp/sect_real_rows.db-wal");
+    let _ = fs::remove_file(&rt, "sect_real_rows.db-wal");
     let Ok(mut keeper) = SqliteKeeper::open(&rt, path) else {
         panic!(rt; "a new file opens");
     };
@@ -29,17 +29,19 @@ fn a_database_has_its_rows_again(rt: HostRuntime) -> io::Result<()> {
     assert!(rt; row.as_slice() == b"cd".as_slice());
     assert!(rt; keeper.row(2, &mut row) == Ok(false));
     assert!(rt; keeper.row(u64::MAX, &mut row) == Ok(false));
+    let _ = fs::remove_file(&rt, "sect_real_rows.db-wal");
     fs::remove_file(&rt, path)
 }
 
 #[test]
 fn a_file_of_another_kind_does_not_open(rt: HostRuntime) -> io::Result<()> {
-    let path = "/tmp/sect_real_other.db";
+    let path = "sect_real_other.db";
     let mut file = File::create(&rt, path)?;
     file.write_all(b"a text that is no database, and stays as it is")?;
     drop(file);
     assert!(rt; matches!(SqliteKeeper::open(&rt, path), Err(KeepFault::Failed)));
-    assert!(rt; matches!(SqliteKeeper::open(&rt, "/tmp"), Err(KeepFault::Failed)));
+    assert!(rt; matches!(SqliteKeeper::open(&rt, "/"), Err(KeepFault::Failed)));
     assert!(rt; fs::metadata(&rt, path)?.len() == 46);
+    let _ = fs::remove_file(&rt, "sect_real_other.db-wal");
     fs::remove_file(&rt, path)
 }

@@ -9,7 +9,7 @@ use std::io;
 // A path for one test.
 fn path(rt: HostRuntime, name: &str) -> io::Result<String> {
     let mut path = String::new(rt.alloc());
-    path.push_str("/tmp/sect_system_")?;
+    path.push_str("sect_system_")?;
     path.push_str(name)?;
     Ok(path)
 }
