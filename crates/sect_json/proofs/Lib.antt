@@ -2,3 +2,4 @@ pub mod Again
 pub mod Fits
 pub mod Names
 pub mod Objects
+pub mod Plain

@@ -10,5 +10,4 @@ mod verbs;
 
 pub use answer::print_answer;
 pub use body::read_body;
-pub use law::{a_read_command_has_a_text, an_answer_is_read_again};
-
+pub use law::{a_read_command_has_a_text, a_reply_stands_as_it_is, an_answer_is_read_again};

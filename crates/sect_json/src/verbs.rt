@@ -88,12 +88,17 @@ fn is_named(verb: Verb, value: &Value) -> bool
     ensures { result ≡ has_only_of (names_of verb) (view value.now) }
 {
     match verb {
-        Verb::Enrol => has_only(value, &["verb", "student", "courses", "only", "rank", "budget"]),
+        Verb::Enrol => has_only(
+            value,
+            &["verb", "student", "courses", "only", "rank", "budget"],
+        ),
         Verb::Drop => has_only(value, &["verb", "student", "course"]),
         Verb::Swap => has_only(value, &["verb", "student", "give", "take", "budget"]),
         Verb::Wait => has_only(
             value,
-            &["verb", "student", "courses", "only", "rank", "give", "class"],
+            &[
+                "verb", "student", "courses", "only", "rank", "give", "class",
+            ],
         ),
         Verb::Unwait => has_only(value, &["verb", "student", "ticket"]),
         Verb::Line => has_only(value, &["verb", "text"]),

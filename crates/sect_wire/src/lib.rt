@@ -2,7 +2,8 @@
 #![tactic(auto)]
 
 pub use sect_json::{
-    a_read_command_has_a_text, an_answer_is_read_again, print_answer, read_body,
+    a_read_command_has_a_text, a_reply_stands_as_it_is, an_answer_is_read_again, print_answer,
+    read_body,
 };
 pub use sect_read::{
     LineAsk, WireFault, a_line_asks_one_request, a_printed_request_is_a_line_that_asks_it,
