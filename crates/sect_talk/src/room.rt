@@ -1,8 +1,8 @@
 // The room for the bytes of one connection.
-ghost use Rattle.std.specs.Prelude.{◌≡◌, ◌<◌, ◌≤◌, [], List, ℕ, length, drop, IfOk, OnErr, ◌++◌};
-ghost use Rattle.std.specs.Io.KnownBytes.{Consumes, Keeps, IsAtEnd};
+ghost use Rattle.std.specs.Prelude.{◌≡◌, ◌<◌, ◌≤◌, ◌+◌, [], length, take, drop, IfOk, OnErr};
+ghost use Rattle.std.specs.Io.KnownBytes.{IsAtEnd, Keeps, ReadConsumes};
 ghost use Rattle.sect_edge.specs.Causes.{HasCause};
-ghost use Rattle.sect_talk.specs.Coming.{ROOM};
+ghost use Rattle.sect_talk.specs.Coming.{ROOM, Takes};
 
 use sect_edge::{Failed, Source};
 use std::alloc::{AllocError, Global};
@@ -73,12 +73,35 @@ impl Room {
         self.end = 0;
     }
 
-    // Moves the bytes to the front.
-    fn settle(&mut self)
-        ensures { self.new ≡ self.old }
+    /// Takes the next bytes from the source, behind those that are there, and gives their number: 0 at the end alone.
+    /// At `Failed` the source failed and counted it, and the bytes are as before.
+    pub fn fill<S: Source>(&mut self, source: &mut S) -> Result<usize, Failed>
+        requires { length self.old < ROOM }
+        ensures ok { IfOk result (λ n. Takes (S.left source.old) (S.left source.new) self.old self.new) }
+        ensures count { IfOk result (λ n. length self.new ≡ length self.old + n) }
+        ensures end { IfOk result (λ n. n ≡ 0 → IsAtEnd (S.left source.new)) }
+        ensures err { OnErr result (Keeps (S.left source.old) (S.left source.new) × (self.new ≡ self.old)) }
+        ensures cause { HasCause (S.faults source.old) (S.faults source.new) result }
     {
-        self.bytes.copy_within(self.start..self.end, 0);
-        self.end -= self.start;
-        self.start = 0;
+        if self.end == SIZE {
+            self.bytes.copy_within(self.start..self.end, 0);
+            self.end -= self.start;
+            self.start = 0;
+        }
+        let count = read_behind(source, &mut self.bytes, self.end)?;
+        self.end += count;
+        Ok(count)
     }
+}
+
+// Reads into the part from `at` on, by one call of the source.
+fn read_behind<S: Source>(source: &mut S, bytes: &mut Vec<u8>, at: usize) -> Result<usize, Failed>
+    requires { at < length bytes.old.items }
+    ensures len { length bytes.new.items ≡ length bytes.old.items }
+    ensures front { take at bytes.new.items ≡ take at bytes.old.items }
+    ensures fits { IfOk result (λ n. at + n ≤ length bytes.new.items) }
+    ensures bytes { ReadConsumes (S.left source.old) (S.left source.new) result (drop at bytes.new.items) }
+    ensures cause { HasCause (S.faults source.old) (S.faults source.new) result }
+{
+    source.read(&mut bytes[at..])
 }
