@@ -6,7 +6,7 @@ use Rattle.std.proofs.KnownBytes.{Appends-nil, Appends-trans, Consumes-nil, Cons
 use Rattle.std.proofs.Math.Seq.{take-append-add}
 use Rattle.sect_page.specs.Said.{Said}
 use Rattle.sect_talk.specs.Asked.{LAST_REQUEST, Asked, Bytes, FitsAsked, Exchange, asks_close, closes, closes_behind, raws, raw_of, texts, answer_text}
-use Rattle.sect_talk.specs.Rest.{IsEnd}
+use Rattle.sect_talk.specs.Rest.{IsEnd, IsUnbroken}
 use Rattle.sect_talk.specs.Talk.{Exchanges, HasAllBytes, Writes, passes, Talked, Progress}
 use Rattle.sect_talk.specs.Coming.{Takes}
 use Rattle.sect_talk.specs.declared.end.End.{End}
@@ -86,20 +86,13 @@ HasAllBytes-open number closed xs rest stays before last raw same is =
 
 -- ---- the ways of a turn
 
--- an end that is no fault of the sink
-abbrev pub IsAfterAnswer : End → Type 0
-IsAfterAnswer Closed = ⊤
-IsAfterAnswer Cut = ⊤
-IsAfterAnswer ReadFault = ⊤
-IsAfterAnswer WriteFault = ⊥
-
-writes_all : (end : End) (taken taken' : Option (List ℕ)) (text : List ℕ) → IsAfterAnswer end → Appends taken taken' text → Writes end taken taken' text
+writes_all : (end : End) (taken taken' : Option (List ℕ)) (text : List ℕ) → IsUnbroken end → Appends taken taken' text → Writes end taken taken' text
 writes_all Closed taken taken' text other all = all
 writes_all Cut taken taken' text other all = all
 writes_all ReadFault taken taken' text other all = all
 writes_all WriteFault taken taken' text other all = absurd other
 
-passes_all : (end : End) (count : ℕ) → IsAfterAnswer end → passes end count ≡ 2 * count
+passes_all : (end : End) (count : ℕ) → IsUnbroken end → passes end count ≡ 2 * count
 passes_all Closed count other = refl
 passes_all Cut count other = refl
 passes_all ReadFault count other = refl
@@ -114,7 +107,7 @@ consumes_more left now later front pending rest first (taken, took, is) =
 
 -- the talk ended while a request was awaited: nothing was asked since, and `rest` is what was taken
 pub talk_ended : {H : Type 0} (answers : H → Asked → Said → H → Type 0) (left now later taken taken' : Option (List ℕ)) (step step' : ℕ) (old new : H)
-    (number : ℕ) (pending rest : List ℕ) (end : End) → IsAfterAnswer end
+    (number : ℕ) (pending rest : List ℕ) (end : End) → IsUnbroken end
     → Progress answers left now taken taken' step step' old new number pending
     → Takes now later pending rest → IsEnd end false later rest
     → Talked answers left later taken taken' step step' old new end

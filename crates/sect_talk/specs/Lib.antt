@@ -1,4 +1,5 @@
 pub mod Asked
 pub mod Coming
+pub mod Request
 pub mod Rest
 pub mod Talk

@@ -4,10 +4,12 @@
 mod body;
 mod end;
 mod head;
+mod request;
 mod room;
 
 pub use body::await_body;
 pub use end::End;
 pub use head::{Came, await_head};
+pub use request::{Request, await_request, is_headless};
 pub use room::Room;
 pub use sect_script::write_all;
