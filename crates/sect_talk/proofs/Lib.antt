@@ -1,3 +1,4 @@
+pub mod Blank
 pub mod Fronts
 pub mod Requested
 pub mod Stored

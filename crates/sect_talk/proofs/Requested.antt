@@ -1,7 +1,8 @@
 -- Requests that are there, and those that the input cuts.
-use Rattle.std.proofs.Common.{◌≡◌, ℕ, ◌+◌, ◌-◌, ◌<◌, ◌≤◌, nat_lt, Bool, true, false, List, ◌++◌, length, drop, refl, sym, ap, subst, ◌⊎◌, inl, inr, arith, length-append, length-drop}
+use Rattle.std.proofs.Common.{◌≡◌, ℕ, ◌+◌, ◌-◌, ◌<◌, ◌≤◌, nat_lt, Bool, true, false, List, ◌++◌, length, take, drop, refl, sym, ap, subst, ◌∙◌, ◌⊎◌, inl, inr, arith, append_assoc, length-append, length-drop}
 use Rattle.std.specs.Prelude.{Option}
-use Rattle.httparse.specs.Grammar.{RequestHead}
+use Rattle.std.proofs.lemmas.List.{take-append-drop, drop-drop, length-take-le}
+use Rattle.httparse.specs.Grammar.{RequestHead, print_request}
 use Rattle.httparse.specs.Spans.{IsRequestAt, IsRequestWithin}
 use Rattle.httparse.specs.declared.spans.HeaderSpan.{HeaderSpan}
 use Rattle.httparse.specs.declared.spans.RequestSpans.{RequestSpans}
@@ -51,3 +52,16 @@ open_ends bytes (none, may, short) = go (are_blank bytes) refl
     go : (t : Bool) → are_blank bytes ≡ t → IsBlank bytes ⊎ IsCut bytes
     go true blank = inl (blank_found bytes blank, short)
     go false other = inr (inl (λ blank. let found = sym other in let is = blank_only bytes blank.0 in absurd (cc), (none, may, short)))
+
+-- the bytes are the head, the body and the rest
+pub request_first : (bytes : List ℕ) (spans : List HeaderSpan) (r : RequestSpans) (h : RequestHead) (n : ℕ) → IsRequestAt bytes spans r h
+    → bytes ≡ (print_request h ++ take n (drop r.len bytes)) ++ drop (r.len + n) bytes
+request_first bytes spans r h n at =
+    let behind = drop r.len bytes in
+    let head = print_request h in
+    at.reads.1
+    ∙ ap (λ l. head ++ l) (sym (take-append-drop n behind) ∙ ap (λ l. take n behind ++ l) (drop-drop n r.len bytes))
+    ∙ sym (append_assoc head (take n behind) (drop (r.len + n) bytes))
+
+pub body_length : (bytes : List ℕ) (len n : ℕ) → len + n ≤ length bytes → length (take n (drop len bytes)) ≡ n
+body_length bytes len n there = length-take-le n (drop len bytes) (omega (arith, length-drop len bytes, there))

@@ -1,13 +1,13 @@
 -- The ways of a talk, over any state and any relation that answers.
 use Rattle.std.proofs.Common.{◌≡◌, ℕ, ◌+◌, ◌-◌, ◌*◌, ◌≤◌, ◌==◌, List, [], ◌∷◌, ◌++◌, length, take, sym, ap, ◌∙◌, append_assoc, append-nil, subst, refl, arith, length-append, inl}
-use Rattle.std.specs.Prelude.{◌≢◌, Bool, true, false, ◌||◌, Option, ⊤}
+use Rattle.std.specs.Prelude.{◌≢◌, Bool, true, false, ◌||◌, Option, None, Some}
 use Rattle.std.specs.Io.KnownBytes.{Appends, Consumes, Keeps}
 use Rattle.std.proofs.KnownBytes.{Appends-nil, Appends-trans, Consumes-nil, Consumes-trans}
 use Rattle.std.proofs.Math.Seq.{take-append-add}
 use Rattle.sect_page.specs.Said.{Said}
 use Rattle.sect_talk.specs.Asked.{LAST_REQUEST, Asked, Bytes, FitsAsked, Exchange, asks_close, closes, closes_behind, raws, raw_of, texts, answer_text}
 use Rattle.sect_talk.specs.Rest.{IsEnd, IsUnbroken}
-use Rattle.sect_talk.specs.Talk.{Exchanges, HasAllBytes, Writes, passes, Talked, Progress}
+use Rattle.sect_talk.specs.Talk.{Exchanges, HasAllBytes, Writes, passes, Talked, Progress, Gives, passes_for, GoesOn}
 use Rattle.sect_talk.specs.Coming.{Takes}
 use Rattle.sect_talk.specs.declared.end.End.{End}
 use Rattle.sect_talk.specs.declared.end.End.TheVariants.{Closed, Cut, ReadFault, WriteFault}
@@ -217,6 +217,18 @@ module _ {H : Type 0} (answers : H → Asked → Said → H → Type 0) (left no
         );
         steps = omega (arith, steps, p.steps, one_more p);
       }
+
+  -- whichever of the three it was
+  pub talk_answered : (result : Option End) → Progress answers left now taken taken' step step' old new number pending
+      → Takes now later pending (raw_of asked ++ rest) → FitsAsked asked → answers new asked said after
+      → ((raw : List ℕ) → asked ≡ Bytes raw → rest ≡ [])
+      → Gives (closes number asked said) taken' taken'' (answer_text number asked said) result → step'' ≡ step' + passes_for result
+      → GoesOn answers left later taken taken'' step step'' old after number rest result
+  talk_answered None p takes fits answered all (stays, written) steps = talk_goes_on p takes fits answered stays written steps
+  talk_answered (Some Closed) p takes fits answered all (closed, written) steps = talk_closed p takes fits answered closed all written steps
+  talk_answered (Some Cut) p takes fits answered all gives steps = absurd gives
+  talk_answered (Some ReadFault) p takes fits answered all gives steps = absurd gives
+  talk_answered (Some WriteFault) p takes fits answered all (n, written) steps = talk_broken n p takes fits answered all written steps
 
 -- ---- the whole
 
