@@ -16,7 +16,7 @@ use Rattle.sect_head.specs.Outcome.{IsHeadRead, IsHeadWithin}
 use Rattle.sect_head.specs.declared.read.HeadRead.TheVariants as read
 use Rattle.sect_talk.specs.Asked.{HEAD_LIMIT}
 use Rattle.sect_talk.specs.Rest.{IsNoHead, IsOpenHead}
-use Rattle.sect_talk.specs.Coming.{Comes, IsHeadAt}
+use Rattle.sect_talk.specs.Coming.{Comes, IsCrowdedHead}
 use Rattle.sect_talk.specs.declared.head.Came.TheVariants as came
 
 -- a span of the front has the same bytes in the whole
@@ -89,10 +89,10 @@ crowded_comes bytes n spans r left short (h, wide, at, many) within =
       record {
         reads = subst (λ l. ReadsRequest l h (drop r.len l)) whole (subst (ReadsRequest (front ++ more) h) (sym (drop-append-le r.len front more fits)) (ReadsRequest-append front h (drop r.len front) more at.reads));
         len = at.len;
-        short = omega (arith, fits, short);
         method = subst (λ l. span_bytes l r.method ≡ h.method) whole (span_stays front more r.method (length front) within (omega arith) ∙ at.method);
+        many = many;
+        short = omega (arith, fits, short);
       },
-      many,
     )
 
 pub crowded_within : (bytes : List ℕ) (n : ℕ) (spans : List HeaderSpan) (r : RequestSpans) → length (take n bytes) ≤ length bytes → IsHeadWithin (take n bytes) spans (read.Crowded r) → IsWithin (length bytes) r.method

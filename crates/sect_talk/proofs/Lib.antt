@@ -1,6 +1,5 @@
 pub mod Blank
 pub mod Fronts
-pub mod Requested
 pub mod Stored
 pub mod Taken
 pub mod Talks

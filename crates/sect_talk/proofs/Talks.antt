@@ -1,13 +1,13 @@
 -- The ways of a talk, over any state and any relation that answers.
 use Rattle.std.proofs.Common.{◌≡◌, ℕ, ◌+◌, ◌-◌, ◌*◌, ◌≤◌, ◌==◌, List, [], ◌∷◌, ◌++◌, length, take, sym, ap, ◌∙◌, append_assoc, append-nil, subst, refl, arith, length-append, inl}
-use Rattle.std.specs.Prelude.{◌≢◌, Bool, true, false, ◌||◌, Option, None, Some}
+use Rattle.std.specs.Prelude.{◌≢◌, Bool, true, false, ◌||◌, Option, ⊤}
 use Rattle.std.specs.Io.KnownBytes.{Appends, Consumes, Keeps}
 use Rattle.std.proofs.KnownBytes.{Appends-nil, Appends-trans, Consumes-nil, Consumes-trans}
 use Rattle.std.proofs.Math.Seq.{take-append-add}
 use Rattle.sect_page.specs.Said.{Said}
 use Rattle.sect_talk.specs.Asked.{LAST_REQUEST, Asked, Bytes, FitsAsked, Exchange, asks_close, closes, closes_behind, raws, raw_of, texts, answer_text}
-use Rattle.sect_talk.specs.Rest.{IsEnd, IsUnbroken}
-use Rattle.sect_talk.specs.Talk.{Exchanges, HasAllBytes, Writes, passes, Talked, Progress, Gives, passes_for, GoesOn}
+use Rattle.sect_talk.specs.Rest.{IsEnd}
+use Rattle.sect_talk.specs.Talk.{Exchanges, HasAllBytes, Writes, passes, Talked, Progress}
 use Rattle.sect_talk.specs.Coming.{Takes}
 use Rattle.sect_talk.specs.declared.end.End.{End}
 use Rattle.sect_talk.specs.declared.end.End.TheVariants.{Closed, Cut, ReadFault, WriteFault}
@@ -86,13 +86,20 @@ HasAllBytes-open number closed xs rest stays before last raw same is =
 
 -- ---- the ways of a turn
 
-writes_all : (end : End) (taken taken' : Option (List ℕ)) (text : List ℕ) → IsUnbroken end → Appends taken taken' text → Writes end taken taken' text
+-- an end that is no fault of the sink
+abbrev pub IsAfterAnswer : End → Type 0
+IsAfterAnswer Closed = ⊤
+IsAfterAnswer Cut = ⊤
+IsAfterAnswer ReadFault = ⊤
+IsAfterAnswer WriteFault = ⊥
+
+writes_all : (end : End) (taken taken' : Option (List ℕ)) (text : List ℕ) → IsAfterAnswer end → Appends taken taken' text → Writes end taken taken' text
 writes_all Closed taken taken' text other all = all
 writes_all Cut taken taken' text other all = all
 writes_all ReadFault taken taken' text other all = all
 writes_all WriteFault taken taken' text other all = absurd other
 
-passes_all : (end : End) (count : ℕ) → IsUnbroken end → passes end count ≡ 2 * count
+passes_all : (end : End) (count : ℕ) → IsAfterAnswer end → passes end count ≡ 2 * count
 passes_all Closed count other = refl
 passes_all Cut count other = refl
 passes_all ReadFault count other = refl
@@ -107,7 +114,7 @@ consumes_more left now later front pending rest first (taken, took, is) =
 
 -- the talk ended while a request was awaited: nothing was asked since, and `rest` is what was taken
 pub talk_ended : {H : Type 0} (answers : H → Asked → Said → H → Type 0) (left now later taken taken' : Option (List ℕ)) (step step' : ℕ) (old new : H)
-    (number : ℕ) (pending rest : List ℕ) (end : End) → IsUnbroken end
+    (number : ℕ) (pending rest : List ℕ) (end : End) → IsAfterAnswer end
     → Progress answers left now taken taken' step step' old new number pending
     → Takes now later pending rest → IsEnd end false later rest
     → Talked answers left later taken taken' step step' old new end
@@ -217,18 +224,6 @@ module _ {H : Type 0} (answers : H → Asked → Said → H → Type 0) (left no
         );
         steps = omega (arith, steps, p.steps, one_more p);
       }
-
-  -- whichever of the three it was
-  pub talk_answered : (result : Option End) → Progress answers left now taken taken' step step' old new number pending
-      → Takes now later pending (raw_of asked ++ rest) → FitsAsked asked → answers new asked said after
-      → ((raw : List ℕ) → asked ≡ Bytes raw → rest ≡ [])
-      → Gives (closes number asked said) taken' taken'' (answer_text number asked said) result → step'' ≡ step' + passes_for result
-      → GoesOn answers left later taken taken'' step step'' old after number rest result
-  talk_answered None p takes fits answered all (stays, written) steps = talk_goes_on p takes fits answered stays written steps
-  talk_answered (Some Closed) p takes fits answered all (closed, written) steps = talk_closed p takes fits answered closed all written steps
-  talk_answered (Some Cut) p takes fits answered all gives steps = absurd gives
-  talk_answered (Some ReadFault) p takes fits answered all gives steps = absurd gives
-  talk_answered (Some WriteFault) p takes fits answered all (n, written) steps = talk_broken n p takes fits answered all written steps
 
 -- ---- the whole
 

@@ -18,18 +18,19 @@ ROOM = 81920
 abbrev pub Takes : Option (List ℕ) → Option (List ℕ) → List ℕ → List ℕ → Type 0
 Takes left left' old new = (taken : List ℕ) × Consumes left left' taken × (new ≡ old ++ taken)
 
--- the bytes begin with this head, of which the length and the place of the method are told
-pub record IsHeadAt (bytes : List ℕ) (r : RequestSpans) (h : RequestHead) : Type 0 where
+-- the bytes begin with a head of more than 64 fields, of which the length and the place of the method are told
+pub record IsCrowdedHead (bytes : List ℕ) (r : RequestSpans) (h : RequestHead) : Type 0 where
   pub reads : ReadsRequest bytes h (drop r.len bytes)
   pub len : r.len ≡ length (print_request h)
-  pub short : r.len ≤ HEAD_LIMIT
   pub method : span_bytes bytes r.method ≡ h.method
+  pub many : 64 < length h.fields
+  pub short : r.len ≤ HEAD_LIMIT
 
 -- what the bytes that are there are: a head of at most 64 fields and where its parts are, one of more fields, bytes in
 -- which no head is read, or the end of the input before a head has ended
 abbrev pub Comes : List ℕ → List HeaderSpan → Option (List ℕ) → Came → Type 0
 Comes bytes spans left (Whole r) = (h : RequestHead) × IsRequestAt bytes spans r h × (length h.fields ≤ 64) × (r.len ≤ HEAD_LIMIT)
-Comes bytes spans left (Crowded r) = (h : RequestHead) × IsHeadAt bytes r h × (64 < length h.fields)
+Comes bytes spans left (Crowded r) = (h : RequestHead) × IsCrowdedHead bytes r h
 Comes bytes spans left NoHead = IsNoHead bytes
 Comes bytes spans left Ended = IsAtEnd left × IsOpenHead bytes
 Comes bytes spans left Memory = ⊤

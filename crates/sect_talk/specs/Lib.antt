@@ -1,5 +1,4 @@
 pub mod Asked
 pub mod Coming
-pub mod Request
 pub mod Rest
 pub mod Talk

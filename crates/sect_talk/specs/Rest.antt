@@ -37,10 +37,3 @@ IsEnd Closed closed left rest = (closed ≡ true) ⊎ ((closed ≡ false) × IsA
 IsEnd Cut closed left rest = (closed ≡ false) × IsAtEnd left × IsCut rest
 IsEnd ReadFault closed left rest = (closed ≡ false) × (IsBlank rest ⊎ IsCut rest)
 IsEnd WriteFault closed left rest = ⊤
-
--- the end is no fault of the sink
-abbrev pub IsUnbroken : End → Type 0
-IsUnbroken Closed = ⊤
-IsUnbroken Cut = ⊤
-IsUnbroken ReadFault = ⊤
-IsUnbroken WriteFault = ⊥

@@ -1,5 +1,5 @@
 -- The transcript of one connection, over any state and any relation that says what answers a request in one state and leads to another.
-use Rattle.std.specs.Prelude.{◌≡◌, ◌≢◌, ℕ, ◌+◌, ◌-◌, ◌*◌, Bool, true, false, List, [], ◌∷◌, ◌++◌, length, take, ⊤, Option, Some, None}
+use Rattle.std.specs.Prelude.{◌≡◌, ◌≢◌, ℕ, ◌+◌, ◌-◌, ◌*◌, true, false, List, [], ◌∷◌, ◌++◌, length, take, ⊤, Option, Some, None}
 use Rattle.std.specs.Io.KnownBytes.{Appends, Consumes}
 use Rattle.sect_page.specs.Said.{Said}
 use Rattle.sect_talk.specs.Asked.{Asked, Bytes, FitsAsked, Exchange, closes, closes_behind, raws, texts}
@@ -62,19 +62,3 @@ GoesOn answers left left' taken taken' step step' old new number pending None =
     Progress answers left left' taken taken' step step' old new (number + 1) pending
 GoesOn answers left left' taken taken' step step' old new number pending (Some end) =
     Talked answers left left' taken taken' step step' old new end
-
--- an answer was written, behind which the connection closes or not; or the sink failed, and took a front of it
-abbrev pub Gives : Bool → Option (List ℕ) → Option (List ℕ) → List ℕ → Option End → Type 0
-Gives closed taken taken' text None = (closed ≡ false) × Appends taken taken' text
-Gives closed taken taken' text (Some Closed) = (closed ≡ true) × Appends taken taken' text
-Gives closed taken taken' text (Some Cut) = ⊥
-Gives closed taken taken' text (Some ReadFault) = ⊥
-Gives closed taken taken' text (Some WriteFault) = (n : ℕ) × Appends taken taken' (take n text)
-
--- how often the gate was passed for one request that was answered so
-abbrev pub passes_for : Option End → ℕ
-passes_for None = 2
-passes_for (Some Closed) = 2
-passes_for (Some Cut) = 2
-passes_for (Some ReadFault) = 2
-passes_for (Some WriteFault) = 1
