@@ -1,9 +1,9 @@
 -- Heads that are read in a front of the bytes that are there.
-use Rattle.std.proofs.Common.{◌≡◌, ℕ, ◌+◌, ◌-◌, ◌<◌, ◌≤◌, List, [], ◌∷◌, ◌++◌, length, map, take, drop, slice_range, refl, sym, ap, subst, ◌∙◌, arith, append-nil, length-append, inl, inr}
+use Rattle.std.proofs.Common.{◌≡◌, ℕ, ◌-◌, ◌<◌, ◌≤◌, List, [], ◌∷◌, ◌++◌, length, map, take, drop, refl, sym, ap, subst, ◌∙◌, arith, length-append, inl, inr}
 use Rattle.std.proofs.lemmas.List.{drop-append-le, take-append-le, take-append-drop, take_all, length-drop}
 use Rattle.std.proofs.lemmas.List.Elements.{recursion_from_All}
 use Rattle.std.proofs.Math.Nat.{lt_of_not-le}
-use Rattle.std.specs.Prelude.{All, Option}
+use Rattle.std.specs.Prelude.{Option}
 use Rattle.std.specs.List.{AllByRecursion}
 use Rattle.httparse.specs.Grammar.{RequestHead, ReadsRequest, HasNoRequest, MayBecomeRequest, NeverHasRequest, print_request}
 use Rattle.httparse.specs.Spans.{IsRequestAt, IsRequestWithin, IsWithin, IsHeaderWithin, span_bytes, header_bytes}
@@ -16,7 +16,7 @@ use Rattle.sect_head.specs.Outcome.{IsHeadRead, IsHeadWithin}
 use Rattle.sect_head.specs.declared.read.HeadRead.TheVariants as read
 use Rattle.sect_talk.specs.Asked.{HEAD_LIMIT}
 use Rattle.sect_talk.specs.Rest.{IsNoHead, IsOpenHead}
-use Rattle.sect_talk.specs.Coming.{Comes, IsCrowdedHead}
+use Rattle.sect_talk.specs.Coming.{Comes}
 use Rattle.sect_talk.specs.declared.head.Came.TheVariants as came
 
 -- a span of the front has the same bytes in the whole
@@ -30,7 +30,7 @@ headers_stay : (front more : List ℕ) (n : ℕ) (spans : List HeaderSpan) → n
 headers_stay front more n [] fits all = refl
 headers_stay front more n (s ∷ spans) fits ((name, value), all) =
     let first : header_bytes (front ++ more) s ≡ header_bytes front s =
-        ap (λ b. (b, span_bytes (front ++ more) s.value)) (span_stays front more s.name n name fits) ∙ ap (λ b. (span_bytes front s.name, b)) (span_stays front more s.value n value fits) in
+    ap (λ b. (b, span_bytes (front ++ more) s.value)) (span_stays front more s.name n name fits) ∙ ap (λ b. (span_bytes front s.name, b)) (span_stays front more s.value n value fits) in
     ap (λ p. p ∷ map (header_bytes (front ++ more)) spans) first ∙ ap (λ l. header_bytes front s ∷ l) (headers_stay front more n spans fits all)
 
 -- the bytes of a head are the same where more follow
@@ -57,7 +57,6 @@ head_stays front more spans r h within at = let fits = within.section.len_fits i
   fields = headers_stay front more r.len (take r.headers spans) fits (recursion_from_All (IsHeaderWithin r.len) (take r.headers spans) within.section.headers_fit) ∙ at.fields;
 }
 
-
 -- a whole head of the front is one of the bytes
 pub whole_comes : (bytes : List ℕ) (n : ℕ) (spans : List HeaderSpan) (r : RequestSpans) (left : Option (List ℕ)) → length (take n bytes) ≤ HEAD_LIMIT
     → IsHeadRead (take n bytes) spans (read.Whole r) → IsHeadWithin (take n bytes) spans (read.Whole r) → Comes bytes spans left (came.Whole r)
@@ -83,8 +82,7 @@ crowded_comes bytes n spans r left short (h, wide, at, many) within =
     let more = drop n bytes in
     let size = head_fits front h (drop r.len front) at.reads in
     let fits : r.len ≤ length front = omega (arith, at.len, size) in
-    let whole = take-append-drop n bytes in
-    (
+    let whole = take-append-drop n bytes in (
       h,
       record {
         reads = subst (λ l. ReadsRequest l h (drop r.len l)) whole (subst (ReadsRequest (front ++ more) h) (sym (drop-append-le r.len front more fits)) (ReadsRequest-append front h (drop r.len front) more at.reads));
@@ -107,8 +105,8 @@ pub long_comes : (bytes : List ℕ) (n : ℕ) → HEAD_LIMIT ≤ length (take n 
 long_comes bytes n full fits none = inr (
   omega arith,
   λ h rest reads. lt_of_not-le (λ short.
-    none h (drop (length (print_request h)) (take n bytes))
-        (front_short (take n bytes) (drop n bytes) h rest (subst (λ l. ReadsRequest l h rest) (sym (take-append-drop n bytes)) reads) (omega (arith, short, full)))),
+      none h (drop (length (print_request h)) (take n bytes))
+      (front_short (take n bytes) (drop n bytes) h rest (subst (λ l. ReadsRequest l h rest) (sym (take-append-drop n bytes)) reads) (omega (arith, short, full)))),
 )
 
 -- one may still come

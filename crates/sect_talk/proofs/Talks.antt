@@ -1,7 +1,7 @@
 -- The ways of a talk, over any state and any relation that answers.
-use Rattle.std.proofs.Common.{◌≡◌, ℕ, ◌+◌, ◌-◌, ◌*◌, ◌≤◌, ◌==◌, List, [], ◌∷◌, ◌++◌, length, take, sym, ap, ◌∙◌, append_assoc, append-nil, subst, refl, arith, length-append, inl}
+use Rattle.std.proofs.Common.{◌≡◌, ℕ, ◌+◌, ◌*◌, ◌≤◌, ◌==◌, List, [], ◌∷◌, ◌++◌, length, take, sym, ap, ◌∙◌, append_assoc, append-nil, subst, refl, arith, length-append, inl}
 use Rattle.std.specs.Prelude.{◌≢◌, Bool, true, false, ◌||◌, Option, ⊤}
-use Rattle.std.specs.Io.KnownBytes.{Appends, Consumes, Keeps}
+use Rattle.std.specs.Io.KnownBytes.{Appends, Consumes}
 use Rattle.std.proofs.KnownBytes.{Appends-nil, Appends-trans, Consumes-nil, Consumes-trans}
 use Rattle.std.proofs.Math.Seq.{take-append-add}
 use Rattle.sect_page.specs.Said.{Said}
@@ -132,7 +132,6 @@ talk_ended answers left now later taken taken' step step' old new number pending
 -- request number `number` was asked and answered; what stands ready is the request and what is behind it
 module _ {H : Type 0} (answers : H → Asked → Said → H → Type 0) (left now later taken taken' taken'' : Option (List ℕ)) (step step' step'' : ℕ) (old new : H)
     (number : ℕ) (pending rest : List ℕ) (asked : Asked) (said : Said) (after : H) where
-
   abbrev one : Exchange H
   one = record { asked = asked; said = said; after = after }
 

@@ -1,5 +1,5 @@
 -- The transcript of one connection, over any state and any relation that says what answers a request in one state and leads to another.
-use Rattle.std.specs.Prelude.{◌≡◌, ◌≢◌, ℕ, ◌+◌, ◌-◌, ◌*◌, true, false, List, [], ◌∷◌, ◌++◌, length, take, ⊤, Option, Some, None}
+use Rattle.std.specs.Prelude.{◌≡◌, ◌≢◌, ℕ, ◌+◌, ◌-◌, ◌*◌, false, List, [], ◌∷◌, ◌++◌, length, take, Option, Some, None}
 use Rattle.std.specs.Io.KnownBytes.{Appends, Consumes}
 use Rattle.sect_page.specs.Said.{Said}
 use Rattle.sect_talk.specs.Asked.{Asked, Bytes, FitsAsked, Exchange, closes, closes_behind, raws, texts}

@@ -1,5 +1,4 @@
-use Rattle.std.proofs.Common.{◌≡◌, ◌≤◌, rules, arith, take, drop}
-use Rattle.std.proofs.lemmas.Grind.{common_steps}
+use Rattle.std.proofs.Common.{◌≡◌, ◌≤◌, arith, take, drop}
 use Rattle.std.proofs.lemmas.Result.{err_from_is_err_and}
 use Rattle.sect_talk.proofs.Stored.{stored, stored_moved, stored_same, stored_more}
 use Rattle.sect_talk.proofs.room.Room.fill.Goals as goal
@@ -19,6 +18,8 @@ returns-clause-ok g c =
     let room = c.if-self-eq-SIZE.self-inside in
     let bytes = c.read_behind.new.bytes.items in
     let order : room.start ≤ room.end = elim c.if-self-eq-SIZE.branch [ then-self-eq-SIZE w ↦ rw w.self-inside-is (omega arith) | else-self-eq-SIZE w ↦ rw w.self-inside-is c.self.invariant.0 ] in
-    let kept : stored room.bytes.items room.start room.end ≡ c.args.self.now = elim c.if-self-eq-SIZE.branch [ then-self-eq-SIZE w ↦ rw w.self-inside-is (stored_moved c.args.self.now c.self.inside.bytes.items w.copy_within.new.self.items c.self.inside.start c.self.inside.end c.self.view_is c.self.invariant.0 c.self.invariant.1 w.copy_within.ensures.items) | else-self-eq-SIZE w ↦ rw w.self-inside-is c.self.view_is ] in
-    (take c.in_ok-count.count (drop room.end bytes), c.in_ok-count.ensures.bytes.0,
-    stored_more c.args.self.now room.bytes.items bytes room.start room.end c.in_ok-count.count kept order c.read_behind.ensures.front)
+    let kept : stored room.bytes.items room.start room.end ≡ c.args.self.now = elim c.if-self-eq-SIZE.branch [ then-self-eq-SIZE w ↦ rw w.self-inside-is (stored_moved c.args.self.now c.self.inside.bytes.items w.copy_within.new.self.items c.self.inside.start c.self.inside.end c.self.view_is c.self.invariant.0 c.self.invariant.1 w.copy_within.ensures.items) | else-self-eq-SIZE w ↦ rw w.self-inside-is c.self.view_is ] in (
+      take c.in_ok-count.count (drop room.end bytes),
+      c.in_ok-count.ensures.bytes.0,
+      stored_more c.args.self.now room.bytes.items bytes room.start room.end c.in_ok-count.count kept order c.read_behind.ensures.front,
+    )
