@@ -1,12 +1,12 @@
 -- Heads that are read in a front of the bytes that are there.
-use Rattle.std.proofs.Common.{◌≡◌, ℕ, ◌-◌, ◌<◌, ◌≤◌, List, [], ◌∷◌, ◌++◌, length, map, take, drop, refl, sym, ap, subst, ◌∙◌, arith, length-append, inl, inr}
+use Rattle.std.proofs.Common.{◌≡◌, ℕ, ◌-◌, ◌<◌, ◌≤◌, List, [], ◌∷◌, ◌++◌, length, map, take, drop, refl, sym, ap, subst, ◌∙◌, arith, append_assoc, length-append, inl, inr}
 use Rattle.std.proofs.lemmas.List.{drop-append-le, take-append-le, take-append-drop, take_all, length-drop}
 use Rattle.std.proofs.lemmas.List.Elements.{recursion_from_All}
 use Rattle.std.proofs.Math.Nat.{lt_of_not-le}
 use Rattle.std.specs.Prelude.{Option}
 use Rattle.std.specs.List.{AllByRecursion}
 use Rattle.httparse.specs.Grammar.{RequestHead, ReadsRequest, HasNoRequest, MayBecomeRequest, NeverHasRequest, print_request}
-use Rattle.httparse.specs.Spans.{IsRequestAt, IsRequestWithin, IsWithin, IsHeaderWithin, span_bytes, header_bytes}
+use Rattle.httparse.specs.Spans.{IsRequestAt, IsRequestWithin, IsWithin, IsHeaderWithin, RequestExceeds, span_bytes, header_bytes}
 use Rattle.httparse.specs.declared.spans.Span.{Span}
 use Rattle.httparse.specs.declared.spans.HeaderSpan.{HeaderSpan}
 use Rattle.httparse.specs.declared.spans.RequestSpans.{RequestSpans}
@@ -113,3 +113,14 @@ long_comes bytes n full fits none = inr (
 pub open_stays : (bytes : List ℕ) (n : ℕ) → length bytes ≤ n → length bytes < HEAD_LIMIT → HasNoRequest (take n bytes) × MayBecomeRequest (take n bytes) → IsOpenHead bytes
 open_stays bytes n all short (none, may) =
     let same = take_all n bytes all in (subst HasNoRequest same none, subst MayBecomeRequest same may, short)
+
+-- more fields than there is room for
+pub many_come : (bytes : List ℕ) (n : ℕ) → RequestExceeds 64 (take n bytes) → RequestExceeds 64 bytes
+many_come bytes n (front, rest, split, h, reads, many) = (
+  front,
+  rest ++ drop n bytes,
+  sym (take-append-drop n bytes) ∙ (ap (λ l. l ++ drop n bytes) split ∙ append_assoc front rest (drop n bytes)),
+  h,
+  reads,
+  many,
+)

@@ -2,7 +2,7 @@
 use Rattle.std.specs.Prelude.{◌≡◌, ◌<◌, ◌≤◌, ℕ, List, ◌++◌, length, drop, ⊤, Option, Bool, true, false}
 use Rattle.std.specs.Io.KnownBytes.{Consumes, IsAtEnd}
 use Rattle.httparse.specs.Grammar.{RequestHead, ReadsRequest, print_request}
-use Rattle.httparse.specs.Spans.{IsRequestAt, IsRequestWithin, IsWithin, span_bytes}
+use Rattle.httparse.specs.Spans.{IsRequestAt, IsRequestWithin, IsWithin, RequestExceeds, span_bytes}
 use Rattle.httparse.specs.declared.spans.RequestSpans.{RequestSpans}
 use Rattle.httparse.specs.declared.spans.HeaderSpan.{HeaderSpan}
 use Rattle.sect_talk.specs.Asked.{HEAD_LIMIT}
@@ -27,13 +27,13 @@ pub record IsCrowdedHead (bytes : List ℕ) (r : RequestSpans) (h : RequestHead)
   pub short : r.len ≤ HEAD_LIMIT
 
 -- what the bytes that are there are: a head of at most 64 fields and where its parts are, one of more fields, bytes in
--- which no head is read, or the end of the input before a head has ended
+-- which no head is read, the end of the input before a head has ended, or more fields than there was memory for
 abbrev pub Comes : List ℕ → List HeaderSpan → Option (List ℕ) → Came → Type 0
 Comes bytes spans left (Whole r) = (h : RequestHead) × IsRequestAt bytes spans r h × (length h.fields ≤ 64) × (r.len ≤ HEAD_LIMIT)
 Comes bytes spans left (Crowded r) = (h : RequestHead) × IsCrowdedHead bytes r h
 Comes bytes spans left NoHead = IsNoHead bytes
 Comes bytes spans left Ended = IsAtEnd left × IsOpenHead bytes
-Comes bytes spans left Memory = ⊤
+Comes bytes spans left Memory = RequestExceeds 64 bytes
 
 -- the spans that may be looked at lie in the bytes: of a crowded head the method alone
 abbrev pub IsWithinCome : List ℕ → List HeaderSpan → Came → Type 0

@@ -27,8 +27,9 @@ pub enum Came {
     Memory,
 }
 
-/// Waits until the bytes that stand ready tell what their head is, and takes no more than that needs. A head has at
-/// most 16,384 bytes, the empty lines before it included. At `Failed` the source failed before a head had ended.
+/// Waits until the bytes that stand ready tell what their head is; where they do at first, nothing is read. A head has
+/// at most 16,384 bytes, the empty lines before it included. `Memory` comes only where more than 64 fields do. At
+/// `Failed` the source failed before a head had ended.
 pub fn await_head<S: Source>(
     alloc: Global,
     room: &mut Room,
@@ -40,6 +41,7 @@ pub fn await_head<S: Source>(
     ensures came { IfOk result (Comes room.new spans.new (S.left source.new)) }
     ensures within { IfOk result (IsWithinCome room.new spans.new) }
     ensures fault { OnErr result (IsOpenHead room.new) }
+    ensures unread { (IsOpenHead room.old → ⊥) → source.new ≡ source.old }
     ensures cause { HasCause (S.faults source.old) (S.faults source.new) result }
 {
     loop {

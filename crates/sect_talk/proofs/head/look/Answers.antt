@@ -1,5 +1,5 @@
 use Rattle.std.proofs.Common.{arith, length-take}
-use Rattle.sect_talk.proofs.Fronts.{whole_comes, crowded_comes, never_comes, long_comes}
+use Rattle.sect_talk.proofs.Fronts.{many_come, whole_comes, crowded_comes, never_comes, long_comes}
 use Rattle.sect_talk.proofs.head.look.Goals as goal
 
 pub returns-in-Ok-Whole-clause-came : goal.returns-in-Ok-Whole-clause-came
@@ -24,3 +24,6 @@ pub returns-in-Ok-Impossible-clause-came : goal.returns-in-Ok-Impossible-clause-
 returns-in-Ok-Impossible-clause-came c =
     let reads = rw c.in-Ok-Impossible.field-0-is at c.in-Ok-Impossible.ensures.reads in
     λ left. never_comes c.args.bytes.now c.min.result reads
+
+pub returns-in-Err-clause-came : goal.returns-in-Err-clause-came
+returns-in-Err-clause-came c = λ left. many_come c.args.bytes.now c.min.result c.in-Err.ensures.memory
