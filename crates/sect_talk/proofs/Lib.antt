@@ -1,0 +1,5 @@
+pub mod Blank
+pub mod Fronts
+pub mod Stored
+pub mod Taken
+pub mod Talks
