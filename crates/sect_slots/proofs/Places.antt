@@ -14,22 +14,22 @@ use Rattle.sect_model.proofs.Members.{both-left, both-right}
 use Rattle.sect_model.proofs.ListLemmas.{found-passes}
 use Rattle.sect_roster.proofs.LastLemmas.{first-least, rest-ordered}
 use Rattle.sect_roster.proofs.PlaceLemmas.{put-one-back}
-use Rattle.sect_slots.specs.Rostered.{of_student, held_by, put_among}
+use Rattle.sect_slots.specs.Rostered.{of_student, number_held, put_among}
 
 -- those before the rank are of lower students
-pub rank-held : (n : ℕ) (es : List Enrolment) → rank (λ e. e.student.0) n es + held_by n es ≤ length es
+pub rank-held : (n : ℕ) (es : List Enrolment) → rank (λ e. e.student.0) n es + number_held n es ≤ length es
 rank-held n [] = omega arith
 rank-held n (e ∷ es) = by_test (nat_lt e.student.0 n) (e.student.0 == n) refl refl (rank-held n es) (held-le es)
   where
-    held-le : (fs : List Enrolment) → held_by n fs ≤ length fs
+    held-le : (fs : List Enrolment) → number_held n fs ≤ length fs
     held-le [] = omega arith
     held-le (f ∷ fs) = one (f.student.0 == n) (held-le fs)
       where
-        one : (b : Bool) → held_by n fs ≤ length fs → length (cond b (f ∷ of_student n fs) (of_student n fs)) ≤ suc (length fs)
+        one : (b : Bool) → number_held n fs ≤ length fs → length (cond b (f ∷ of_student n fs) (of_student n fs)) ≤ suc (length fs)
         one true ih = omega (arith, ih)
         one false ih = omega (arith, ih)
 
-    by_test : (a b : Bool) → nat_lt e.student.0 n ≡ a → e.student.0 == n ≡ b → rank (λ e. e.student.0) n es + held_by n es ≤ length es → held_by n es ≤ length es
+    by_test : (a b : Bool) → nat_lt e.student.0 n ≡ a → e.student.0 == n ≡ b → rank (λ e. e.student.0) n es + number_held n es ≤ length es → number_held n es ≤ length es
         → cond a (suc (rank (λ e. e.student.0) n es)) 0 + length (cond b (e ∷ of_student n es) (of_student n es)) ≤ suc (length es)
     by_test true true t u ih all = absurd (grind (arith, nat_tests))
     by_test true false t u ih all = omega (arith, ih)

@@ -23,8 +23,8 @@ abbrev pub of_student : ℕ → List Enrolment → List Enrolment
 of_student n es = filter (λ e. e.student.0 == n) es
 
 -- how many enrolments the student of a number has
-abbrev pub held_by : ℕ → List Enrolment → ℕ
-held_by n es = length (of_student n es)
+abbrev pub number_held : ℕ → List Enrolment → ℕ
+number_held n es = length (of_student n es)
 
 -- with an enrolment behind so many others of its student
 abbrev pub put_among : ℕ → Enrolment → List Enrolment → List Enrolment

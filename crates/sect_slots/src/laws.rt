@@ -8,7 +8,7 @@ ghost use Rattle.sect_people.specs.Index.{rank};
 ghost use Rattle.sect_model.specs.World.{is_in};
 ghost use Rattle.sect_model.specs.Kept.{is_ordered};
 ghost use Rattle.sect_model.specs.declared.held.Enrolment.{Enrolment as Held};
-ghost use Rattle.sect_slots.specs.Rostered.{of_student, held_by, put_among};
+ghost use Rattle.sect_slots.specs.Rostered.{of_student, number_held, put_among};
 
 /// A student's one enrolment in a course, taken out, comes back where it stood among those of the student.
 pub fn what_was_taken_out_comes_back()
@@ -19,5 +19,5 @@ pub fn what_was_taken_out_comes_back()
 
 /// A student's enrolments stand behind those of lower students, within the list.
 pub fn own_enrolments_stand_within_the_list()
-    ensures { (n : ℕ) (es : List Held) → rank (λ e. e.student.0) n es + held_by n es ≤ length es }
+    ensures { (n : ℕ) (es : List Held) → rank (λ e. e.student.0) n es + number_held n es ≤ length es }
 {}

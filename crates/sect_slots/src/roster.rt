@@ -6,6 +6,7 @@ ghost use Rattle.std.specs.Prelude.{
   ◌<◌,
   ◌≤◌,
   ◌+◌,
+  ◌-◌,
   ℕ,
   not,
   [],
@@ -29,7 +30,7 @@ ghost use Rattle.sect_people.specs.Index.{rank as rank_of};
 ghost use Rattle.sect_model.specs.World.{insert_enrolment, is_in};
 ghost use Rattle.sect_model.specs.Kept.{is_ordered};
 ghost use Rattle.sect_roster.specs.Last.{last_of, drop_last_of};
-ghost use Rattle.sect_slots.specs.Rostered.{of_student, held_by, put_among, capacity_of};
+ghost use Rattle.sect_slots.specs.Rostered.{of_student, number_held, put_among, capacity_of};
 ghost use Rattle.sect_slots.specs.Slots.{all_held, capacity_in, are_slots, HasSlot};
 
 use crate::slot::Slot;
@@ -87,9 +88,9 @@ impl Roster {
     /// Makes room for `n` enrolments more of a student. Where memory runs out, there is as much room as before.
     pub fn reserve(&mut self, student: StudentId, n: usize) -> Result<(), Memory>
         ensures items { self.new.items ≡ self.old.items }
-        ensures room { OnOk result (0 < n → held_by student.0 self.old.items + n ≤ capacity_of self.new.rooms student.0) }
+        ensures room { OnOk result (n ≤ capacity_of self.new.rooms student.0 - number_held student.0 self.old.items) }
         ensures grows { (m : ℕ) → capacity_of self.old.rooms m ≤ capacity_of self.new.rooms m }
-        ensures enough { held_by student.0 self.old.items + n ≤ capacity_of self.old.rooms student.0 → IsOk result }
+        ensures enough { n ≤ capacity_of self.old.rooms student.0 - number_held student.0 self.old.items → IsOk result }
     {
         if n == 0 {
             return Ok(());
@@ -100,7 +101,7 @@ impl Roster {
 
     /// Puts the enrolment behind the others of its student. It takes no memory.
     pub fn insert(&mut self, enrolment: Enrolment)
-        requires { held_by enrolment.student.0 self.old.items < capacity_of self.old.rooms enrolment.student.0 }
+        requires { number_held enrolment.student.0 self.old.items < capacity_of self.old.rooms enrolment.student.0 }
         ensures { self.new ≡ record self.old { items = insert_enrolment enrolment self.old.items } }
     {
         match place_of(self.slots.as_slice(), enrolment.student) {
@@ -117,8 +118,8 @@ impl Roster {
         ensures place { Some result.0 ≡ position (is_in student course) (of_student student.0 self.old.items) }
         ensures rest { self.new ≡ record self.old { items = filter (λ e. not (is_in student course e)) self.old.items } }
         ensures back { self.old.items ≡ put_among result.0 result.1 self.new.items }
-        ensures within { result.0 ≤ held_by student.0 self.new.items }
-        ensures room { held_by student.0 self.old.items ≤ capacity_of self.old.rooms student.0 }
+        ensures within { result.0 ≤ number_held student.0 self.new.items }
+        ensures room { number_held student.0 self.old.items ≤ capacity_of self.old.rooms student.0 }
     {
         match place_of(self.slots.as_slice(), student) {
             Some(place) => self.slots[place].remove(student, course),
@@ -128,8 +129,8 @@ impl Roster {
 
     /// Puts an enrolment back where it stood among those of its student. It takes no memory.
     pub fn put_back(&mut self, place: usize, enrolment: Enrolment)
-        requires room { held_by enrolment.student.0 self.old.items < capacity_of self.old.rooms enrolment.student.0 }
-        requires within { place ≤ held_by enrolment.student.0 self.old.items }
+        requires room { number_held enrolment.student.0 self.old.items < capacity_of self.old.rooms enrolment.student.0 }
+        requires within { place ≤ number_held enrolment.student.0 self.old.items }
         ensures { self.new ≡ record self.old { items = put_among place enrolment self.old.items } }
     {
         match place_of(self.slots.as_slice(), enrolment.student) {
@@ -145,7 +146,7 @@ impl Roster {
         ensures student { result.student ≡ student }
         ensures rest { self.new ≡ record self.old { items = drop_last_of student self.old.items } }
         ensures back { self.old.items ≡ insert_enrolment result self.new.items }
-        ensures room { held_by student.0 self.old.items ≤ capacity_of self.old.rooms student.0 }
+        ensures room { number_held student.0 self.old.items ≤ capacity_of self.old.rooms student.0 }
     {
         match place_of(self.slots.as_slice(), student) {
             Some(place) => self.slots[place].remove_last(),

@@ -2,7 +2,7 @@
 use Rattle.std.proofs.Common.{◌∙◌, ◌==◌, ap, sym, arith, refl, length}
 use Rattle.std.specs.List.{list_any}
 use Rattle.sect_model.specs.World.{insert_enrolment}
-use Rattle.sect_slots.specs.Rostered.{held_by, capacity_of}
+use Rattle.sect_slots.specs.Rostered.{number_held, capacity_of}
 use Rattle.sect_slots.proofs.Changed.{at, own-items, own-room, put, put-own, set-slots, set-rooms}
 use Rattle.sect_slots.proofs.SlotLemmas.{absent-capacity}
 use Rattle.sect_slots.proofs.roster.Roster.insert.Goals as goal
@@ -22,7 +22,7 @@ insert-requires c =
       arith,
       ap length (own-items ss n c.in-Some.place c.index_mut.result.now a),
       own-room ss n c.in-Some.place c.index_mut.result.now a,
-      ap (λ v. held_by n v.items) c.self.view_is,
+      ap (λ v. number_held n v.items) c.self.view_is,
       ap (λ v. capacity_of v.rooms n) c.self.view_is,
       c.requires,
     )

@@ -1,7 +1,7 @@
 -- One more in the slot of its student, at its place.
 use Rattle.std.proofs.Common.{◌∙◌, ◌==◌, ◌≤◌, ap, sym, arith, refl, length}
 use Rattle.std.specs.List.{list_any}
-use Rattle.sect_slots.specs.Rostered.{held_by, capacity_of, put_among}
+use Rattle.sect_slots.specs.Rostered.{number_held, capacity_of, put_among}
 use Rattle.sect_slots.proofs.Changed.{at, own-items, own-room, among, among-own, set-slots, set-rooms}
 use Rattle.sect_slots.proofs.SlotLemmas.{absent-capacity}
 use Rattle.sect_slots.proofs.roster.Roster.put_back.Goals as goal
@@ -21,7 +21,7 @@ put_back-requires-clause-room c =
       arith,
       ap length (own-items ss n c.in-Some.slot c.index_mut.result.now a),
       own-room ss n c.in-Some.slot c.index_mut.result.now a,
-      ap (λ v. held_by n v.items) c.self.view_is,
+      ap (λ v. number_held n v.items) c.self.view_is,
       ap (λ v. capacity_of v.rooms n) c.self.view_is,
       c.requires.room,
     )
@@ -31,7 +31,7 @@ put_back-requires-clause-within c =
     let n = c.args.enrolment.student.0 in
     let ss = c.self.inside.slots.items in
     let a = at ss c.as_slice.result.now n c.in-Some.slot c.index_mut.result.now c.self.invariant c.as_slice.ensures.value c.in-Some.ensures.found c.index_mut.ensures.value in
-    omega (arith, ap length (own-items ss n c.in-Some.slot c.index_mut.result.now a), ap (λ v. held_by n v.items) c.self.view_is, c.requires.within)
+    omega (arith, ap length (own-items ss n c.in-Some.slot c.index_mut.result.now a), ap (λ v. number_held n v.items) c.self.view_is, c.requires.within)
 
 pub invariant_of-self : goal.invariant_of-self
 invariant_of-self c =
@@ -46,7 +46,7 @@ returns c =
     let n = c.args.enrolment.student.0 in
     let ss = c.self.inside.slots.items in
     let a = at ss c.as_slice.result.now n c.in-Some.slot c.index_mut.result.now c.self.invariant c.as_slice.ensures.value c.in-Some.ensures.found c.index_mut.ensures.value in
-    let within : c.args.place ≤ length c.index_mut.result.now.items = omega (arith, ap length (own-items ss n c.in-Some.slot c.index_mut.result.now a), ap (λ v. held_by n v.items) c.self.view_is, c.requires.within) in
+    let within : c.args.place ≤ length c.index_mut.result.now.items = omega (arith, ap length (own-items ss n c.in-Some.slot c.index_mut.result.now a), ap (λ v. number_held n v.items) c.self.view_is, c.requires.within) in
     let items = among ss n c.in-Some.slot c.index_mut.result.now a c.put_back.new.self c.args.place c.args.enrolment refl within (ap (λ t. t.items) c.put_back.ensures) in
     let rooms = set-rooms ss n c.in-Some.slot c.index_mut.result.now a c.put_back.new.self (ap (λ t. t.student) c.put_back.ensures) (ap (λ t. t.capacity) c.put_back.ensures) in
     λ i. record {

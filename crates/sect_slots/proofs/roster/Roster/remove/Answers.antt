@@ -2,7 +2,7 @@
 use Rattle.std.proofs.Common.{◌∙◌, ◌==◌, ap, sym, arith, refl, length, filter, find, not}
 use Rattle.std.specs.List.{list_any, position}
 use Rattle.sect_model.specs.World.{is_in}
-use Rattle.sect_slots.specs.Rostered.{of_student, held_by, capacity_of}
+use Rattle.sect_slots.specs.Rostered.{of_student, number_held, capacity_of}
 use Rattle.std.proofs.lemmas.Bool.{eqb-true}
 use Rattle.sect_model.proofs.Members.{both-left}
 use Rattle.sect_model.proofs.ListLemmas.{found-passes}
@@ -88,6 +88,6 @@ returns-clause-room c =
       c.remove.ensures.room,
       ap length (own-items ss n c.in-Some.place c.index_mut.result.now a),
       own-room ss n c.in-Some.place c.index_mut.result.now a,
-      ap (λ v. held_by n v.items) c.self.view_is,
+      ap (λ v. number_held n v.items) c.self.view_is,
       ap (λ v. capacity_of v.rooms n) c.self.view_is,
     )

@@ -2,7 +2,7 @@
 use Rattle.std.proofs.Common.{◌∙◌, ◌==◌, ap, sym, arith, refl, length}
 use Rattle.std.specs.List.{list_any}
 use Rattle.sect_roster.specs.Last.{last_of, drop_last_of}
-use Rattle.sect_slots.specs.Rostered.{held_by, capacity_of}
+use Rattle.sect_slots.specs.Rostered.{number_held, capacity_of}
 use Rattle.sect_slots.proofs.Changed.{at, own-items, own-room, some-own, last-mine, last-back, last-student, last-rest, last-is, set-slots, set-rooms}
 use Rattle.sect_slots.proofs.SlotLemmas.{none-of}
 use Rattle.sect_slots.proofs.roster.Roster.remove_last_of.Goals as goal
@@ -72,6 +72,6 @@ returns-clause-room c =
       c.remove_last.ensures.room,
       ap length (own-items ss n c.in-Some.place c.index_mut.result.now a),
       own-room ss n c.in-Some.place c.index_mut.result.now a,
-      ap (λ v. held_by n v.items) c.self.view_is,
+      ap (λ v. number_held n v.items) c.self.view_is,
       ap (λ v. capacity_of v.rooms n) c.self.view_is,
     )

@@ -1,6 +1,6 @@
 -- The room of the student's slot grows.
 use Rattle.std.proofs.Common.{◌≡◌, ◌∙◌, ◌==◌, ◌≤◌, ap, sym, subst, arith, length, refl, slice_set}
-use Rattle.sect_slots.specs.Rostered.{held_by, capacity_of}
+use Rattle.sect_slots.specs.Rostered.{number_held, capacity_of}
 use Rattle.sect_slots.specs.Slots.{capacity_in}
 use Rattle.std.specs.List.{list_any}
 use Rattle.std.proofs.lemmas.Bool.{true_from_ne_false, false≢true}
@@ -42,18 +42,18 @@ returns-clause-room c =
     let n = c.args.student.0 in
     let ss = c.slot_for.new.slots.items in
     let a = at ss ss n c.in_ok-place.place c.index_mut.result.now c.slot_for.ensures.slots refl c.in_ok-place.ensures.place c.index_mut.ensures.value in
-    let held : held_by n c.args.self.now.items ≡ length c.index_mut.result.now.items =
-    ap (λ v. held_by n v.items) (sym c.self.view_is) ∙ ap (held_by n) (sym c.slot_for.ensures.held) ∙ ap length (own-items ss n c.in_ok-place.place c.index_mut.result.now a) in
+    let held : number_held n c.args.self.now.items ≡ length c.index_mut.result.now.items =
+    ap (λ v. number_held n v.items) (sym c.self.view_is) ∙ ap (number_held n) (sym c.slot_for.ensures.held) ∙ ap length (own-items ss n c.in_ok-place.place c.index_mut.result.now a) in
     let fits = set-fits ss n c.in_ok-place.place c.index_mut.result.now a c.reserve.new.self c.reserve.ensures.student in
-    on-ok c.reserve.result (λ room some. omega (arith, room, held, fits)) c.reserve.ensures.room
+    on-ok c.reserve.result (λ room. omega (arith, room, held, fits)) c.reserve.ensures.room
 
 pub returns-clause-enough : goal.returns-clause-enough
 returns-clause-enough c =
     let n = c.args.student.0 in
     let ss = c.slot_for.new.slots.items in
     let a = at ss ss n c.in_ok-place.place c.index_mut.result.now c.slot_for.ensures.slots refl c.in_ok-place.ensures.place c.index_mut.ensures.value in
-    let held : held_by n c.args.self.now.items ≡ length c.index_mut.result.now.items =
-    ap (λ v. held_by n v.items) (sym c.self.view_is) ∙ ap (held_by n) (sym c.slot_for.ensures.held) ∙ ap length (own-items ss n c.in_ok-place.place c.index_mut.result.now a) in
+    let held : number_held n c.args.self.now.items ≡ length c.index_mut.result.now.items =
+    ap (λ v. number_held n v.items) (sym c.self.view_is) ∙ ap (number_held n) (sym c.slot_for.ensures.held) ∙ ap length (own-items ss n c.in_ok-place.place c.index_mut.result.now a) in
     let room : capacity_of c.args.self.now.rooms n ≡ c.index_mut.result.now.capacity =
     ap (λ v. capacity_of v.rooms n) (sym c.self.view_is) ∙ sym (c.slot_for.ensures.capacity n) ∙ own-room ss n c.in_ok-place.place c.index_mut.result.now a in
     λ h. c.reserve.ensures.enough (omega (arith, h, held, room))
