@@ -1,5 +1,5 @@
 -- Each change of the parts, and each taken back, followed by their numbers.
-use Rattle.std.specs.Prelude.{◌≡◌, ◌≤◌, true, false, ◌==◌, length, insert, find, Option, Some, None, Result, Ok, Err, IfOk, OnErr, refl}
+use Rattle.std.specs.Prelude.{◌≡◌, ◌≤◌, true, false, ◌==◌, find, Option, Some, None, Result, Ok, Err, IfOk, OnErr, refl}
 use Rattle.std.specs.List.{list_any, position_or_len}
 use Rattle.std.specs.Option.{option_map_or, is_some}
 use Rattle.std.proofs.Common.{sym, ◌∙◌, ap, subst, ⊎_elim}

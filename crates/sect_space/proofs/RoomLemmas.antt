@@ -1,5 +1,5 @@
 -- The room of each student, after one enrolment more or less.
-use Rattle.std.specs.Prelude.{◌≡◌, ℕ, ◌+◌, ◌-◌, ◌<◌, ◌≤◌, Bool, true, false, ◌==◌, nat_lt, not, cond, List, length, filter, find, insert, Some, refl}
+use Rattle.std.specs.Prelude.{◌≡◌, ℕ, ◌+◌, ◌-◌, ◌<◌, ◌≤◌, Bool, true, false, ◌==◌, not, cond, List, length, filter, find, Some, refl}
 use Rattle.std.specs.List.{position_or_len}
 use Rattle.std.proofs.Common.{sym, ◌∙◌, ap, subst, arith}
 use Rattle.std.proofs.lemmas.Bool.{eqb-true, eq-eqb}
@@ -13,7 +13,7 @@ use Rattle.sect_model.proofs.ListLemmas.{found-passes}
 use Rattle.sect_numbers.specs.OneMore.{IsMore}
 use Rattle.sect_numbers.proofs.MoreLemmas.{put_back, left}
 use Rattle.sect_roster.proofs.PlaceLemmas.{place-left}
-use Rattle.sect_slots.specs.Rostered.{Room, capacity_of, of_student, number_held, put_among}
+use Rattle.sect_slots.specs.Rostered.{capacity_of, of_student, number_held, put_among}
 use Rattle.sect_slots.proofs.Parts.{part-kept}
 use Rattle.sect_slots.proofs.Places.{rank-held}
 use Rattle.sect_space.specs.Roomed.{Roomed}

@@ -1,6 +1,6 @@
 -- A world after a change, or one that was not made, is kept.
 use Rattle.std.specs.Prelude.{◌≡◌, ℕ, ◌+◌, ◌≤◌, ◌==◌, not, Result, Ok, Err, IfOk, OnErr}
-use Rattle.std.proofs.Common.{sym, ap, subst, arith}
+use Rattle.std.proofs.Common.{sym, subst, arith}
 use Rattle.sect_base.specs.declared.duplicate.Memory.{Memory}
 use Rattle.sect_model.specs.declared.change.Change.{Change}
 use Rattle.sect_model.specs.declared.change.Change.TheVariants.{Offering, Student, Requests, Reserve, Unreserve, Expiry, Restrict, Unrestrict, Cap as new_cap, Cancelled, Day, Enrol, Leave}

@@ -1,5 +1,5 @@
 -- One enrolment more, where there was room or room was made.
-use Rattle.std.proofs.Common.{◌≡◌, ◌<◌, ◌≤◌, ◌-◌, ◌∙◌, ap, sym, subst, arith}
+use Rattle.std.proofs.Common.{◌≤◌, ◌∙◌, ap, sym, subst, arith}
 use Rattle.sect_model.specs.World.{insert_enrolment}
 use Rattle.sect_numbers.proofs.MoreLemmas.{inserted}
 use Rattle.sect_slots.specs.Rostered.{capacity_of, number_held}

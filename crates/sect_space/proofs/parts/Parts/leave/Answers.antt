@@ -1,5 +1,5 @@
 -- The student holds the course once, and the roster has one enrolment less.
-use Rattle.std.proofs.Common.{◌≡◌, ◌∙◌, ◌≤◌, ◌==◌, ap, sym, subst, arith, find, length, filter}
+use Rattle.std.proofs.Common.{◌∙◌, ◌≤◌, ◌==◌, ap, sym, subst, arith}
 use Rattle.std.specs.List.{position_or_len}
 use Rattle.std.specs.Option.{option_map_or}
 use Rattle.std.proofs.lemmas.Bool.{eqb-true}
