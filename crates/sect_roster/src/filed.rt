@@ -1,9 +1,8 @@
-// What lists are ordered by: the student of an enrolment, the offering of a row, the id of a mark.
+// What lists are ordered by: the offering of a row, the id of a mark.
 
 ghost use Rattle.std.specs.Prelude.{◌≡◌, ℕ};
 
 use crate::mark::Mark;
-use sect_model::Enrolment;
 use sect_reserve::{Reservation, Restriction};
 
 /// An element of a list that stands in order of a number.
@@ -22,14 +21,6 @@ pub trait Filed: Keyed + Drop {
     /// The row's id.
     fn id(&self) -> u32
         ensures { result ≡ id_of self.now };
-}
-
-impl Keyed for Enrolment {
-    ghost key_of = { λ e. e.student.0 };
-
-    fn key(&self) -> u32 {
-        self.student.0
-    }
 }
 
 impl Keyed for Mark {

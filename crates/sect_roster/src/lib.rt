@@ -1,4 +1,4 @@
-// The lists of a world: enrolments in order of student, reservations and restrictions in order of offering.
+// The lists of a world: reservations and restrictions in order of offering. What is told of a list of enrolments.
 #![tactic(auto)]
 
 mod expiry;
@@ -10,8 +10,6 @@ mod rank;
 mod reservations;
 mod restrictions;
 mod room;
-mod roster;
 
 pub use reservations::Reservations;
 pub use restrictions::Restrictions;
-pub use roster::Roster;

@@ -5,6 +5,7 @@ pub mod Lists
 pub mod MarkLemmas
 pub mod NumberLemmas
 pub mod ReadyLemmas
+pub mod RoomLemmas
 pub mod Steps
 pub mod StudentBack
 pub mod Sums

@@ -23,6 +23,7 @@ use Rattle.sect_model.specs.Fits.{Fits, is_known_cap}
 use Rattle.sect_model.proofs.Members
 use Rattle.sect_model.proofs.Members.{any-at, both-left, not_both}
 use Rattle.sect_space.specs.Back.{back_of, mark_of, concerned, of_student, of_offering, of_both, no_change, offering_id, reservation_offering, cap_offering}
+use Rattle.sect_slots.specs.Rostered.{of_student as own_of}
 use Rattle.sect_space.specs.declared.back.Back.TheVariants.{StudentAdded, StudentReplaced, RequestsReplaced, ReservationRemoved, ExpiryReplaced, RestrictionRemoved, LimitReplaced, Left}
 use Rattle.sect_space.proofs.TakenBack.{known_limit}
 
@@ -53,7 +54,7 @@ cap-marked w cap None h = absurd (not_both false h refl)
 cap-marked w cap (Some old) h = refl
 
 leave-marked : (w : World) (student : StudentId) (course : CourseId) (o : Option Enrolment) → find (is_in student course) w.roster ≡ o → holds w student course ≡ true
-    → mark_of (option_map_or (λ e. Left (position_or_len (is_in student course) w.roster) e (offering_id w course)) o (no_change w)) ≡ of_both student (offering_id w course)
+    → mark_of (option_map_or (λ e. Left (position_or_len (is_in student course) (own_of student.0 w.roster)) e (offering_id w course)) o (no_change w)) ≡ of_both student (offering_id w course)
 leave-marked w student course None e h =
     let f = any-at (is_in student course) w.roster h in
     absurd (not_both (is_some (find (is_in student course) w.roster)) (Members.find-some (is_in student course) w.roster f.0 f.1 f.2) (ap is_some e))

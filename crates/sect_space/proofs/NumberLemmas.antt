@@ -1,5 +1,5 @@
 -- Each change of the parts, and each taken back, followed by their numbers.
-use Rattle.std.specs.Prelude.{◌≡◌, ◌≤◌, true, false, ◌==◌, length, insert, find, Option, Some, None, Result, Ok, Err, IfOk, OnErr, refl}
+use Rattle.std.specs.Prelude.{◌≡◌, ◌≤◌, true, false, ◌==◌, find, Option, Some, None, Result, Ok, Err, IfOk, OnErr, refl}
 use Rattle.std.specs.List.{list_any, position_or_len}
 use Rattle.std.specs.Option.{option_map_or, is_some}
 use Rattle.std.proofs.Common.{sym, ◌∙◌, ap, subst, ⊎_elim}
@@ -21,7 +21,9 @@ use Rattle.sect_numbers.specs.declared.numbers.Numbers.{Numbers}
 use Rattle.sect_numbers.specs.Numbers.{Told, Grown, has_uses, counted_ids}
 use Rattle.sect_numbers.specs.OneMore.{with_roster, IsMore}
 use Rattle.sect_numbers.specs.Quiet.{is_quiet, has_new, has_old}
-use Rattle.sect_numbers.proofs.MoreLemmas.{inserted, put_back}
+use Rattle.sect_numbers.proofs.MoreLemmas.{inserted}
+use Rattle.sect_slots.specs.Rostered.{of_student, number_held, put_among}
+use Rattle.sect_space.proofs.RoomLemmas.{among}
 use Rattle.sect_numbers.proofs.KnownLemmas.{told-grown, told-of-others}
 use Rattle.sect_numbers.proofs.BackLemmas.{told-before-others}
 use Rattle.sect_numbers.proofs.IdLemmas.{counted-id}
@@ -91,14 +93,14 @@ enrolled-behind p q n e b i f made =
     }
 
 pub left-ahead : (p q : Parts) (n : Numbers) (student : StudentId) (course : CourseId) (place : _) (e : Enrolment) (b : Back) → Numbered p n
-    → Made (roomed_of p) (roomed_of q) (Leave student course) b → place ≤ length (roomed_of q).world.roster → (roomed_of p).world.roster ≡ insert (roomed_of q).world.roster place e
+    → Made (roomed_of p) (roomed_of q) (Leave student course) b → place ≤ number_held e.student.0 (roomed_of q).world.roster → (roomed_of p).world.roster ≡ put_among place e (roomed_of q).world.roster
     → OneAhead n (roomed_of q).world e
 left-ahead p q n student course place e b i made within last =
     let w = (roomed_of p).world in
     let v = (roomed_of q).world in
     record {
       more = w.roster;
-      is_more = subst (λ es. IsMore v.roster es e) (sym last) (put_back e v.roster place within);
+      is_more = subst (λ es. IsMore v.roster es e) (sym last) (among e v.roster place within);
       kept = subst (λ u. KeptWorld (with_roster u w.roster)) (sym made.world) i.kept;
       told = subst (λ u. Told n (with_roster u w.roster)) (sym made.world) i.told;
     }
@@ -119,7 +121,7 @@ back-ready p n b m =
     (ready (roomed_of p) m.before m.change m.kept m.fits (record { roster = l.roster; reservations = l.reservations; restrictions = l.restrictions }) m.led)
 
 leaves : (w : World) (student : StudentId) (course : CourseId) (o : Option Enrolment) → find (is_in student course) w.roster ≡ o → holds w student course ≡ true
-    → is_of_quiet (option_map_or (λ e. Left (position_or_len (is_in student course) w.roster) e (offering_id w course)) o (no_change w)) ≡ true → false ≡ true
+    → is_of_quiet (option_map_or (λ e. Left (position_or_len (is_in student course) (of_student student.0 w.roster)) e (offering_id w course)) o (no_change w)) ≡ true → false ≡ true
 leaves w student course None e h q =
     let f = any-at (is_in student course) w.roster h in
     absurd (not_both (is_some (find (is_in student course) w.roster)) (Members.find-some (is_in student course) w.roster f.0 f.1 f.2) (ap is_some e))
@@ -194,7 +196,7 @@ put-behind p q n place e offering i m taken =
     let w = (roomed_of p).world in
     record {
       less = w.roster;
-      is_more = subst (λ es. IsMore w.roster es e) (sym (ap (λ (v : World). v.roster) taken.world)) (put_back e w.roster place (back-ready p n (Left place e offering) m).1);
+      is_more = subst (λ es. IsMore w.roster es e) (sym (ap (λ (v : World). v.roster) taken.world)) (among e w.roster place (back-ready p n (Left place e offering) m).1);
       kept = subst KeptWorld (sym taken.world) (back-kept p n (Left place e offering) m);
       told = subst (λ v. Told n (with_roster v w.roster)) (sym taken.world) i.told;
     }

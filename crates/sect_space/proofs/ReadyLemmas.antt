@@ -41,7 +41,10 @@ use Rattle.sect_roster.proofs.PlaceLemmas.{put-one-back, place-left}
 use Rattle.sect_space.specs.Back.{back_of, no_change, offering_id, reservation_offering, cap_offering}
 use Rattle.sect_space.specs.declared.back.Back.TheVariants.{StudentAdded, StudentReplaced, RequestsReplaced, ReservationRemoved, ExpiryReplaced, RestrictionRemoved, LimitReplaced, Left}
 use Rattle.sect_space.specs.Roomed.{Roomed}
-use Rattle.sect_space.specs.Room.{HasLists}
+use Rattle.sect_slots.specs.Rostered.{Room, of_student, number_held}
+use Rattle.sect_model.proofs.ListLemmas.{found-passes}
+use Rattle.sect_space.specs.Room.{HasLists, free_for}
+use Rattle.sect_space.proofs.RoomLemmas.{left-place}
 use Rattle.sect_space.specs.Made.{Ready}
 use Rattle.sect_space.proofs.Bounds.{held-once}
 use Rattle.sect_space.proofs.TakenBack.{new_restriction_id, known_limit}
@@ -105,9 +108,9 @@ limit-after rows (cap_section id) limit h =
 
 -- ---- each change
 
-module _ (w : World) (k : KeptWorld w) (spare reservation_spare restriction_spare : ℕ) (counted : List ℕ) where
+module _ (w : World) (k : KeptWorld w) (rooms : List Room) (reservation_spare restriction_spare : ℕ) (counted : List ℕ) where
   abbrev in_room : World → Roomed
-  in_room v = record { world = v; spare = spare; reservation_spare = reservation_spare; restriction_spare = restriction_spare; counted_ids = counted }
+  in_room v = record { world = v; rooms = rooms; reservation_spare = reservation_spare; restriction_spare = restriction_spare; counted_ids = counted }
 
   -- another row keeps the student's id
   row-key : (row : StudentRow) (s : Student) → (with_row row s).row.id.0 ≡ s.row.id.0
@@ -177,13 +180,14 @@ module _ (w : World) (k : KeptWorld w) (spare reservation_spare restriction_spar
   cancel-ready id h = subst (λ ss. 0 < length ss) (λ i. cond (sym h i) w.catalogue.cancelled (w.catalogue.cancelled ++ id ∷ [])) (some-last w.catalogue.cancelled id)
 
   leave-ready : (student : StudentId) (course : CourseId) (o : Option Enrolment) → find (is_in student course) w.roster ≡ o → holds w student course ≡ true → HasLists (in_room (leave w student course)) w
-      → Ready (in_room (leave w student course)) (option_map_or (λ e. Left (position_or_len (is_in student course) w.roster) e (offering_id w course)) o (no_change w))
+      → Ready (in_room (leave w student course)) (option_map_or (λ e. Left (position_or_len (is_in student course) (of_student student.0 w.roster)) e (offering_id w course)) o (no_change w))
   leave-ready student course None e h room =
       let f = any-at (is_in student course) w.roster h in
       absurd (not_both (is_some (find (is_in student course) w.roster)) (Members.find-some (is_in student course) w.roster f.0 f.1 f.2) (ap is_some e))
   leave-ready student course (Some x) e h room =
-      let n = held-once w k student course h in
-      (removed (is_in student course) w.roster x spare n e room.roster, place-left (is_in student course) w.roster n)
+      let mine = eqb-true x.student.0 student.0 (both-left (x.student.0 == student.0) _ (found-passes (is_in student course) w.roster x e)) in
+      subst (λ n. (0 < free_for (in_room (leave w student course)) n) × (position_or_len (is_in student course) (of_student student.0 w.roster) ≤ number_held n (leave w student course).roster)) (sym mine)
+      (left-place student course w.roster x (free_for (in_room (leave w student course)) student.0) (held-once w k student course h) e (room.roster student.0))
 
   each-ready : (c : Change) → Fits w c → HasLists (in_room (changed w c)) w → Ready (in_room (changed w c)) (back_of w c)
   each-ready (Offering row) f room = some-last w.catalogue.rows row
@@ -202,5 +206,5 @@ module _ (w : World) (k : KeptWorld w) (spare reservation_spare restriction_spar
 
 pub ready : (r : Roomed) (w : World) (c : Change) → KeptWorld w → Fits w c → HasLists r w → changed w c ≡ r.world → Ready r (back_of w c)
 ready r w c k f room e =
-    subst (λ v. HasLists (in_room w k r.spare r.reservation_spare r.restriction_spare r.counted_ids v) w → Ready (in_room w k r.spare r.reservation_spare r.restriction_spare r.counted_ids v) (back_of w c)) e
-    (each-ready w k r.spare r.reservation_spare r.restriction_spare r.counted_ids c f) room
+    subst (λ v. HasLists (in_room w k r.rooms r.reservation_spare r.restriction_spare r.counted_ids v) w → Ready (in_room w k r.rooms r.reservation_spare r.restriction_spare r.counted_ids v) (back_of w c)) e
+    (each-ready w k r.rooms r.reservation_spare r.restriction_spare r.counted_ids c f) room

@@ -14,7 +14,8 @@ use Rattle.sect_model.proofs.Members.{or-left}
 use Rattle.sect_space.specs.declared.back.Back.{Back}
 use Rattle.sect_space.specs.Back.{back_of, taken_back}
 use Rattle.sect_space.specs.Roomed.{Roomed}
-use Rattle.sect_space.specs.Room.{HasRoom, KeepsRoom}
+use Rattle.sect_slots.specs.Rostered.{number_held}
+use Rattle.sect_space.specs.Room.{HasRoom, KeepsRoom, free_for}
 use Rattle.sect_space.specs.Undo.{undone, all_changed, backs_of, AllFit, RoomFor, Undoable, Since}
 use Rattle.sect_space.specs.Undoing.{MadeBy}
 use Rattle.sect_space.proofs.TakenBack.{taken-back}
@@ -55,7 +56,7 @@ trans h i = omega (arith, h, i)
 has-more : (r s : Roomed) (w : World) → KeepsRoom r s → HasRoom r w → HasRoom s w
 has-more r s w k h = record {
   lists = record {
-    roster = trans h.lists.roster k.lists.roster;
+    roster = λ n. trans (h.lists.roster n) (k.lists.roster n);
     reservations = trans h.lists.reservations k.lists.reservations;
     restrictions = trans h.lists.restrictions k.lists.restrictions;
   };
@@ -82,7 +83,7 @@ room-last r w (c ∷ cs) h = room-last r (changed w c) cs h.1
 own-room : (r : Roomed) (w : World) → r.world ≡ w → HasRoom r w
 own-room r w e = subst (HasRoom r) e (record {
   lists = record {
-    roster = enough (length r.world.roster) r.spare;
+    roster = λ n. enough (number_held n r.world.roster) (free_for r n);
     reservations = enough (length r.world.reservations) r.reservation_spare;
     restrictions = enough (length r.world.restrictions) r.restriction_spare;
   };

@@ -36,6 +36,8 @@ use Rattle.sect_roster.proofs.InsertLemmas.{once}
 use Rattle.sect_roster.proofs.LastLemmas.{drop-put}
 use Rattle.sect_roster.proofs.PlaceLemmas.{put-one-back}
 use Rattle.sect_roster.proofs.UndoneLemmas.{taken-back as gone-again}
+use Rattle.sect_slots.specs.Rostered.{of_student}
+use Rattle.sect_slots.proofs.Places.{comes-back}
 use Rattle.sect_space.proofs.Bounds.{held-once}
 use Rattle.sect_space.proofs.Lists.{but-last, map-back}
 use Rattle.sect_space.proofs.StudentBack.{new-back, row-back, asks-back}
@@ -88,11 +90,11 @@ unrestrict-back w k id (Some r) e h =
     λ i. record w { restrictions = put-one-back (λ x. x.id.0 == id.0) w.restrictions r (once (λ x. x.id.0) id.0 w.restrictions k.restrictions_differ (ap is_some e)) (sym e) i }
 
 leave-back : (w : World) → KeptWorld w → (student : StudentId) (course : CourseId) (o : Option Enrolment) → find (is_in student course) w.roster ≡ o → holds w student course ≡ true
-    → taken_back (leave w student course) (option_map_or (λ e. Left (position_or_len (is_in student course) w.roster) e (offering_id w course)) o (no_change w)) ≡ w
+    → taken_back (leave w student course) (option_map_or (λ e. Left (position_or_len (is_in student course) (of_student student.0 w.roster)) e (offering_id w course)) o (no_change w)) ≡ w
 leave-back w k student course None e h =
     let f = any-at (is_in student course) w.roster h in
     absurd (not_both (is_some (find (is_in student course) w.roster)) (Members.find-some (is_in student course) w.roster f.0 f.1 f.2) (ap is_some e))
-leave-back w k student course (Some x) e h = λ i. record w { roster = put-one-back (is_in student course) w.roster x (held-once w k student course h) (sym e) i }
+leave-back w k student course (Some x) e h = λ i. record w { roster = comes-back student course w.roster x k.in_order (held-once w k student course h) (sym e) i }
 
 map-known : {X Y : Type 0} (f : X → Y) (o : Option X) → is_some (option_map f o) ≡ is_some o
 map-known f None = refl

@@ -17,7 +17,7 @@ trans h i = omega (arith, h, i)
 pub room-both : (r s t : Roomed) → KeepsRoom r s → KeepsRoom s t → KeepsRoom r t
 room-both r s t h k = record {
   lists = record {
-    roster = trans h.lists.roster k.lists.roster;
+    roster = λ n. trans (h.lists.roster n) (k.lists.roster n);
     reservations = trans h.lists.reservations k.lists.reservations;
     restrictions = trans h.lists.restrictions k.lists.restrictions;
   };
@@ -25,7 +25,7 @@ room-both r s t h k = record {
 }
 
 pub room-same : (r : Roomed) → KeepsRoom r r
-room-same r = record { lists = record { roster = omega arith; reservations = omega arith; restrictions = omega arith }; uses = λ id known. known }
+room-same r = record { lists = record { roster = λ n. omega arith; reservations = omega arith; restrictions = omega arith }; uses = λ id known. known }
 
 -- the last recorded change made the world
 pub last-made : (r : Roomed) (backs : List Back) (back : Back) → Undoable r (backs ++ back ∷ []) → MadeBy r back

@@ -23,6 +23,7 @@ use Rattle.sect_model.specs.Refusals.{restriction_of}
 use Rattle.sect_model.specs.Kept.{has_config}
 use Rattle.sect_model.specs.Change.{put_student, put_asks, put_limit, put_expiry, drop_reservation, drop_restriction, put_day}
 use Rattle.sect_roster.specs.Last.{drop_last_of}
+use Rattle.sect_slots.specs.Rostered.{of_student as own_of, put_among}
 use Rattle.sect_space.specs.declared.back.Back.{Back}
 use Rattle.sect_space.specs.declared.back.Back.TheVariants.{OfferingAdded, StudentAdded, StudentReplaced, RequestsReplaced, ReservationAdded, ReservationRemoved, ExpiryReplaced, RestrictionAdded, RestrictionRemoved, LimitReplaced, SectionCancelled, DayReplaced, Enrolled, Left}
 use Rattle.sect_space.specs.declared.back.Mark.{Mark}
@@ -76,7 +77,7 @@ back_of w (Cancelled id) = SectionCancelled id (section_offering w id)
 back_of w (Day day) = DayReplaced w.day day
 back_of w (Enrol e) = Enrolled e.student (offering_id w e.choice.course)
 back_of w (Leave student course) =
-    option_map_or (λ e. Left (position_or_len (is_in student course) w.roster) e (offering_id w course)) (find (is_in student course) w.roster) (no_change w)
+    option_map_or (λ e. Left (position_or_len (is_in student course) (own_of student.0 w.roster)) e (offering_id w course)) (find (is_in student course) w.roster) (no_change w)
 
 -- it is kept of a change that enrols nobody, and by which nobody leaves
 abbrev pub is_of_quiet : Back → Bool
@@ -125,9 +126,9 @@ put_restriction_back w place r = record w { restrictions = insert w.restrictions
 abbrev pub drop_enrolment : World → StudentId → World
 drop_enrolment w student = record w { roster = drop_last_of student w.roster }
 
--- an enrolment at its place again
+-- an enrolment at its place among those of its student again
 abbrev pub put_enrolment_back : World → ℕ → Enrolment → World
-put_enrolment_back w place e = record w { roster = insert w.roster place e }
+put_enrolment_back w place e = record w { roster = put_among place e w.roster }
 
 -- the world in which the change is taken back
 abbrev pub taken_back : World → Back → World

@@ -12,7 +12,8 @@ use Rattle.sect_space.specs.declared.back.Back.{Back}
 use Rattle.sect_space.specs.declared.back.Back.TheVariants.{OfferingAdded, StudentAdded, StudentReplaced, RequestsReplaced, ReservationAdded, ReservationRemoved, ExpiryReplaced, RestrictionAdded, RestrictionRemoved, LimitReplaced, SectionCancelled, DayReplaced, Enrolled, Left}
 use Rattle.sect_space.specs.Back.{back_of, taken_back}
 use Rattle.sect_space.specs.Roomed.{Roomed}
-use Rattle.sect_space.specs.Room.{KeepsLists}
+use Rattle.sect_slots.specs.Rostered.{number_held}
+use Rattle.sect_space.specs.Room.{KeepsLists, free_for}
 
 -- the change was made, and this is kept of it
 pub record Made (r s : Roomed) (change : Change) (back : Back) : Type 0 where
@@ -45,4 +46,4 @@ Ready r (LimitReplaced cap offering limit) = IsTrue (is_some (limit_in r.world.c
 Ready r (SectionCancelled id offering) = 0 < length r.world.catalogue.cancelled
 Ready r (DayReplaced old new) = ⊤
 Ready r (Enrolled student offering) = IsTrue (list_any (λ e. e.student.0 == student.0) r.world.roster)
-Ready r (Left place e offering) = (0 < r.spare) × (place ≤ length r.world.roster)
+Ready r (Left place e offering) = (0 < free_for r e.student.0) × (place ≤ number_held e.student.0 r.world.roster)

@@ -1,14 +1,41 @@
 -- Whether the lists of a world have room for the rows of another.
-use Rattle.std.specs.Prelude.{◌≡◌, ◌+◌, ◌≤◌, Bool, true, ◌||◌, ◌==◌, length}
+use Rattle.std.specs.Prelude.{◌≡◌, ℕ, ◌+◌, ◌-◌, ◌<◌, ◌≤◌, ⊤, Bool, true, ◌||◌, ◌==◌, length}
 use Rattle.std.specs.List.{list_any}
 use Rattle.std.specs.Option.{is_some}
 use Rattle.sect_base.specs.declared.ids.ReservationId.{ReservationId}
 use Rattle.sect_model.specs.World.{World, reservation_of}
+use Rattle.sect_model.specs.declared.change.Change.{Change}
+use Rattle.sect_model.specs.declared.change.Change.TheVariants.{Offering, Student, Requests, Reserve, Unreserve, Expiry, Restrict, Unrestrict, Cap as new_cap, Cancelled, Day, Enrol, Leave}
+use Rattle.sect_slots.specs.Rostered.{capacity_of, number_held}
 use Rattle.sect_space.specs.Roomed.{Roomed}
+
+-- how many enrolments more of the student of a number fit without asking for memory
+abbrev pub free_for : Roomed → ℕ → ℕ
+free_for r n = capacity_of r.rooms n - number_held n r.world.roster
+
+-- how many it has, with those that fit
+abbrev pub room_for : Roomed → ℕ → ℕ
+room_for r n = number_held n r.world.roster + free_for r n
+
+-- where the change enrols a student, that fits without asking for memory
+abbrev pub HasPlace : Roomed → Change → Type 0
+HasPlace r (Offering row) = ⊤
+HasPlace r (Student row) = ⊤
+HasPlace r (Requests student asks) = ⊤
+HasPlace r (Reserve row) = ⊤
+HasPlace r (Unreserve id) = ⊤
+HasPlace r (Expiry id day) = ⊤
+HasPlace r (Restrict row) = ⊤
+HasPlace r (Unrestrict id) = ⊤
+HasPlace r (new_cap cap limit) = ⊤
+HasPlace r (Cancelled id) = ⊤
+HasPlace r (Day day) = ⊤
+HasPlace r (Enrol e) = 0 < free_for r e.student.0
+HasPlace r (Leave student course) = ⊤
 
 -- the lists hold the rows of the other world without asking for memory
 pub record HasLists (r : Roomed) (w : World) : Type 0 where
-  pub roster : length w.roster ≤ length r.world.roster + r.spare
+  pub roster : (n : ℕ) → number_held n w.roster ≤ room_for r n
   pub reservations : length w.reservations ≤ length r.world.reservations + r.reservation_spare
   pub restrictions : length w.restrictions ≤ length r.world.restrictions + r.restriction_spare
 
@@ -23,7 +50,7 @@ pub record HasRoom (r : Roomed) (w : World) : Type 0 where
 
 -- no list holds fewer rows than before without asking for memory
 pub record KeepsLists (r s : Roomed) : Type 0 where
-  pub roster : length r.world.roster + r.spare ≤ length s.world.roster + s.spare
+  pub roster : (n : ℕ) → room_for r n ≤ room_for s n
   pub reservations : length r.world.reservations + r.reservation_spare ≤ length s.world.reservations + s.reservation_spare
   pub restrictions : length r.world.restrictions + r.restriction_spare ≤ length s.world.restrictions + s.restriction_spare
 

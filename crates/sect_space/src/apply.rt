@@ -1,16 +1,16 @@
 // Changes of the world, recorded, and undone again.
 
-ghost use Rattle.std.specs.Prelude.{◌≡◌, ◌<◌, ◌≤◌, ◌+◌, ◌++◌, ◌∷◌, [], length, take, drop, IsOk, OnOk, OnErr, IsTrue};
+ghost use Rattle.std.specs.Prelude.{◌≡◌, ℕ, ◌<◌, ◌≤◌, ◌+◌, ◌++◌, ◌∷◌, [], length, take, drop, IsOk, OnOk, OnErr, IsTrue};
 ghost use Rattle.sect_model.specs.Fits.{Fits, changed};
 ghost use Rattle.sect_space.specs.Back.{back_of};
 ghost use Rattle.sect_space.specs.Made.{Unchanged};
-ghost use Rattle.sect_space.specs.Room.{KeepsRoom, KeepsUses};
+ghost use Rattle.sect_space.specs.Room.{HasPlace, KeepsRoom, KeepsUses, free_for};
 ghost use Rattle.sect_space.specs.Undo.{undone, Undoable, takes_none};
 ghost use Rattle.sect_space.specs.Undoing.{UndoneLast};
 
 use crate::undo::Undo;
 use crate::world::World;
-use sect_base::Memory;
+use sect_base::{Memory, StudentId};
 use sect_model::Change;
 
 impl World {
@@ -23,9 +23,9 @@ impl World {
         ensures err { OnErr result (self.new.world ≡ self.old.world) }
         ensures err_recorded { OnErr result (undo.new.backs ≡ undo.old.backs) }
         ensures room { KeepsRoom self.old self.new }
-        ensures spare { self.old.spare ≤ self.new.spare + 1 }
+        ensures spare { (n : ℕ) → free_for self.old n ≤ free_for self.new n + 1 }
         ensures undo_spare { undo.old.spare ≤ undo.new.spare + 1 }
-        ensures enough { IsTrue (takes_none change) → 0 < self.old.spare → 0 < undo.old.spare → IsOk result }
+        ensures enough { IsTrue (takes_none change) → HasPlace self.old change → 0 < undo.old.spare → IsOk result }
         ensures undoable { Undoable self.old undo.old.backs → Undoable self.new undo.new.backs }
     {
         undo.reserve(1)?;
@@ -34,19 +34,19 @@ impl World {
         Ok(())
     }
 
-    /// Makes room for so many changes that enrol a student, take an enrolment away, or set the day. The world and what is
+    /// Makes room for so many changes that enrol this student, take an enrolment away, or set the day. The world and what is
     /// recorded stay.
-    pub fn reserve(&mut self, undo: &mut Undo, n: usize) -> Result<(), Memory>
+    pub fn reserve(&mut self, undo: &mut Undo, student: StudentId, n: usize) -> Result<(), Memory>
         ensures world { self.new.world ≡ self.old.world }
         ensures recorded { undo.new.backs ≡ undo.old.backs }
-        ensures spare { OnOk result (n ≤ self.new.spare) }
+        ensures spare { OnOk result (n ≤ free_for self.new student.0) }
         ensures undo_spare { OnOk result (n ≤ undo.new.spare) }
         ensures room { KeepsRoom self.old self.new }
         ensures undo_room { undo.old.spare ≤ undo.new.spare }
-        ensures enough { n ≤ self.old.spare → n ≤ undo.old.spare → IsOk result }
+        ensures enough { n ≤ free_for self.old student.0 → n ≤ undo.old.spare → IsOk result }
         ensures undoable { Undoable self.old undo.old.backs → Undoable self.new undo.new.backs }
     {
-        self.reserve_roster(n)?;
+        self.reserve_roster(student, n)?;
         undo.reserve(n)
     }
 
@@ -84,12 +84,12 @@ impl World {
         self.take_back(back);
     }
 
-    fn reserve_roster(&mut self, n: usize) -> Result<(), Memory>
+    fn reserve_roster(&mut self, student: StudentId, n: usize) -> Result<(), Memory>
         ensures same { Unchanged self.old self.new }
         ensures uses { KeepsUses self.old self.new }
-        ensures spare { OnOk result (n ≤ self.new.spare) }
-        ensures enough { n ≤ self.old.spare → IsOk result }
+        ensures spare { OnOk result (n ≤ free_for self.new student.0) }
+        ensures enough { n ≤ free_for self.old student.0 → IsOk result }
     {
-        self.parts.roster.reserve(n)
+        self.parts.roster.reserve(student, n)
     }
 }

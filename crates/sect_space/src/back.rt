@@ -35,7 +35,7 @@ pub enum Back {
     DayReplaced(Day, Day),
     /// The enrolment is the last of this student, and in this offering.
     Enrolled(StudentId, Option<OfferingId>),
-    /// The place in the roster, the enrolment, and its offering.
+    /// The place among those of the student, the enrolment, and its offering.
     Left(usize, Enrolment, Option<OfferingId>),
 }
 

@@ -6,6 +6,7 @@ ghost use Rattle.sect_model.specs.Kept.{KeptWorld};
 ghost use Rattle.sect_space.specs.Back.{taken_back};
 ghost use Rattle.sect_space.specs.Made.{Made, Unchanged, Taken, Ready};
 ghost use Rattle.sect_space.specs.Parts.{roomed_of};
+ghost use Rattle.sect_space.specs.Room.{HasPlace};
 ghost use Rattle.sect_space.specs.Undo.{takes_none};
 
 use crate::back::Back;
@@ -20,7 +21,7 @@ impl Parts {
         requires fits { Fits (roomed_of self.old).world change }
         ensures ok { IfOk result (λ back. Made (roomed_of self.old) (roomed_of self.new) change back) }
         ensures err { OnErr result (Unchanged (roomed_of self.old) (roomed_of self.new)) }
-        ensures enough { IsTrue (takes_none change) → 0 < (roomed_of self.old).spare → IsOk result }
+        ensures enough { IsTrue (takes_none change) → HasPlace (roomed_of self.old) change → IsOk result }
     {
         match change {
             Change::Offering(row) => self.add_offering(row),

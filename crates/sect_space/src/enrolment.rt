@@ -1,12 +1,14 @@
 // Changes of the roster, and of the day.
 
-ghost use Rattle.std.specs.Prelude.{◌≡◌, ◌<◌, ◌≤◌, length, insert, IfOk, IsOk, OnErr};
+ghost use Rattle.std.specs.Prelude.{◌≡◌, ◌<◌, ◌≤◌, IfOk, IsOk, OnErr};
 ghost use Rattle.sect_model.specs.Fits.{Fits};
 ghost use Rattle.sect_model.specs.Kept.{KeptWorld};
 ghost use Rattle.sect_model.specs.World.{insert_enrolment};
 ghost use Rattle.sect_space.specs.Back.{taken_back};
 ghost use Rattle.sect_space.specs.Made.{Made, Unchanged, Taken, Ready};
+ghost use Rattle.sect_slots.specs.Rostered.{number_held, put_among};
 ghost use Rattle.sect_space.specs.Parts.{roomed_of};
+ghost use Rattle.sect_space.specs.Room.{free_for};
 
 use crate::back::Back;
 use crate::parts::Parts;
@@ -19,13 +21,13 @@ impl Parts {
     pub fn enrol(&mut self, enrolment: Enrolment) -> Result<Back, Memory>
         ensures ok { IfOk result (λ back. Made (roomed_of self.old) (roomed_of self.new) (Change.Enrol enrolment) back) }
         ensures err { OnErr result (Unchanged (roomed_of self.old) (roomed_of self.new)) }
-        ensures enough { 0 < (roomed_of self.old).spare → IsOk result }
+        ensures enough { 0 < free_for (roomed_of self.old) enrolment.student.0 → IsOk result }
     {
         let back = Back::Enrolled(
             enrolment.student,
             self.course_offering(enrolment.choice.course),
         );
-        self.roster.reserve(1)?;
+        self.roster.reserve(enrolment.student, 1)?;
         self.roster.insert(enrolment);
         Ok(back)
     }
@@ -44,7 +46,7 @@ impl Parts {
         self.roster.remove_last_of(student)
     }
 
-    /// The student leaves the course: the place in the roster, the enrolment, and its offering. It takes no memory.
+    /// The student leaves the course: the place among its own, the enrolment, and its offering. It takes no memory.
     pub fn leave(
         &mut self,
         student: StudentId,
@@ -53,8 +55,8 @@ impl Parts {
         requires kept { KeptWorld (roomed_of self.old).world }
         requires fits { Fits (roomed_of self.old).world (Change.Leave student course) }
         ensures made { Made (roomed_of self.old) (roomed_of self.new) (Change.Leave student course) (Back.Left result.0 result.1 result.2) }
-        ensures within { result.0 ≤ length (roomed_of self.new).world.roster }
-        ensures last { (roomed_of self.old).world.roster ≡ insert (roomed_of self.new).world.roster result.0 result.1 }
+        ensures within { result.0 ≤ number_held result.1.student.0 (roomed_of self.new).world.roster }
+        ensures last { (roomed_of self.old).world.roster ≡ put_among result.0 result.1 (roomed_of self.new).world.roster }
     {
         let offering = self.course_offering(course);
         let (place, enrolment) = self.roster.remove(student, course);

@@ -5,7 +5,7 @@ ghost use Rattle.sect_model.specs.Fits.{Fits};
 ghost use Rattle.sect_numbers.specs.Quiet.{is_quiet as enrols_nobody};
 ghost use Rattle.sect_space.specs.Back.{is_of_quiet};
 ghost use Rattle.sect_space.specs.Made.{Made, Unchanged, Taken};
-ghost use Rattle.sect_space.specs.Room.{KeepsUses};
+ghost use Rattle.sect_space.specs.Room.{HasPlace, KeepsUses, free_for};
 ghost use Rattle.sect_space.specs.Undo.{takes_none};
 ghost use Rattle.sect_space.specs.Undoing.{MadeBy};
 
@@ -21,7 +21,7 @@ impl World {
         ensures ok { IfOk result (λ back. Made self.old self.new change back) }
         ensures err { OnErr result (Unchanged self.old self.new) }
         ensures uses { KeepsUses self.old self.new }
-        ensures enough { IsTrue (takes_none change) → 0 < self.old.spare → IsOk result }
+        ensures enough { IsTrue (takes_none change) → HasPlace self.old change → IsOk result }
     {
         match change {
             Change::Enrol(enrolment) => self.enrol(enrolment),
@@ -37,7 +37,7 @@ impl World {
         ensures ok { IfOk result (λ back. Made self.old self.new change back) }
         ensures err { OnErr result (Unchanged self.old self.new) }
         ensures uses { KeepsUses self.old self.new }
-        ensures enough { IsTrue (takes_none change) → 0 < self.old.spare → IsOk result }
+        ensures enough { IsTrue (takes_none change) → HasPlace self.old change → IsOk result }
     {
         self.numbers.add_rows(&change)?;
         self.parts.change(change)
@@ -48,7 +48,7 @@ impl World {
         ensures ok { IfOk result (λ back. Made self.old self.new (Change.Enrol enrolment) back) }
         ensures err { OnErr result (Unchanged self.old self.new) }
         ensures uses { KeepsUses self.old self.new }
-        ensures enough { 0 < self.old.spare → IsOk result }
+        ensures enough { 0 < free_for self.old enrolment.student.0 → IsOk result }
     {
         let back = self.parts.enrol(enrolment)?;
         self.parts.count_in(&mut self.numbers, &enrolment);

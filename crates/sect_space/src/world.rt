@@ -1,19 +1,20 @@
 // The world: offerings, students, reservations, restrictions, enrolments, and a day.
 
-ghost use Rattle.std.specs.Prelude.{◌≡◌, option_copied};
+ghost use Rattle.std.specs.Prelude.{◌≡◌, option_copied, IfOk};
 ghost use Rattle.sect_model.specs.World.{empty_world, held_by, reservation_of};
 ghost use Rattle.sect_model.specs.Allowed.{reservations_of, restrictions_of};
 ghost use Rattle.sect_model.specs.Refusals.{restriction_of};
 ghost use Rattle.sect_model.specs.Kept.{KeptWorld};
 
 use crate::parts::Parts;
-use sect_base::{OfferingId, ReservationId, RestrictionId, StudentId};
+use sect_base::{Memory, OfferingId, ReservationId, RestrictionId, StudentId};
 use sect_catalog::Catalogue;
 use sect_model::Enrolment;
 use sect_numbers::Numbers;
 use sect_people::People;
 use sect_reserve::{Reservation, Restriction};
-use sect_roster::{Reservations, Restrictions, Roster};
+use sect_roster::{Reservations, Restrictions};
+use sect_slots::Roster;
 use sect_time::Day;
 use std::alloc::Global;
 use std::marker::Model;
@@ -135,12 +136,11 @@ impl World {
         self.parts.roster.of_student(student)
     }
 
-    /// All enrolments, in rising order of student, and for one student in the order in which they were made. It takes no
-    /// memory.
-    pub fn roster(&self) -> &[Enrolment]
-        ensures { result.now ≡ self.now.world.roster }
+    /// All enrolments, in rising order of student, and for one student in the order in which they were made.
+    pub fn roster(&self, alloc: Global) -> Result<Vec<Enrolment>, Memory>
+        ensures { IfOk result (λ roster. roster.items ≡ self.now.world.roster) }
     {
-        self.parts.roster.enrolments()
+        self.parts.roster.list(alloc)
     }
 
     /// The day. It takes no memory.

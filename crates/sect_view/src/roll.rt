@@ -31,7 +31,8 @@ fn held_in(alloc: Global, world: &World, section: SectionId) -> Result<Items<Hel
     ensures { IfOk result (λ held. held ≡ map view_of_enrolment (filter (is_at world.now.world (Level.Section section)) world.now.world.roster)) }
 {
     let mut held = Vec::new(alloc);
-    for enrolment in world.roster() {
+    let roster = world.roster(alloc)?;
+    for enrolment in &roster {
         if world.is_at(Level::Section(section), enrolment) {
             held.push(held_view(enrolment))?;
         }

@@ -18,5 +18,5 @@ returns-clause-ok c =
         day = old.day;
       };
       recorded = refl;
-      room = record { roster = omega arith; reservations = omega arith; restrictions = omega (arith, n, c.insert.ensures.spare) };
+      room = record { roster = λ n. omega arith; reservations = omega arith; restrictions = omega (arith, n, c.insert.ensures.spare) };
     }

@@ -1,15 +1,18 @@
--- one enrolment more, where there was room or room was made
-use Rattle.std.proofs.Common.{◌≡◌, ◌+◌, ◌∙◌, ap, arith, length}
+-- One enrolment more, where there was room or room was made.
+use Rattle.std.proofs.Common.{◌≤◌, ◌∙◌, ap, sym, subst, arith}
 use Rattle.sect_model.specs.World.{insert_enrolment}
+use Rattle.sect_numbers.proofs.MoreLemmas.{inserted}
+use Rattle.sect_slots.specs.Rostered.{capacity_of, number_held}
 use Rattle.sect_space.specs.declared.back.Back.TheVariants.{Enrolled}
-use Rattle.sect_space.proofs.Lengths.{length-put}
+use Rattle.sect_space.specs.Parts.{roomed_of}
+use Rattle.sect_space.proofs.RoomLemmas.{room-more, at-least}
 use Rattle.sect_space.proofs.parts.Parts.enrol.Goals as goal
 
 pub returns-clause-ok : goal.returns-clause-ok
 returns-clause-ok c =
     let old = c.args.self.now in
-    let e = c.insert.ensures.items ∙ ap (insert_enrolment c.args.enrolment) c.reserve.ensures.items in
-    let n : length c.insert.new.self.items ≡ length old.roster.items + 1 = ap length e ∙ length-put (λ x. x.student.0) c.args.enrolment old.roster.items in
+    let e = ap (λ v. v.items) c.insert.ensures ∙ ap (insert_enrolment c.args.enrolment) c.reserve.ensures.items in
+    let rooms = ap (λ v. v.rooms) c.insert.ensures in
     record {
       world = λ i. record {
         catalogue = old.catalogue;
@@ -20,5 +23,11 @@ returns-clause-ok c =
         day = old.day;
       };
       recorded = λ i. Enrolled c.args.enrolment.student (c.course_offering.ensures i);
-      room = record { roster = omega (arith, n, c.insert.ensures.spare, c.reserve.ensures.grows); reservations = omega arith; restrictions = omega arith };
+      room = record {
+        roster = λ n. room-more (roomed_of old) (roomed_of (record old { roster = c.insert.new.self })) n
+            (subst (λ es. number_held n old.roster.items ≤ number_held n es) (sym e) (at-least n old.roster.items (insert_enrolment c.args.enrolment old.roster.items) c.args.enrolment (inserted c.args.enrolment old.roster.items)))
+            (subst (λ rs. capacity_of old.roster.rooms n ≤ capacity_of rs n) (sym rooms) (c.reserve.ensures.grows n));
+        reservations = omega arith;
+        restrictions = omega arith;
+      };
     }

@@ -1,20 +1,30 @@
--- the roster is one enrolment shorter, and has room for one more
-use Rattle.std.proofs.Common.{◌≡◌, ◌+◌, ◌∙◌, ap, arith, length}
-use Rattle.sect_space.proofs.Lengths.{length-put}
+-- The roster has one enrolment less, and its place.
+use Rattle.std.proofs.Common.{◌≤◌, sym, subst, arith}
+use Rattle.sect_numbers.specs.OneMore.{IsMore}
+use Rattle.sect_numbers.proofs.MoreLemmas.{inserted}
+use Rattle.sect_slots.specs.Rostered.{capacity_of, number_held}
+use Rattle.sect_space.specs.Parts.{roomed_of}
+use Rattle.sect_space.proofs.RoomLemmas.{room-less}
 use Rattle.sect_space.proofs.parts.Parts.remove_enrolment.Goals as goal
 
 pub returns-clause-taken : goal.returns-clause-taken
 returns-clause-taken c =
     let old = c.args.self.now in
-    let e : length old.roster.items ≡ length c.remove_last_of.new.self.items + 1 = ap length c.remove_last_of.ensures.back ∙ length-put (λ x. x.student.0) c.remove_last_of.result c.remove_last_of.new.self.items in
+    let last = c.remove_last_of.result in
+    let more = subst (λ es. IsMore c.remove_last_of.new.self.items es last) (sym c.remove_last_of.ensures.back) (inserted last c.remove_last_of.new.self.items) in
     record {
       world = λ i. record {
         catalogue = old.catalogue;
         students = old.people;
         reservations = old.reservations.items;
         restrictions = old.restrictions.items;
-        roster = c.remove_last_of.ensures.rest i;
+        roster = (c.remove_last_of.ensures.rest i).items;
         day = old.day;
       };
-      room = record { roster = omega (arith, e, c.remove_last_of.ensures.spare); reservations = omega arith; restrictions = omega arith };
+      room = record {
+        roster = room-less (roomed_of old) (roomed_of (record old { roster = c.remove_last_of.new.self })) last more (λ i. (c.remove_last_of.ensures.rest i).rooms)
+            (subst (λ s. number_held s.0 old.roster.items ≤ capacity_of old.roster.rooms s.0) (sym c.remove_last_of.ensures.student) c.remove_last_of.ensures.room);
+        reservations = omega arith;
+        restrictions = omega arith;
+      };
     }

@@ -1,0 +1,4 @@
+pub mod Changed
+pub mod Parts
+pub mod Places
+pub mod SlotLemmas

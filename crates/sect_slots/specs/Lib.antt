@@ -1,0 +1,2 @@
+pub mod Rostered
+pub mod Slots
