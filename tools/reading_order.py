@@ -120,7 +120,8 @@ CHAPTERS = [
     ('The lists of the world',
      'What the containers of enrolments, reservations and restrictions show, and what undoing a change of them gives '
      'back.',
-     ['sect_roster/specs/' + n + '.antt' for n in ('Listed', 'Last', 'Undone')]),
+     ['sect_roster/specs/' + n + '.antt' for n in ('Listed', 'Last', 'Undone')]
+     + ['sect_slots/specs/' + n + '.antt' for n in ('Rostered', 'Slots')]),
     ('Numbers beside the enrolments',
      'Counts by id, the numbers of a world, and what one enrolment more, one less and each other change do to them.',
      ['sect_numbers/specs/' + n + '.antt' for n in ('Tally', 'Numbers', 'OneMore', 'Laws', 'Quiet', 'Own', 'Held')]),
@@ -194,6 +195,16 @@ CHAPTERS = [
      + ['sect_intake/specs/' + n + '.antt' for n in ('Numbers', 'Asking', 'Table', 'Opened', 'Machine')]
      + ['sect_making/specs/' + n + '.antt' for n in ('Generated', 'Made', 'Stages')]
      + ['sect_app/specs/' + n + '.antt' for n in ('Top', 'Machine')]),
+    ('Requests and answers over HTTP',
+     'What a head says of its body and its connection, what a path asks for, the commands of bodies, and the texts of '
+     'answers.',
+     ['sect_head/specs/' + n + '.antt' for n in ('Blank', 'Framing', 'Closing', 'Outcome')]
+     + ['sect_route/specs/Targets.antt']
+     + ['sect_json/specs/' + n + '.antt' for n in ('Values', 'Bodies', 'Answers')]
+     + ['sect_page/specs/' + n + '.antt' for n in ('Pages', 'Said')]),
+    ('One connection',
+     'What a connection asks and is answered, over any state; and what comes of waiting for a head or a body.',
+     ['sect_talk/specs/' + n + '.antt' for n in ('Asked', 'Rest', 'Talk', 'Coming')]),
     ('The turn and the office',
      'One value under a turn, and the passes that share it.',
      ['sect_turn/specs/' + n + '.antt' for n in ('Seats', 'Rule', 'Steps', 'Passes')]
