@@ -237,6 +237,7 @@ SENTENCES = {
     ('sect_catalog/specs/Limits.antt', 'put_in_config'): 'the configuration with the limit at a section of this place',
     ('sect_catalog/specs/Limits.antt', 'put_section'): 'the row with the limit at a section of this place',
     ('sect_people/specs/Order.antt', 'insert_by'): 'an element put before the first of no smaller key',
+    ('sect_talk/specs/Asked.antt', 'is_headless'): 'the answer leaves out its body',
     ('sect_turn/specs/Rule.antt', 'share_of'): 'the share of a seat',
     ('sect_turn/specs/Rule.antt', 'IsKept'): 'what the turn keeps: who is served, that shares add up, and that the notes since the opening are the own calls of the seats',
     ('sect_turn/specs/Steps.antt', 'with_ticket'): 'the seat has drawn a ticket',
