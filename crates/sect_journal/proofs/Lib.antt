@@ -9,3 +9,4 @@ mod Opened
 mod Runs
 mod Replays
 mod Picks
+mod Windows

@@ -8,6 +8,7 @@ ghost use Rattle.sect_journal.specs.Text.{record_of};
 ghost use Rattle.sect_journal.specs.Standing.{Appends, IsLoose, Leaves, LeavesNow, appended, shut, where_told};
 
 use crate::through::write_through;
+use crate::window::Window;
 use crate::{Disk, DiskFault};
 use std::alloc::{AllocError, AllocFailed, Global};
 use std::marker::Model;
@@ -58,12 +59,14 @@ pub struct Journal<D: Disk> {
     pub(crate) spans: Vec<Span>,
     pub(crate) gate: u64,
     pub(crate) torn: bool,
+    pub(crate) window: Window,
     pub(crate) buffer: Vec<u8>,
 }
 
 impl<D: Disk> Model for Journal<D> {
     ghost use Rattle.std.specs.Prelude.{◌<◌, ◌^◌, ◌-◌, length, vec_capacity};
     ghost use Rattle.sect_journal.specs.Standing.{Standing, rows_at, loose_at, IsKept};
+    ghost use Rattle.sect_journal.specs.Windows.{IsWindow};
 
     ghost Value = { Standing D };
 
@@ -76,7 +79,8 @@ impl<D: Disk> Model for Journal<D> {
       room = vec_capacity j.spans - length j.spans.items;
     } };
 
-    ghost invariant = { λ j. (j.gate < 2 ^ 62) × IsKept (D.told j.disk) j.spans.items j.gate j.torn };
+    ghost invariant = { λ j. (j.gate < 2 ^ 62) × IsKept (D.told j.disk) j.spans.items j.gate j.torn
+        × IsWindow (D.told j.disk) j.window.place j.window.bytes.items };
 }
 
 // What stands behind the gate of a row: its length, the row and a closed gate.
@@ -102,6 +106,7 @@ impl<D: Disk> Journal<D> {
             spans: _,
             gate: _,
             torn: _,
+            window: _,
             buffer: _,
         } = self;
         disk
@@ -127,6 +132,7 @@ impl<D: Disk> Journal<D> {
         if !self.torn {
             return Ok(());
         }
+        self.window.close();
         write_through(&mut self.disk, self.gate, &[0])?;
         self.torn = false;
         Ok(())
@@ -146,6 +152,7 @@ impl<D: Disk> Journal<D> {
         ensures moments { Stays (D.told self.old.disk) (D.told self.new.disk) (Leaves self.old.rows (row.now ∷ [])) }
         ensures cause { HasCauseFor DiskFault.Failed (D.faults self.old.disk) (D.faults self.new.disk) result }
     {
+        self.window.close();
         write_through(&mut self.disk, self.gate + 1, text)?;
         self.torn = true;
         Ok(())
@@ -165,6 +172,7 @@ impl<D: Disk> Journal<D> {
         ensures moments { Stays (D.told self.old.disk) (D.told self.new.disk) (Leaves self.old.rows self.old.loose) }
         ensures cause { HasCauseFor DiskFault.Failed (D.faults self.old.disk) (D.faults self.new.disk) result }
     {
+        self.window.close();
         write_through(&mut self.disk, self.gate, &[1])?;
         match self.spans.push(Span {
             start: self.gate + 9,

@@ -32,7 +32,7 @@ impl<D: Disk> Journal<D> {
         };
         into.clear();
         into.resize(span.length as usize, 0)?;
-        let count = self.disk.read_at(span.start, into)?;
+        let count = self.window.read_at(&mut self.disk, span.start, into)?;
         Ok(count == into.len())
     }
 }
@@ -56,7 +56,7 @@ impl<D: Disk> Keeper for Journal<D> {
         Ok(())
     }
 
-    /// One call of the disk.
+    /// At most one call of the disk, and none where the row stands near one that was read before, with no append since.
     fn row(&mut self, at: u64, into: &mut Vec<u8>) -> Result<bool, KeepFault>
         ensures found { IfOk result (λ found. FindsRow (told_rows (D.told self.old.disk) self.old.rows) at found into.new.items) }
         ensures rows { KeepsRows (told_rows (D.told self.old.disk) self.old.rows) (told_rows (D.told self.new.disk) self.new.rows) }

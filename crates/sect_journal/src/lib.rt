@@ -9,6 +9,7 @@ mod law;
 mod memory;
 mod open;
 mod through;
+mod window;
 
 pub use disk::{Disk, DiskFault};
 pub use journal::{Journal, JournalFault};
