@@ -10,3 +10,4 @@ mod Runs
 mod Replays
 mod Picks
 mod Windows
+mod Groups

@@ -1,5 +1,5 @@
 // A journal as a keeper of rows.
-ghost use Rattle.std.specs.Prelude.{◌≡◌, IfOk, OnOk, OnErr, is_ok};
+ghost use Rattle.std.specs.Prelude.{◌≡◌, ◌∷◌, [], IfOk, OnOk, OnErr, is_ok};
 ghost use Rattle.sect_edge.specs.declared.edge.KeepFault.{KeepFault};
 ghost use Rattle.sect_edge.specs.Causes.{HasCauseFor};
 ghost use Rattle.sect_edge.specs.Keeper.{KeepsRows, AddsRow, FindsRow, CountsRows};
@@ -49,10 +49,10 @@ impl<D: Disk> Keeper for Journal<D> {
         ensures cause { HasCauseFor KeepFault.Failed (D.faults self.old.disk) (D.faults self.new.disk) result }
 
         // What was written, and what a crash leaves at each moment and afterwards.
-        ensures told { OnOk result (D.told self.new.disk ≡ appended (D.told self.old.disk) self.old.gate self.old.torn row.now) }
-        ensures appends { Appends D.told row.now (is_ok result) self.old self.new }
+        ensures told { OnOk result (D.told self.new.disk ≡ appended (D.told self.old.disk) self.old.gate self.old.torn (row.now ∷ [])) }
+        ensures appends { Appends D.told (row.now ∷ []) (is_ok result) self.old self.new }
     {
-        self.keep(row)?;
+        self.keep(&[row])?;
         Ok(())
     }
 
