@@ -1,5 +1,5 @@
 -- What the writes of a journal keep, wherever they stop.
-use Rattle.std.proofs.Common.{◌≡◌, ◌⊎◌, inl, inr, ⊎_elim, ℕ, ◌+◌, ◌<◌, ◌≤◌, Bool, true, false, List, [], ◌∷◌, ◌++◌, length, get_or, take, drop, map, All, Contains, Option, Some, None, Result, Ok, Err, OnOk, OnErr, is_ok, refl, sym, ◌∙◌, ap, subst, arith, append_assoc}
+use Rattle.std.proofs.Common.{◌≡◌, ◌⊎◌, inl, inr, ⊎_elim, ℕ, ◌+◌, ◌<◌, ◌≤◌, Bool, true, false, List, [], ◌∷◌, ◌++◌, length, get_or, take, drop, map, All, Contains, Option, Some, None, Result, Ok, Err, OnOk, OnErr, is_ok, refl, sym, ◌∙◌, ap, subst, arith, append_assoc, append-nil}
 use Rattle.std.proofs.lemmas.List.{take-take, drop-take, get_or-take, get_or-drop}
 use Rattle.std.proofs.lemmas.List.Elements.{All-nil, All-head, All-tail, All-push, All-cons, All-append, All-weaker, All-contains_itself, Contains-append_left, Contains-append_right}
 use Rattle.sect_journal.specs.declared.journal.Span.{Span}
@@ -233,3 +233,18 @@ module _ {D T E : Type 0} (told : D → Option Told) (group : List (List ℕ)) (
       → LeavesNow new.rows new.loose (told new.disk) → Appends told group (is_ok result) old new
   appends_of (Ok x) rows same loose may moments now = record { rows = rows; loose = subst (λ l. All (Contains {X = List (List ℕ)} []) l) (sym loose) (All-nil (Contains {X = List (List ℕ)} [])); moments = moments; now = now }
   appends_of (Err e) rows same loose may moments now = record { rows = same; loose = may; moments = moments; now = now }
+
+no_group : (place : Option Told) (rows : List (List ℕ)) → rows ≡ rows ++ where_told {X = List ℕ} place []
+no_group None rows = sym (append-nil rows)
+no_group (Some t) rows = sym (append-nil rows)
+
+module _ {D T E : Type 0} (told : D → Option Told) (old new : Standing D) where
+  -- so does the closing of a gate, for a group without rows
+  pub settles_none : (P Q : Type 0) (result : Result T E) → OnOk result (P × (new.loose ≡ []) × Q) → OnErr result (new.loose ≡ old.loose) → new.rows ≡ old.rows
+      → Stays (told old.disk) (told new.disk) (Leaves old.rows old.loose) → LeavesNow new.rows new.loose (told new.disk) → Appends told [] (is_ok result) old new
+  settles_none P Q (Ok x) (p, loose, q) same rows stays now =
+      let done : Result T E = Ok x in
+      appends_of told [] old new done (rows ∙ no_group (told old.disk) old.rows) tt loose tt (stays_settling (told old.disk) (told new.disk) old.rows old.loose [] stays) now
+  settles_none P Q (Err e) done same rows stays now =
+      let failed : Result T E = Err e in
+      appends_of told [] old new failed tt rows tt (loose_as_before new.loose old.loose [] same) (stays_settling (told old.disk) (told new.disk) old.rows old.loose [] stays) now

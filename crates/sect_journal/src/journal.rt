@@ -254,6 +254,18 @@ impl<D: Disk> Journal<D> {
         self.buffer = text;
     }
 
+    // Of a group without rows: closes the present gate, where that is to be done first, and no more.
+    pub(crate) fn keep_none(&mut self) -> Result<(), DiskFault>
+        ensures told { OnOk result (D.told self.new.disk ≡ shut (D.told self.old.disk) self.old.gate self.old.torn) }
+        ensures appends { Appends D.told [] (is_ok result) self.old self.new }
+        ensures cause { HasCauseFor DiskFault.Failed (D.faults self.old.disk) (D.faults self.new.disk) result }
+    {
+        self.is_sound();
+        let result = self.settle();
+        self.is_sound();
+        result
+    }
+
     // The same, with a buffer that is used again.
     pub(crate) fn keep(&mut self, rows: &[&[u8]]) -> Result<(), DiskFault>
         requires some { 0 < length rows.now }
