@@ -7,7 +7,7 @@ use Rattle.std.proofs.lemmas.List.Elements.{All-head, All-tail, All-weaker}
 use Rattle.sect_journal.specs.declared.journal.Span.{Span}
 use Rattle.sect_journal.specs.Disk.{Content, Told, IsImage, is_touched, reach}
 use Rattle.sect_journal.specs.Text.{journal_rows, with_rows, rows_from, rows_behind}
-use Rattle.sect_journal.specs.Standing.{IsFront, IsClosed, IsAtRest, IsTorn, HasRows, IsKept, Leaves, LeavesNow, cut, rows_at, loose_at}
+use Rattle.sect_journal.specs.Standing.{IsFront, IsAtRest, IsTorn, HasRows, IsKept, Leaves, LeavesNow, cut, rows_at, loose_at}
 use Rattle.sect_journal.proofs.Front.{reads_closed}
 
 -- a place below each range

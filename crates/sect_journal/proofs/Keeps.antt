@@ -1,11 +1,11 @@
 -- What the writes of a journal keep, wherever they stop.
 use Rattle.std.proofs.Common.{◌≡◌, ◌⊎◌, inl, inr, ⊎_elim, ℕ, ◌+◌, ◌<◌, ◌≤◌, Bool, true, false, List, [], ◌∷◌, ◌++◌, length, get_or, take, drop, map, All, Contains, Option, Some, None, Result, Ok, Err, OnOk, OnErr, is_ok, refl, sym, ◌∙◌, ap, subst, arith, append_assoc, append-nil}
-use Rattle.std.proofs.lemmas.List.{take-take, drop-take, get_or-take, get_or-drop}
+use Rattle.std.proofs.lemmas.List.{take-take, drop-take, get_or-take}
 use Rattle.std.proofs.lemmas.List.Elements.{All-nil, All-head, All-tail, All-push, All-cons, All-append, All-weaker, All-contains_itself, Contains-append_left, Contains-append_right}
 use Rattle.sect_journal.specs.declared.journal.Span.{Span}
 use Rattle.sect_journal.specs.Disk.{Content, Told, Torn, touched, goes_to, Tears, moments, StaysIn, Stays}
 use Rattle.sect_journal.specs.Text.{rows_from, rows_behind}
-use Rattle.sect_journal.specs.Standing.{IsFront, IsClosed, IsAtRest, IsTorn, HasRows, IsKept, Leaves, cut, rows_at, loose_at, where_told, LeavesNow, Standing, Appends}
+use Rattle.sect_journal.specs.Standing.{IsFront, IsAtRest, IsTorn, HasRows, IsKept, Leaves, cut, rows_at, loose_at, where_told, LeavesNow, Standing, Appends}
 use Rattle.sect_journal.proofs.Images.{rest_leaves, torn_leaves}
 
 cut_same : (old new : List ℕ) (gate : ℕ) (span : Span) → take gate new ≡ take gate old → span.start + span.length ≤ gate → cut new span ≡ cut old span

@@ -15,6 +15,3 @@ pub use disk::{Disk, DiskFault};
 pub use journal::{Journal, JournalFault};
 pub use law::no_acknowledged_row_is_lost;
 pub use memory::{DiskCall, MemDisk};
-
-#[cfg(test)]
-mod tests;

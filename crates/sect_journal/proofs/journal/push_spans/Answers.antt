@@ -1,5 +1,4 @@
-use Rattle.std.proofs.Common.{◌+◌, ◌≤◌, [], length, map, slice_index_or, arith}
-use Rattle.sect_journal.specs.Standing.{gate_behind}
+use Rattle.std.proofs.Common.{[], arith}
 use Rattle.sect_journal.proofs.Groups.{behind_first}
 use Rattle.sect_journal.proofs.journal.push_spans.Goals as goal
 
