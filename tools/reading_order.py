@@ -219,7 +219,8 @@ CHAPTERS = [
 
 # what private functions' contracts cite: a body's own words, which no public contract has
 INSIDE = ['sect_time/specs/WeekScan.antt', 'sect_catalog/specs/Place.antt', 'sect_catalog/specs/Rising.antt',
-          'sect_catalog/specs/Search.antt', 'sect_people/specs/Index.antt', 'sect_roster/specs/Filed.antt', 'sect_intake/specs/Underway.antt']
+          'sect_catalog/specs/Search.antt', 'sect_people/specs/Index.antt', 'sect_roster/specs/Filed.antt', 'sect_intake/specs/Underway.antt',
+          'sect_journal/specs/Windows.antt']
 
 BASE, CATALOG, PEOPLE = 'sect_base/specs/', 'sect_catalog/specs/', 'sect_people/specs/'
 # for definitions of the lower crates that have no sentence of their own

@@ -6,9 +6,9 @@ use Rattle.std.proofs.lemmas.List.{length-take-le, take-take, take-append-drop, 
 use Rattle.std.proofs.lemmas.List.Elements.{All-head, All-tail, All-weaker}
 use Rattle.sect_journal.specs.declared.journal.Span.{Span}
 use Rattle.sect_journal.specs.Disk.{Content, Told, IsImage, is_touched, reach}
-use Rattle.sect_journal.specs.Text.{journal_rows, with_rows, rows_from, row_length, row_behind, holds_row}
-use Rattle.sect_journal.specs.Standing.{IsFront, IsClosed, IsAtRest, IsTorn, HasRows, IsKept, Leaves, LeavesNow, cut, rows_at, loose_at}
-use Rattle.sect_journal.proofs.Front.{reads_closed, reads_open}
+use Rattle.sect_journal.specs.Text.{journal_rows, with_rows, rows_from, rows_behind}
+use Rattle.sect_journal.specs.Standing.{IsFront, IsAtRest, IsTorn, HasRows, IsKept, Leaves, LeavesNow, cut, rows_at, loose_at}
+use Rattle.sect_journal.proofs.Front.{reads_closed}
 
 -- a place below each range
 untouched_below : (ranges : List (ℕ × ℕ)) (k i : ℕ) → All (λ range. k ≤ range.0) ranges → i < k → is_touched ranges i ≡ false
@@ -96,41 +96,30 @@ rest_opens c spans gate has rest image is =
     sym (get_or-take (gate + 1) image gate 0 (omega arith)) ∙ ap (λ l. get_or l gate 0) front ∙ get_or-take (gate + 1) c.seen gate 0 (omega arith) in
     reads_at_closed c.seen image gate (map (cut c.seen) spans) has.front same (omega (arith, is.no_shorter)) (λ open_gate. rest.closed.closed (sym byte ∙ open_gate))
 
-pub rest_leaves : (c : Content) (spans : List Span) (gate : ℕ) (more : List (List ℕ)) → HasRows c.seen spans gate → IsAtRest c gate → Leaves (map (cut c.seen) spans) more c
+pub rest_leaves : (c : Content) (spans : List Span) (gate : ℕ) (more : List (List (List ℕ))) → HasRows c.seen spans gate → IsAtRest c gate → Leaves (map (cut c.seen) spans) more c
 rest_leaves c spans gate more has rest image is = inl (rest_opens c spans gate has rest image is)
 
--- what follows a whole record with a closed gate behind it
-pub reads_last : (place gate : ℕ) (seen : List ℕ) → holds_row (drop (gate + 1) seen) ≡ true → IsClosed seen (gate + 9 + row_length (drop (gate + 1) seen))
-    → rows_from place 0 (1 ∷ drop (gate + 1) seen) ≡ Ok (row_behind (drop (gate + 1) seen) ∷ [])
-reads_last place gate seen holds closed =
-    let bytes = drop (gate + 1) seen in
-    let n = row_length bytes in
-    let size : length bytes ≡ length seen - (gate + 1) = length-drop (gate + 1) seen in
-    let at_closed : get_or bytes (8 + n) 0 ≡ get_or seen (gate + 9 + n) 0 = get_or-drop (gate + 1) seen (8 + n) 0 ∙ (let e : gate + 1 + (8 + n) ≡ gate + 9 + n = omega arith in ap (λ k. get_or seen k 0) e) in
-    reads_open place bytes holds
-    ∙ ap (λ l. with_rows (row_behind bytes ∷ []) (rows_from (place + 9 + n) 0 l)) (drop_more bytes (8 + n) 0 (omega (arith, closed.inside)))
-    ∙ ap (λ r. with_rows (row_behind bytes ∷ []) r) (reads_closed (place + 9 + n) (get_or bytes (8 + n) 0) (drop (8 + n + 1) bytes) (λ open_gate. closed.closed (sym at_closed ∙ open_gate)))
+pub only_one : {X : Type 0} (x : X) → Contains (x ∷ []) x
+only_one x = (0, omega arith, refl)
 
-pub only_one : (row : List ℕ) → Contains (row ∷ []) row
-only_one row = (0, omega arith, refl)
-
--- torn, each opens to them, or to them and the row behind the gate
-pub torn_leaves : (c : Content) (spans : List Span) (gate : ℕ) → HasRows c.seen spans gate → IsTorn c gate → Leaves (map (cut c.seen) spans) (row_behind (drop (gate + 1) c.seen) ∷ []) c
+-- torn, each opens to them, or to them and the group behind the gate
+pub torn_leaves : (c : Content) (spans : List Span) (gate : ℕ) → HasRows c.seen spans gate → IsTorn c gate → Leaves (map (cut c.seen) spans) (rows_behind gate (drop (gate + 1) c.seen) ∷ []) c
 torn_leaves c spans gate has torn image is =
     let rows = map (cut c.seen) spans in
-    let row = row_behind (drop (gate + 1) c.seen) in
+    let bytes = drop (gate + 1) c.seen in
     let front : take gate image ≡ take gate c.seen =
     image_front c image gate is (omega (arith, torn.inside)) (All-weaker (λ range. range ≡ (gate, 1)) (λ range. gate ≤ range.0) (λ range e. let start : range.0 ≡ gate = ap (λ r. r.0) e in omega arith) c.pending torn.at_gate) ∙ torn.front in
     let behind = image_behind c image gate is torn.inside torn.at_gate in
     let inside : gate < length image = omega (arith, behind.size, torn.inside) in
     elim (cases_eq (get_or image gate 0) 1) [
       | inl open_gate ↦ inr (
-        row,
-        only_one row,
+        rows_behind gate bytes,
+        only_one (rows_behind gate bytes),
         reads_at_gate c.seen image gate rows has.front front inside
             ∙ ap (λ b. with_rows rows (rows_from (length (take gate c.seen)) 0 (b ∷ drop (gate + 1) image))) open_gate
             ∙ ap (λ l. with_rows rows (rows_from (length (take gate c.seen)) 0 (1 ∷ l))) (behind.same ∙ torn.back)
-            ∙ ap (λ r. with_rows rows r) (reads_last (length (take gate c.seen)) gate c.seen torn.whole torn.closed),
+            ∙ ap (λ k. with_rows rows (rows_from k 0 (1 ∷ bytes))) (length-take-le gate c.seen (omega (arith, has.within)))
+            ∙ ap (λ r. with_rows rows r) torn.whole,
       )
       | inr shut ↦ inl (reads_at_closed c.seen image gate rows has.front front inside shut)
     ]

@@ -1,11 +1,11 @@
 -- What the writes of a journal keep, wherever they stop.
-use Rattle.std.proofs.Common.{◌≡◌, ◌⊎◌, inl, inr, ⊎_elim, ℕ, ◌+◌, ◌<◌, ◌≤◌, Bool, true, false, List, [], ◌∷◌, ◌++◌, length, get_or, take, drop, map, All, Contains, Option, Some, None, Result, Ok, Err, OnOk, OnErr, is_ok, refl, sym, ◌∙◌, ap, subst, arith, append_assoc}
-use Rattle.std.proofs.lemmas.List.{take-take, drop-take, get_or-take, get_or-drop}
+use Rattle.std.proofs.Common.{◌≡◌, ◌⊎◌, inl, inr, ⊎_elim, ℕ, ◌+◌, ◌<◌, ◌≤◌, Bool, true, false, List, [], ◌∷◌, ◌++◌, length, get_or, take, drop, map, All, Contains, Option, Some, None, Result, Ok, Err, OnOk, OnErr, is_ok, refl, sym, ◌∙◌, ap, subst, arith, append_assoc, append-nil}
+use Rattle.std.proofs.lemmas.List.{take-take, drop-take, get_or-take}
 use Rattle.std.proofs.lemmas.List.Elements.{All-nil, All-head, All-tail, All-push, All-cons, All-append, All-weaker, All-contains_itself, Contains-append_left, Contains-append_right}
 use Rattle.sect_journal.specs.declared.journal.Span.{Span}
 use Rattle.sect_journal.specs.Disk.{Content, Told, Torn, touched, goes_to, Tears, moments, StaysIn, Stays}
-use Rattle.sect_journal.specs.Text.{row_length, row_behind, holds_row}
-use Rattle.sect_journal.specs.Standing.{IsFront, IsClosed, IsAtRest, IsTorn, HasRows, IsKept, Leaves, cut, rows_at, loose_at, where_told, LeavesNow, Standing, Appends}
+use Rattle.sect_journal.specs.Text.{rows_from, rows_behind}
+use Rattle.sect_journal.specs.Standing.{IsFront, IsAtRest, IsTorn, HasRows, IsKept, Leaves, cut, rows_at, loose_at, where_told, LeavesNow, Standing, Appends}
 use Rattle.sect_journal.proofs.Images.{rest_leaves, torn_leaves}
 
 cut_same : (old new : List ℕ) (gate : ℕ) (span : Span) → take gate new ≡ take gate old → span.start + span.length ≤ gate → cut new span ≡ cut old span
@@ -31,14 +31,6 @@ has_same old new spans gate has same lt = record {
 pub torn_front : (old new : List ℕ) (at n k : ℕ) → Torn at n old new → k ≤ at → take k new ≡ take k old
 torn_front old new at n k torn le = sym (take-take k at new le) ∙ ap (λ l. take k l) torn.before ∙ take-take k at old le
 
--- a gate behind the one that was written stays closed
-pub closed_behind : (old new : List ℕ) (gate m : ℕ) → drop (gate + 1) new ≡ drop (gate + 1) old → length old ≤ length new → IsClosed old (gate + 9 + m) → IsClosed new (gate + 9 + m)
-closed_behind old new gate m same le closed =
-    let place : gate + 1 + (8 + m) ≡ gate + 9 + m = omega arith in
-    let byte : get_or new (gate + 9 + m) 0 ≡ get_or old (gate + 9 + m) 0 =
-    ap (λ k. get_or new k 0) (sym place) ∙ sym (get_or-drop (gate + 1) new (8 + m) 0) ∙ ap (λ l. get_or l (8 + m) 0) same ∙ get_or-drop (gate + 1) old (8 + m) 0 ∙ ap (λ k. get_or old k 0) place in
-    record { inside = omega (arith, closed.inside); closed = λ opens. closed.closed (sym byte ∙ opens) }
-
 -- a write behind the gate
 pub rest_goes_on : (c : Content) (gate n : ℕ) (seen : List ℕ) → IsAtRest c gate → Torn (gate + 1) n c.seen seen → IsAtRest (touched c (gate + 1) n seen) gate
 rest_goes_on c gate n seen rest torn =
@@ -56,8 +48,7 @@ torn_goes_on c gate seen torn write = record {
   front = torn.front ∙ sym write.before;
   back = torn.back ∙ sym write.after;
   inside = torn.inside;
-  whole = subst (λ l. holds_row l ≡ true) (sym write.after) torn.whole;
-  closed = subst (λ l. IsClosed seen (gate + 9 + row_length l)) (sym write.after) (closed_behind c.seen seen gate (row_length (drop (gate + 1) c.seen)) write.after write.no_shorter torn.closed);
+  whole = subst (λ l. rows_from gate 0 (1 ∷ l) ≡ Ok (rows_behind gate l)) (sym write.after) torn.whole;
   at_gate = All-push (λ range. range ≡ (gate, 1)) c.pending (gate, 1) torn.at_gate refl;
 }
 
@@ -101,8 +92,8 @@ torn_halts t seen spans gate has torn write =
     let has_new = has_same t.now.seen seen spans gate has write.before (omega (arith, has.within, write.no_shorter)) in
     let torn_new = torn_goes_on t.now gate seen torn write in
     let c = touched t.now gate 1 seen in
-    let loose : row_behind (drop (gate + 1) seen) ∷ [] ≡ row_behind (drop (gate + 1) t.now.seen) ∷ [] = ap (λ l. row_behind l ∷ []) write.after in
-    let more = row_behind (drop (gate + 1) t.now.seen) ∷ [] in
+    let loose : rows_behind gate (drop (gate + 1) seen) ∷ [] ≡ rows_behind gate (drop (gate + 1) t.now.seen) ∷ [] = ap (λ l. rows_behind gate l ∷ []) write.after in
+    let more = rows_behind gate (drop (gate + 1) t.now.seen) ∷ [] in
     record {
       kept = (has_new, torn_new);
       rows = rows;
@@ -119,7 +110,7 @@ torn_halts t seen spans gate has torn write =
 halts_here : (told : Option Told) (spans : List Span) (gate : ℕ) (torn : Bool) → IsKept told spans gate torn → Halted told told spans gate torn
 halts_here None spans gate torn kept = record { kept = tt; rows = refl; loose = refl; stays = refl }
 halts_here (Some t) spans gate false kept = record { kept = kept; rows = refl; loose = refl; stays = (t, refl, stays_none t (Leaves (map (cut t.now.seen) spans) []) (rest_leaves t.now spans gate [] kept.0 kept.1)) }
-halts_here (Some t) spans gate true kept = record { kept = kept; rows = refl; loose = refl; stays = (t, refl, stays_none t (Leaves (map (cut t.now.seen) spans) (row_behind (drop (gate + 1) t.now.seen) ∷ [])) (torn_leaves t.now spans gate kept.0 kept.1)) }
+halts_here (Some t) spans gate true kept = record { kept = kept; rows = refl; loose = refl; stays = (t, refl, stays_none t (Leaves (map (cut t.now.seen) spans) (rows_behind gate (drop (gate + 1) t.now.seen) ∷ [])) (torn_leaves t.now spans gate kept.0 kept.1)) }
 
 -- a write behind the gate may stop anywhere
 pub halts_rest : (told new : Option Told) (n : ℕ) (spans : List Span) (gate : ℕ) → IsKept told spans gate false → (new ≡ told) ⊎ Tears told (gate + 1) n new → Halted told new spans gate false
@@ -167,22 +158,22 @@ stays_join (Some t) mid new P (u, is, s) late = joined (subst (λ m. Stays m new
     joined (v, is_new, later) = (v, is_new, stays_join_told t u v P s later)
 
 -- more rows may follow than are said to
-pub leaves_more : (rows more most : List (List ℕ)) → ((row : List ℕ) → Contains more row → Contains most row) → (c : Content) → Leaves rows more c → Leaves rows most c
+pub leaves_more : (rows : List (List ℕ)) (more most : List (List (List ℕ))) → ((group : List (List ℕ)) → Contains more group → Contains most group) → (c : Content) → Leaves rows more c → Leaves rows most c
 leaves_more rows more most wider c leaves image is = ⊎_elim (λ same. inl same) (λ follows. inr (follows.0, wider follows.0 follows.1, follows.2)) (leaves image is)
 
-none_contained : (row : List ℕ) → Contains {X = List ℕ} [] row → ⊥
-none_contained row (k, lt, is) = omega arith
+none_contained : {X : Type 0} (x : X) → Contains {X = X} [] x → ⊥
+none_contained x (k, lt, is) = omega arith
 
--- with no loose row any may be said to follow
-pub stays_rest : (told new : Option Told) (rows more : List (List ℕ)) → Stays told new (Leaves rows []) → Stays told new (Leaves rows more)
-stays_rest told new rows more stays = stays_weaker told new (Leaves rows []) (Leaves rows more) (leaves_more rows [] more (λ row none. absurd (none_contained row none))) stays
+-- with no loose group any may be said to follow
+pub stays_rest : (told new : Option Told) (rows : List (List ℕ)) (more : List (List (List ℕ))) → Stays told new (Leaves rows []) → Stays told new (Leaves rows more)
+stays_rest told new rows more stays = stays_weaker told new (Leaves rows []) (Leaves rows more) (leaves_more rows [] more (λ group none. absurd (none_contained group none))) stays
 
 loose_none : (told : Option Told) (gate : ℕ) (torn : Bool) → torn ≡ false → loose_at told gate torn ≡ []
 loose_none None gate torn is = refl
 loose_none (Some t) gate false is = refl
 loose_none (Some t) gate true is = absurd (cc)
 
-pub halts_staging : (told new : Option Told) (n : ℕ) (spans : List Span) (gate : ℕ) (torn : Bool) (more : List (List ℕ)) → torn ≡ false → IsKept told spans gate torn → (new ≡ told) ⊎ Tears told (gate + 1) n new
+pub halts_staging : (told new : Option Told) (n : ℕ) (spans : List Span) (gate : ℕ) (torn : Bool) (more : List (List (List ℕ))) → torn ≡ false → IsKept told spans gate torn → (new ≡ told) ⊎ Tears told (gate + 1) n new
     → Stays told new (Leaves (rows_at told spans) more)
 halts_staging told new n spans gate torn more is kept halts =
     stays_rest told new (rows_at told spans) more (subst (λ l. Stays told new (Leaves (rows_at told spans) l)) (loose_none told gate torn is) ((halts_unless_torn told new n spans gate torn is kept halts).stays))
@@ -193,52 +184,67 @@ on_err_of (Ok x) p = tt
 on_err_of (Err e) p = p
 
 -- an append whose writes haven't begun
-pub stays_here : (told : Option Told) (rows loose : List (List ℕ)) (row : List ℕ) → LeavesNow rows loose told → Stays told told (Leaves rows (loose ++ row ∷ []))
-stays_here None rows loose row now = refl
-stays_here (Some t) rows loose row now = (t, refl, stays_none t (Leaves rows (loose ++ row ∷ [])) (leaves_more rows loose (loose ++ row ∷ []) (λ r has. Contains-append_left loose (row ∷ []) r has) t.now now))
+pub stays_here : (told : Option Told) (rows : List (List ℕ)) (loose : List (List (List ℕ))) (group : List (List ℕ)) → LeavesNow rows loose told → Stays told told (Leaves rows (loose ++ group ∷ []))
+stays_here None rows loose group now = refl
+stays_here (Some t) rows loose group now = (t, refl, stays_none t (Leaves rows (loose ++ group ∷ [])) (leaves_more rows loose (loose ++ group ∷ []) (λ r has. Contains-append_left loose (group ∷ []) r has) t.now now))
 
 -- the gate is being closed
-pub stays_settling : (told new : Option Told) (rows loose : List (List ℕ)) (row : List ℕ) → Stays told new (Leaves rows loose) → Stays told new (Leaves rows (loose ++ row ∷ []))
-stays_settling told new rows loose row stays = stays_weaker told new (Leaves rows loose) (Leaves rows (loose ++ row ∷ [])) (leaves_more rows loose (loose ++ row ∷ []) (λ r has. Contains-append_left loose (row ∷ []) r has)) stays
+pub stays_settling : (told new : Option Told) (rows : List (List ℕ)) (loose : List (List (List ℕ))) (group : List (List ℕ)) → Stays told new (Leaves rows loose) → Stays told new (Leaves rows (loose ++ group ∷ []))
+stays_settling told new rows loose group stays = stays_weaker told new (Leaves rows loose) (Leaves rows (loose ++ group ∷ [])) (leaves_more rows loose (loose ++ group ∷ []) (λ r has. Contains-append_left loose (group ∷ []) r has)) stays
 
 -- the record is being written
-pub stays_staging : (told mid new : Option Told) (rows rows_mid loose : List (List ℕ)) (row : List ℕ) → Stays told mid (Leaves rows loose) → rows_mid ≡ rows → Stays mid new (Leaves rows_mid (row ∷ []))
-    → Stays told new (Leaves rows (loose ++ row ∷ []))
-stays_staging told mid new rows rows_mid loose row early same late =
-    let P = Leaves rows (loose ++ row ∷ []) in
-    stays_join told mid new P (stays_settling told mid rows loose row early)
-    (stays_weaker mid new (Leaves rows (row ∷ [])) P (leaves_more rows (row ∷ []) (loose ++ row ∷ []) (λ r has. Contains-append_right loose (row ∷ []) r has)) (subst (λ r. Stays mid new (Leaves r (row ∷ []))) same late))
+pub stays_staging : (told mid new : Option Told) (rows rows_mid : List (List ℕ)) (loose : List (List (List ℕ))) (group : List (List ℕ)) → Stays told mid (Leaves rows loose) → rows_mid ≡ rows → Stays mid new (Leaves rows_mid (group ∷ []))
+    → Stays told new (Leaves rows (loose ++ group ∷ []))
+stays_staging told mid new rows rows_mid loose group early same late =
+    let P = Leaves rows (loose ++ group ∷ []) in
+    stays_join told mid new P (stays_settling told mid rows loose group early)
+    (stays_weaker mid new (Leaves rows (group ∷ [])) P (leaves_more rows (group ∷ []) (loose ++ group ∷ []) (λ r has. Contains-append_right loose (group ∷ []) r has)) (subst (λ r. Stays mid new (Leaves r (group ∷ []))) same late))
 
-where_contained : (told : Option Told) (row r : List ℕ) → Contains (where_told told (row ∷ [])) r → Contains (row ∷ []) r
-where_contained None row r has = absurd (none_contained r has)
-where_contained (Some t) row r has = has
+where_contained : (told : Option Told) (group r : List (List ℕ)) → Contains (where_told told (group ∷ [])) r → Contains (group ∷ []) r
+where_contained None group r has = absurd (none_contained r has)
+where_contained (Some t) group r has = has
 
 -- the gate is being opened
-pub stays_admitting : (told mid new place : Option Told) (rows rows_mid loose loose_mid : List (List ℕ)) (row : List ℕ) → Stays told mid (Leaves rows (loose ++ row ∷ [])) → rows_mid ≡ rows → loose_mid ≡ where_told place (row ∷ [])
-    → Stays mid new (Leaves rows_mid loose_mid) → Stays told new (Leaves rows (loose ++ row ∷ []))
-stays_admitting told mid new place rows rows_mid loose loose_mid row early same loose_is late =
-    let P = Leaves rows (loose ++ row ∷ []) in
-    let one = where_told place (row ∷ []) in
+pub stays_admitting : (told mid new place : Option Told) (rows rows_mid : List (List ℕ)) (loose loose_mid : List (List (List ℕ))) (group : List (List ℕ)) → Stays told mid (Leaves rows (loose ++ group ∷ [])) → rows_mid ≡ rows → loose_mid ≡ where_told place (group ∷ [])
+    → Stays mid new (Leaves rows_mid loose_mid) → Stays told new (Leaves rows (loose ++ group ∷ []))
+stays_admitting told mid new place rows rows_mid loose loose_mid group early same loose_is late =
+    let P = Leaves rows (loose ++ group ∷ []) in
+    let one = where_told place (group ∷ []) in
     let here : Stays mid new (Leaves rows one) = subst (λ r. Stays mid new (Leaves r one)) same (subst (λ l. Stays mid new (Leaves rows_mid l)) loose_is late) in
     stays_join told mid new P early
-    (stays_weaker mid new (Leaves rows one) P (leaves_more rows one (loose ++ row ∷ []) (λ r has. Contains-append_right loose (row ∷ []) r (where_contained place row r has))) here)
+    (stays_weaker mid new (Leaves rows one) P (leaves_more rows one (loose ++ group ∷ []) (λ r has. Contains-append_right loose (group ∷ []) r (where_contained place group r has))) here)
 
 -- which rows may be loose after an error
-pub loose_as_before : (new loose : List (List ℕ)) (row : List ℕ) → new ≡ loose → All (Contains (loose ++ row ∷ [])) new
-loose_as_before new loose row same = subst (λ l. All (Contains (loose ++ row ∷ [])) l) (sym same) (All-weaker (Contains loose) (Contains (loose ++ row ∷ [])) (λ r has. Contains-append_left loose (row ∷ []) r has) loose (All-contains_itself loose))
+pub loose_as_before : (new loose : List (List (List ℕ))) (group : List (List ℕ)) → new ≡ loose → All (Contains (loose ++ group ∷ [])) new
+loose_as_before new loose group same = subst (λ l. All (Contains (loose ++ group ∷ [])) l) (sym same) (All-weaker (Contains loose) (Contains (loose ++ group ∷ [])) (λ r has. Contains-append_left loose (group ∷ []) r has) loose (All-contains_itself loose))
 
-pub none_is_loose : (new loose : List (List ℕ)) (row : List ℕ) → new ≡ [] → All (Contains (loose ++ row ∷ [])) new
-none_is_loose new loose row none = subst (λ l. All (Contains (loose ++ row ∷ [])) l) (sym none) (All-nil (Contains (loose ++ row ∷ [])))
+pub none_is_loose : (new loose : List (List (List ℕ))) (group : List (List ℕ)) → new ≡ [] → All (Contains (loose ++ group ∷ [])) new
+none_is_loose new loose group none = subst (λ l. All (Contains (loose ++ group ∷ [])) l) (sym none) (All-nil (Contains (loose ++ group ∷ [])))
 
-pub row_is_loose : (place : Option Told) (new loose : List (List ℕ)) (row : List ℕ) → new ≡ where_told place (row ∷ []) → All (Contains (loose ++ row ∷ [])) new
-row_is_loose place new loose row is =
-    subst (λ l. All (Contains (loose ++ row ∷ [])) l) (sym is)
-    (All-weaker (Contains (where_told place (row ∷ []))) (Contains (loose ++ row ∷ [])) (λ r has. Contains-append_right loose (row ∷ []) r (where_contained place row r has)) (where_told place (row ∷ [])) (All-contains_itself (where_told place (row ∷ []))))
+pub group_is_loose : (place : Option Told) (new loose : List (List (List ℕ))) (group : List (List ℕ)) → new ≡ where_told place (group ∷ []) → All (Contains (loose ++ group ∷ [])) new
+group_is_loose place new loose group is =
+    subst (λ l. All (Contains (loose ++ group ∷ [])) l) (sym is)
+    (All-weaker (Contains (where_told place (group ∷ []))) (Contains (loose ++ group ∷ [])) (λ r has. Contains-append_right loose (group ∷ []) r (where_contained place group r has)) (where_told place (group ∷ [])) (All-contains_itself (where_told place (group ∷ []))))
 
-module _ {D T E : Type 0} (told : D → Option Told) (row : List ℕ) (old new : Standing D) where
+module _ {D T E : Type 0} (told : D → Option Told) (group : List (List ℕ)) (old new : Standing D) where
   -- all that an append does
-  pub appends_of : (result : Result T E) → OnOk result (new.rows ≡ old.rows ++ where_told (told old.disk) (row ∷ [])) → OnErr result (new.rows ≡ old.rows)
-      → OnOk result (new.loose ≡ []) → OnErr result (All (Contains (old.loose ++ row ∷ [])) new.loose) → Stays (told old.disk) (told new.disk) (Leaves old.rows (old.loose ++ row ∷ []))
-      → LeavesNow new.rows new.loose (told new.disk) → Appends told row (is_ok result) old new
-  appends_of (Ok x) rows same loose may moments now = record { rows = rows; loose = subst (λ l. All (Contains {X = List ℕ} []) l) (sym loose) (All-nil (Contains {X = List ℕ} [])); moments = moments; now = now }
+  pub appends_of : (result : Result T E) → OnOk result (new.rows ≡ old.rows ++ where_told (told old.disk) group) → OnErr result (new.rows ≡ old.rows)
+      → OnOk result (new.loose ≡ []) → OnErr result (All (Contains (old.loose ++ group ∷ [])) new.loose) → Stays (told old.disk) (told new.disk) (Leaves old.rows (old.loose ++ group ∷ []))
+      → LeavesNow new.rows new.loose (told new.disk) → Appends told group (is_ok result) old new
+  appends_of (Ok x) rows same loose may moments now = record { rows = rows; loose = subst (λ l. All (Contains {X = List (List ℕ)} []) l) (sym loose) (All-nil (Contains {X = List (List ℕ)} [])); moments = moments; now = now }
   appends_of (Err e) rows same loose may moments now = record { rows = same; loose = may; moments = moments; now = now }
+
+no_group : (place : Option Told) (rows : List (List ℕ)) → rows ≡ rows ++ where_told {X = List ℕ} place []
+no_group None rows = sym (append-nil rows)
+no_group (Some t) rows = sym (append-nil rows)
+
+module _ {D T E : Type 0} (told : D → Option Told) (old new : Standing D) where
+  -- so does the closing of a gate, for a group without rows
+  pub settles_none : (P Q : Type 0) (result : Result T E) → OnOk result (P × (new.loose ≡ []) × Q) → OnErr result (new.loose ≡ old.loose) → new.rows ≡ old.rows
+      → Stays (told old.disk) (told new.disk) (Leaves old.rows old.loose) → LeavesNow new.rows new.loose (told new.disk) → Appends told [] (is_ok result) old new
+  settles_none P Q (Ok x) (p, loose, q) same rows stays now =
+      let done : Result T E = Ok x in
+      appends_of told [] old new done (rows ∙ no_group (told old.disk) old.rows) tt loose tt (stays_settling (told old.disk) (told new.disk) old.rows old.loose [] stays) now
+  settles_none P Q (Err e) done same rows stays now =
+      let failed : Result T E = Err e in
+      appends_of told [] old new failed tt rows tt (loose_as_before new.loose old.loose [] same) (stays_settling (told old.disk) (told new.disk) old.rows old.loose [] stays) now

@@ -9,3 +9,5 @@ mod Opened
 mod Runs
 mod Replays
 mod Picks
+mod Windows
+mod Groups

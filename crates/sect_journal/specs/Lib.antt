@@ -1,4 +1,5 @@
 pub mod Disk
+pub mod Windows
 pub mod Text
 pub mod Standing
 pub mod Opening

@@ -2,14 +2,14 @@
 use Rattle.std.specs.Prelude.{◌≡◌, ◌≢◌, ◌⊎◌, ◌<◌, ◌≤◌, ℕ, ◌+◌, List, [], ◌∷◌, ◌++◌, length, take, drop, map, slice_index, Bool, true, false, Option, Some, None, Ok, ⊤, All, Contains, if◌then◌else◌}
 use Rattle.sect_journal.specs.declared.journal.Span.{Span}
 use Rattle.sect_journal.specs.Disk.{Content, Told, IsImage, Stays, after_write, after_sync}
-use Rattle.sect_journal.specs.Text.{journal_rows, row_behind, row_length, holds_row, rows_from, with_rows, record_of}
+use Rattle.sect_journal.specs.Text.{journal_rows, rows_behind, rows_from, with_rows, records_of}
 
--- the disk, the acknowledged rows, the rows of which one may stand behind them after a crash, the place of the gate behind
+-- the disk, the acknowledged rows, the groups of rows of which one may stand behind them after a crash, the place of the gate behind
 -- them, whether that gate is to be closed first, and for how many more rows there is room in memory
 pub record Standing (D : Type 0) : Type 0 where
   pub disk : D
   pub rows : List (List ℕ)
-  pub loose : List (List ℕ)
+  pub loose : List (List (List ℕ))
   pub gate : ℕ
   pub torn : Bool
   pub room : ℕ
@@ -23,11 +23,11 @@ abbrev pub rows_at : Option Told → List Span → List (List ℕ)
 rows_at None spans = []
 rows_at (Some t) spans = map (cut t.now.seen) spans
 
--- where a gate is to be closed first, the row behind it
-abbrev pub loose_at : Option Told → ℕ → Bool → List (List ℕ)
+-- where a gate is to be closed first, the group behind it
+abbrev pub loose_at : Option Told → ℕ → Bool → List (List (List ℕ))
 loose_at None gate torn = []
 loose_at (Some t) gate false = []
-loose_at (Some t) gate true = row_behind (drop (gate + 1) t.now.seen) ∷ []
+loose_at (Some t) gate true = rows_behind gate (drop (gate + 1) t.now.seen) ∷ []
 
 -- these, where the disk tells them
 abbrev pub where_told : {X : Type 0} → Option Told → List X → List X
@@ -39,30 +39,37 @@ abbrev pub told_rows : Option Told → List (List ℕ) → Option (List (List �
 told_rows None rows = None
 told_rows (Some t) rows = Some rows
 
--- the row that may stand behind the rows has this length, where the disk tells it
-abbrev pub IsLoose : Option Told → List (List ℕ) → ℕ → Type 0
-IsLoose None loose n = ⊤
-IsLoose (Some t) loose n = (row : List ℕ) × (loose ≡ row ∷ []) × (length row ≡ n)
-
 -- after the gate was closed, where that was to be done
 abbrev pub shut : Option Told → ℕ → Bool → Option Told
 shut told gate false = told
 shut told gate true = after_sync (after_write told gate (0 ∷ []))
 
--- after a row was appended: a gate that is to be closed first is closed, the record is written behind it, and the gate is opened
-abbrev pub appended : Option Told → ℕ → Bool → List ℕ → Option Told
-appended told gate torn row = after_sync (after_write (after_sync (after_write (shut told gate torn) (gate + 1) (record_of row))) gate (1 ∷ []))
+-- after a group of rows was appended: a gate that is to be closed first is closed, the records are written behind it, and the gate is
+-- opened, which makes all of them count at once. Of a group without rows nothing is written
+abbrev pub appended : Option Told → ℕ → Bool → List (List ℕ) → Option Told
+appended told gate torn [] = shut told gate torn
+appended told gate torn (row ∷ rows) = after_sync (after_write (after_sync (after_write (shut told gate torn) (gate + 1) (records_of (row ∷ rows)))) gate (1 ∷ []))
 
--- an image opens to these rows, or to these and one more of those
-abbrev pub OpensTo : List (List ℕ) → List (List ℕ) → List ℕ → Type 0
-OpensTo rows more image = (journal_rows image ≡ Ok rows) ⊎ ((row : List ℕ) × Contains more row × (journal_rows image ≡ Ok (rows ++ row ∷ [])))
+-- where the rows of a group behind this gate stand
+abbrev pub spans_of : ℕ → List (List ℕ) → List Span
+spans_of gate [] = []
+spans_of gate (row ∷ rows) = record { start = gate + 9; length = length row } ∷ spans_of (gate + (9 + length row)) rows
+
+-- the place of the gate behind them
+abbrev pub gate_behind : ℕ → List (List ℕ) → ℕ
+gate_behind gate [] = gate
+gate_behind gate (row ∷ rows) = gate_behind (gate + (9 + length row)) rows
+
+-- an image opens to these rows, or to these and one whole group of those
+abbrev pub OpensTo : List (List ℕ) → List (List (List ℕ)) → List ℕ → Type 0
+OpensTo rows more image = (journal_rows image ≡ Ok rows) ⊎ ((group : List (List ℕ)) × Contains more group × (journal_rows image ≡ Ok (rows ++ group)))
 
 -- so does each image that a crash may leave
-abbrev pub Leaves : List (List ℕ) → List (List ℕ) → Content → Type 0
+abbrev pub Leaves : List (List ℕ) → List (List (List ℕ)) → Content → Type 0
 Leaves rows more c = (image : List ℕ) → IsImage c image → OpensTo rows more image
 
 -- so does each image that a crash now may leave, where the disk tells them
-abbrev pub LeavesNow : List (List ℕ) → List (List ℕ) → Option Told → Type 0
+abbrev pub LeavesNow : List (List ℕ) → List (List (List ℕ)) → Option Told → Type 0
 LeavesNow rows more None = ⊤
 LeavesNow rows more (Some t) = Leaves rows more t.now
 
@@ -81,13 +88,12 @@ pub record IsAtRest (c : Content) (gate : ℕ) : Type 0 where
   pub closed : IsClosed c.seen gate
   pub behind : All (λ range. gate < range.0) c.pending
 
--- a whole record and a closed gate stand on the disk behind the gate, and only the gate was written since
+-- whole records up to a closed gate stand on the disk behind the gate, and only the gate was written since
 pub record IsTorn (c : Content) (gate : ℕ) : Type 0 where
   pub front : take gate c.durable ≡ take gate c.seen
   pub back : drop (gate + 1) c.durable ≡ drop (gate + 1) c.seen
   pub inside : gate < length c.durable
-  pub whole : holds_row (drop (gate + 1) c.seen) ≡ true
-  pub closed : IsClosed c.seen (gate + 9 + row_length (drop (gate + 1) c.seen))
+  pub whole : rows_from gate 0 (1 ∷ drop (gate + 1) c.seen) ≡ Ok (rows_behind gate (drop (gate + 1) c.seen))
   pub at_gate : All (λ range. range ≡ (gate, 1)) c.pending
 
 -- at rest, or torn
@@ -106,11 +112,11 @@ abbrev pub IsKept : Option Told → List Span → ℕ → Bool → Type 0
 IsKept None spans gate torn = ⊤
 IsKept (Some t) spans gate torn = HasRows t.now.seen spans gate × IsSafe t.now gate torn
 
--- what an append does. Where it isn't answered Ok its row may be loose
-pub record Appends {D : Type 0} (told : D → Option Told) (row : List ℕ) (done : Bool) (old new : Standing D) : Type 0 where
-  pub rows : new.rows ≡ (if done then old.rows ++ where_told (told old.disk) (row ∷ []) else old.rows)
-  pub loose : All (Contains (if done then [] else old.loose ++ row ∷ [])) new.loose
-  pub moments : Stays (told old.disk) (told new.disk) (Leaves old.rows (old.loose ++ row ∷ []))
+-- what an append of a group of rows does: all of them count, or none. Where it isn't answered Ok the group may be loose
+pub record Appends {D : Type 0} (told : D → Option Told) (group : List (List ℕ)) (done : Bool) (old new : Standing D) : Type 0 where
+  pub rows : new.rows ≡ (if done then old.rows ++ where_told (told old.disk) group else old.rows)
+  pub loose : All (Contains (if done then [] else old.loose ++ group ∷ [])) new.loose
+  pub moments : Stays (told old.disk) (told new.disk) (Leaves old.rows (old.loose ++ group ∷ []))
   pub now : LeavesNow new.rows new.loose (told new.disk)
 
 -- what a call that only reads does: the disk tells the same after it

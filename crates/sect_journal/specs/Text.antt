@@ -36,6 +36,21 @@ rows_from gate zero (byte ∷ bytes) =
 abbrev pub journal_rows : List ℕ → Result (List (List ℕ)) ℕ
 journal_rows bytes = rows_from 0 0 bytes
 
--- what stands behind the gate of this row: its length, the row and a closed gate
-abbrev pub record_of : List ℕ → List ℕ
-record_of row = to_be_bytes w64 (length row) ++ row ++ 0 ∷ []
+-- the rows, where there are some
+abbrev pub rows_or_none : Result (List (List ℕ)) ℕ → List (List ℕ)
+rows_or_none (Ok rows) = rows
+rows_or_none (Err place) = []
+
+-- the rows that would count behind the gate at this place, in front of these bytes, were it open
+abbrev pub rows_behind : ℕ → List ℕ → List (List ℕ)
+rows_behind gate bytes = rows_or_none (rows_from gate 0 (1 ∷ bytes))
+
+-- the gate in front of these rows, of a text that ends with them
+abbrev pub gate_byte : List (List ℕ) → ℕ
+gate_byte [] = 0
+gate_byte (row ∷ rows) = 1
+
+-- what stands behind the gate of the first of these rows: each row's length, the row and the next gate, of which the last is closed
+abbrev pub records_of : List (List ℕ) → List ℕ
+records_of [] = []
+records_of (row ∷ rows) = to_be_bytes w64 (length row) ++ (row ++ gate_byte rows ∷ records_of rows)

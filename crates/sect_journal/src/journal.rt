@@ -1,13 +1,14 @@
 // A keeper of rows on a disk.
-ghost use Rattle.std.specs.Prelude.{◌≡◌, ◌<◌, ◌≤◌, ◌+◌, ◌^◌, ◌++◌, ◌∷◌, [], true, false, is_ok, length, All, Contains, OnOk, OnErr};
+ghost use Rattle.std.specs.Prelude.{◌≡◌, ◌<◌, ◌≤◌, ◌+◌, ◌-◌, ◌^◌, ◌++◌, ◌∷◌, [], true, false, is_ok, length, map, vec_capacity, All, Contains, OnOk, OnErr};
 ghost use Rattle.sect_edge.specs.Causes.{HasCauseFor};
 ghost use Rattle.sect_journal.specs.declared.journal.JournalFault.TheVariants as bad;
 ghost use Rattle.sect_journal.specs.Faults.{opening_fault};
 ghost use Rattle.sect_journal.specs.Disk.{Stays, after_write, after_sync};
-ghost use Rattle.sect_journal.specs.Text.{record_of};
-ghost use Rattle.sect_journal.specs.Standing.{Appends, IsLoose, Leaves, LeavesNow, appended, shut, where_told};
+ghost use Rattle.sect_journal.specs.Text.{gate_byte, records_of};
+ghost use Rattle.sect_journal.specs.Standing.{Appends, Leaves, LeavesNow, appended, gate_behind, shut, spans_of, where_told};
 
 use crate::through::write_through;
+use crate::window::Window;
 use crate::{Disk, DiskFault};
 use std::alloc::{AllocError, AllocFailed, Global};
 use std::marker::Model;
@@ -58,12 +59,14 @@ pub struct Journal<D: Disk> {
     pub(crate) spans: Vec<Span>,
     pub(crate) gate: u64,
     pub(crate) torn: bool,
+    pub(crate) window: Window,
     pub(crate) buffer: Vec<u8>,
 }
 
 impl<D: Disk> Model for Journal<D> {
     ghost use Rattle.std.specs.Prelude.{◌<◌, ◌^◌, ◌-◌, length, vec_capacity};
     ghost use Rattle.sect_journal.specs.Standing.{Standing, rows_at, loose_at, IsKept};
+    ghost use Rattle.sect_journal.specs.Windows.{IsWindow};
 
     ghost Value = { Standing D };
 
@@ -76,19 +79,55 @@ impl<D: Disk> Model for Journal<D> {
       room = vec_capacity j.spans - length j.spans.items;
     } };
 
-    ghost invariant = { λ j. (j.gate < 2 ^ 62) × IsKept (D.told j.disk) j.spans.items j.gate j.torn };
+    ghost invariant = { λ j. (j.gate < 2 ^ 62) × IsKept (D.told j.disk) j.spans.items j.gate j.torn
+        × IsWindow (D.told j.disk) j.window.place j.window.bytes.items };
 }
 
-// What stands behind the gate of a row: its length, the row and a closed gate.
-pub fn fill(into: &mut Vec<u8>, row: &[u8]) -> Result<(), AllocError>
-    ensures { OnOk result (into.new.items ≡ record_of row.now) }
+// The gate in front of these rows.
+fn next_gate(rows: &[&[u8]]) -> u8
+    ensures { result ≡ gate_byte (map (λ row. row.now) rows.now) }
+{
+    if rows.is_empty() { 0 } else { 1 }
+}
+
+// What stands behind the gate of the first of these rows.
+pub fn fill(into: &mut Vec<u8>, rows: &[&[u8]]) -> Result<(), AllocError>
+    ensures { OnOk result (into.new.items ≡ records_of (map (λ row. row.now) rows.now)) }
 {
     into.clear();
-    into.reserve(row.len().saturating_add(9))?;
-    into.extend_from_slice(&(row.len() as u64).to_be_bytes())?;
-    into.extend_from_slice(row)?;
-    into.push(0)?;
+    let mut rest = rows;
+    while let [row, more @ ..] = rest {
+        into.reserve(row.len().saturating_add(9))?;
+        into.extend_from_slice(&(row.len() as u64).to_be_bytes())?;
+        into.extend_from_slice(row)?;
+        into.push(next_gate(more))?;
+        rest = more;
+    }
     Ok(())
+}
+
+// Notes where these rows stand behind a gate. Gives the place of the gate behind them.
+fn push_spans(spans: &mut Vec<Span>, gate: u64, rows: &[&[u8]]) -> u64
+    requires room { length rows.now ≤ vec_capacity spans.old - length spans.old.items }
+    requires bound { gate_behind gate (map (λ row. row.now) rows.now) < 2 ^ 62 }
+    ensures spans { spans.new.items ≡ spans.old.items ++ spans_of gate (map (λ row. row.now) rows.now) }
+    ensures gate { result ≡ gate_behind gate (map (λ row. row.now) rows.now) }
+{
+    let mut gate = gate;
+    let mut rest = rows;
+    while let [row, more @ ..] = rest {
+        let length = row.len() as u64;
+        match spans.push(Span {
+            start: gate + 9,
+            length,
+        }) {
+            Ok(()) => {}
+            Err(_) => unreachable!(),
+        }
+        gate += 9 + length;
+        rest = more;
+    }
+    gate
 }
 
 impl<D: Disk> Journal<D> {
@@ -102,6 +141,7 @@ impl<D: Disk> Journal<D> {
             spans: _,
             gate: _,
             torn: _,
+            window: _,
             buffer: _,
         } = self;
         disk
@@ -127,80 +167,79 @@ impl<D: Disk> Journal<D> {
         if !self.torn {
             return Ok(());
         }
+        self.window.close();
         write_through(&mut self.disk, self.gate, &[0])?;
         self.torn = false;
         Ok(())
     }
 
-    // Writes a record behind the present gate, which is then to be opened, or to be closed first.
-    fn stage(&mut self, text: &[u8], row: &[u8]) -> Result<(), DiskFault>
+    // Writes the records of a group behind the present gate, which is then to be opened, or to be closed first.
+    fn stage(&mut self, text: &[u8], rows: &[&[u8]]) -> Result<(), DiskFault>
         requires rest { self.old.torn ≡ false }
-        requires text { text.now ≡ record_of row.now }
+        requires some { 0 < length rows.now }
+        requires text { text.now ≡ records_of (map (λ row. row.now) rows.now) }
         ensures ok { OnOk result ((self.new.torn ≡ true) × (D.told self.new.disk ≡ after_sync (after_write (D.told self.old.disk) (self.old.gate + 1) text.now))) }
-        ensures loose { OnOk result (self.new.loose ≡ where_told (D.told self.old.disk) (row.now ∷ [])) }
-        ensures bound { OnOk result (self.old.gate + 1 + length text.now < 2 ^ 62) }
+        ensures loose { OnOk result (self.new.loose ≡ where_told (D.told self.new.disk) (map (λ row. row.now) rows.now ∷ [])) }
+        ensures bound { OnOk result (gate_behind self.old.gate (map (λ row. row.now) rows.now) < 2 ^ 62) }
         ensures err { OnErr result (self.new.loose ≡ []) }
         ensures rows { self.new.rows ≡ self.old.rows }
         ensures gate { self.new.gate ≡ self.old.gate }
         ensures room { self.new.room ≡ self.old.room }
-        ensures moments { Stays (D.told self.old.disk) (D.told self.new.disk) (Leaves self.old.rows (row.now ∷ [])) }
+        ensures moments { Stays (D.told self.old.disk) (D.told self.new.disk) (Leaves self.old.rows (map (λ row. row.now) rows.now ∷ [])) }
         ensures cause { HasCauseFor DiskFault.Failed (D.faults self.old.disk) (D.faults self.new.disk) result }
     {
+        self.window.close();
         write_through(&mut self.disk, self.gate + 1, text)?;
         self.torn = true;
         Ok(())
     }
 
-    // Opens the present gate: the row behind it counts from now on.
-    fn admit(&mut self, length: u64) -> Result<(), DiskFault>
+    // Opens the present gate: the rows behind it count from now on.
+    fn admit(&mut self, rows: &[&[u8]]) -> Result<(), DiskFault>
         requires torn { self.old.torn ≡ true }
-        requires length { IsLoose (D.told self.old.disk) self.old.loose length }
-        requires bound { self.old.gate + 10 + length < 2 ^ 62 }
-        requires room { 0 < self.old.room }
+        requires rows { self.old.loose ≡ where_told (D.told self.old.disk) (map (λ row. row.now) rows.now ∷ []) }
+        requires bound { gate_behind self.old.gate (map (λ row. row.now) rows.now) < 2 ^ 62 }
+        requires room { length rows.now ≤ self.old.room }
         ensures told { OnOk result (D.told self.new.disk ≡ after_sync (after_write (D.told self.old.disk) self.old.gate (1 ∷ []))) }
-        ensures rows { OnOk result (self.new.rows ≡ self.old.rows ++ self.old.loose) }
+        ensures rows { OnOk result (self.new.rows ≡ self.old.rows ++ where_told (D.told self.old.disk) (map (λ row. row.now) rows.now)) }
         ensures loose { OnOk result (self.new.loose ≡ []) }
         ensures same_rows { OnErr result (self.new.rows ≡ self.old.rows) }
         ensures same_loose { OnErr result (self.new.loose ≡ self.old.loose) }
         ensures moments { Stays (D.told self.old.disk) (D.told self.new.disk) (Leaves self.old.rows self.old.loose) }
         ensures cause { HasCauseFor DiskFault.Failed (D.faults self.old.disk) (D.faults self.new.disk) result }
     {
+        self.window.close();
         write_through(&mut self.disk, self.gate, &[1])?;
-        match self.spans.push(Span {
-            start: self.gate + 9,
-            length,
-        }) {
-            Ok(()) => {}
-            Err(_) => unreachable!(),
-        }
-        self.gate += 9 + length;
+        self.gate = push_spans(&mut self.spans, self.gate, rows);
         self.torn = false;
         Ok(())
     }
-    // Makes room in memory for one row more.
-    fn make_room(&mut self) -> Result<(), AllocError>
-        ensures ok { OnOk result (0 < self.new.room) }
+
+    // Makes room in memory for so many rows more.
+    fn make_room(&mut self, count: usize) -> Result<(), AllocError>
+        ensures ok { OnOk result (count ≤ self.new.room) }
         ensures same { self.new ≡ record self.old { room = self.new.room } }
     {
-        self.spans.reserve(1)
+        self.spans.reserve(count)
     }
 
-    // Adds a row. What that wants of memory is there before the disk is written.
-    fn add(&mut self, text: &mut Vec<u8>, row: &[u8]) -> Result<(), DiskFault>
-        ensures told { OnOk result (D.told self.new.disk ≡ appended (D.told self.old.disk) self.old.gate self.old.torn row.now) }
-        ensures rows { OnOk result (self.new.rows ≡ self.old.rows ++ where_told (D.told self.old.disk) (row.now ∷ [])) }
+    // Adds a group of rows. What that wants of memory is there before the disk is written.
+    fn add(&mut self, text: &mut Vec<u8>, rows: &[&[u8]]) -> Result<(), DiskFault>
+        requires some { 0 < length rows.now }
+        ensures told { OnOk result (D.told self.new.disk ≡ appended (D.told self.old.disk) self.old.gate self.old.torn (map (λ row. row.now) rows.now)) }
+        ensures rows { OnOk result (self.new.rows ≡ self.old.rows ++ where_told (D.told self.old.disk) (map (λ row. row.now) rows.now)) }
         ensures same_rows { OnErr result (self.new.rows ≡ self.old.rows) }
         ensures loose { OnOk result (self.new.loose ≡ []) }
-        ensures may_be_loose { OnErr result (All (Contains (self.old.loose ++ row.now ∷ [])) self.new.loose) }
-        ensures moments { Stays (D.told self.old.disk) (D.told self.new.disk) (Leaves self.old.rows (self.old.loose ++ row.now ∷ [])) }
+        ensures may_be_loose { OnErr result (All (Contains (self.old.loose ++ map (λ row. row.now) rows.now ∷ [])) self.new.loose) }
+        ensures moments { Stays (D.told self.old.disk) (D.told self.new.disk) (Leaves self.old.rows (self.old.loose ++ map (λ row. row.now) rows.now ∷ [])) }
         ensures cause { HasCauseFor DiskFault.Failed (D.faults self.old.disk) (D.faults self.new.disk) result }
     {
         self.is_sound();
-        fill(text, row)?;
-        self.make_room()?;
+        fill(text, rows)?;
+        self.make_room(rows.len())?;
         self.settle()?;
-        self.stage(text, row)?;
-        self.admit(row.len() as u64)
+        self.stage(text, rows)?;
+        self.admit(rows)
     }
 
     fn take_buffer(&mut self) -> Vec<u8>
@@ -215,14 +254,27 @@ impl<D: Disk> Journal<D> {
         self.buffer = text;
     }
 
+    // Of a group without rows: closes the present gate, where that is to be done first, and no more.
+    pub(crate) fn keep_none(&mut self) -> Result<(), DiskFault>
+        ensures told { OnOk result (D.told self.new.disk ≡ shut (D.told self.old.disk) self.old.gate self.old.torn) }
+        ensures appends { Appends D.told [] (is_ok result) self.old self.new }
+        ensures cause { HasCauseFor DiskFault.Failed (D.faults self.old.disk) (D.faults self.new.disk) result }
+    {
+        self.is_sound();
+        let result = self.settle();
+        self.is_sound();
+        result
+    }
+
     // The same, with a buffer that is used again.
-    pub(crate) fn keep(&mut self, row: &[u8]) -> Result<(), DiskFault>
-        ensures told { OnOk result (D.told self.new.disk ≡ appended (D.told self.old.disk) self.old.gate self.old.torn row.now) }
-        ensures appends { Appends D.told row.now (is_ok result) self.old self.new }
+    pub(crate) fn keep(&mut self, rows: &[&[u8]]) -> Result<(), DiskFault>
+        requires some { 0 < length rows.now }
+        ensures told { OnOk result (D.told self.new.disk ≡ appended (D.told self.old.disk) self.old.gate self.old.torn (map (λ row. row.now) rows.now)) }
+        ensures appends { Appends D.told (map (λ row. row.now) rows.now) (is_ok result) self.old self.new }
         ensures cause { HasCauseFor DiskFault.Failed (D.faults self.old.disk) (D.faults self.new.disk) result }
     {
         let mut text = self.take_buffer();
-        let result = self.add(&mut text, row);
+        let result = self.add(&mut text, rows);
         self.give_buffer(text);
         self.is_sound();
         result

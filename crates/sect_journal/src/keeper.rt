@@ -1,5 +1,5 @@
 // A journal as a keeper of rows.
-ghost use Rattle.std.specs.Prelude.{◌≡◌, IfOk, OnOk, OnErr, is_ok};
+ghost use Rattle.std.specs.Prelude.{◌≡◌, ◌∷◌, [], map, IfOk, OnOk, OnErr, is_ok};
 ghost use Rattle.sect_edge.specs.declared.edge.KeepFault.{KeepFault};
 ghost use Rattle.sect_edge.specs.Causes.{HasCauseFor};
 ghost use Rattle.sect_edge.specs.Keeper.{KeepsRows, AddsRow, FindsRow, CountsRows};
@@ -32,8 +32,26 @@ impl<D: Disk> Journal<D> {
         };
         into.clear();
         into.resize(span.length as usize, 0)?;
-        let count = self.disk.read_at(span.start, into)?;
+        let count = self.window.read_at(&mut self.disk, span.start, into)?;
         Ok(count == into.len())
+    }
+}
+
+impl<D: Disk> Journal<D> {
+    /// Appends a group of rows, all of them or none: after a crash at any moment too. Four calls of the disk for any number
+    /// of rows, and six where a gate is to be closed first; of no rows none, or two. At an error the rows are as before, and
+    /// the group may stand behind them after a crash, until an append is answered Ok.
+    pub fn append_all(&mut self, rows: &[&[u8]]) -> Result<(), KeepFault>
+        ensures told { OnOk result (D.told self.new.disk ≡ appended (D.told self.old.disk) self.old.gate self.old.torn (map (λ row. row.now) rows.now)) }
+        ensures appends { Appends D.told (map (λ row. row.now) rows.now) (is_ok result) self.old self.new }
+        ensures cause { HasCauseFor KeepFault.Failed (D.faults self.old.disk) (D.faults self.new.disk) result }
+    {
+        if rows.is_empty() {
+            self.keep_none()?;
+        } else {
+            self.keep(rows)?;
+        }
+        Ok(())
     }
 }
 
@@ -49,14 +67,14 @@ impl<D: Disk> Keeper for Journal<D> {
         ensures cause { HasCauseFor KeepFault.Failed (D.faults self.old.disk) (D.faults self.new.disk) result }
 
         // What was written, and what a crash leaves at each moment and afterwards.
-        ensures told { OnOk result (D.told self.new.disk ≡ appended (D.told self.old.disk) self.old.gate self.old.torn row.now) }
-        ensures appends { Appends D.told row.now (is_ok result) self.old self.new }
+        ensures told { OnOk result (D.told self.new.disk ≡ appended (D.told self.old.disk) self.old.gate self.old.torn (row.now ∷ [])) }
+        ensures appends { Appends D.told (row.now ∷ []) (is_ok result) self.old self.new }
     {
-        self.keep(row)?;
+        self.keep(&[row])?;
         Ok(())
     }
 
-    /// One call of the disk.
+    /// At most one call of the disk, and none where the row stands near one that was read before, with no append since.
     fn row(&mut self, at: u64, into: &mut Vec<u8>) -> Result<bool, KeepFault>
         ensures found { IfOk result (λ found. FindsRow (told_rows (D.told self.old.disk) self.old.rows) at found into.new.items) }
         ensures rows { KeepsRows (told_rows (D.told self.old.disk) self.old.rows) (told_rows (D.told self.new.disk) self.new.rows) }

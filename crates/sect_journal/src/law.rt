@@ -8,8 +8,8 @@ ghost use Rattle.sect_journal.specs.Runs.{Call, Takes, IsRun, acknowledged, unan
 use crate::Disk;
 
 /// For any list of calls from an opened journal on, a crash at any moment leaves only images that open, to the
-/// acknowledged rows, or to these and one row more, of an append that was begun after the last acknowledged one and
-/// wasn't answered Ok.
+/// acknowledged rows, or to these and one whole group of rows more, of an append that was begun after the last
+/// acknowledged one and wasn't answered Ok.
 pub fn no_acknowledged_row_is_lost<D: Disk>()
     ensures between { (before : Option Told) (start end : Standing D) (calls : List Call) → IsOpened D.told before start → IsRun D.told calls start end
         → LeavesNow (acknowledged start.rows calls) (unanswered [] calls) (D.told end.disk) }

@@ -9,11 +9,9 @@ mod law;
 mod memory;
 mod open;
 mod through;
+mod window;
 
 pub use disk::{Disk, DiskFault};
 pub use journal::{Journal, JournalFault};
 pub use law::no_acknowledged_row_is_lost;
 pub use memory::{DiskCall, MemDisk};
-
-#[cfg(test)]
-mod tests;

@@ -6,6 +6,7 @@ ghost use Rattle.sect_journal.specs.declared.disk.DiskFault.TheVariants as fault
 ghost use Rattle.sect_journal.specs.Disk.{IsImage, Reads, Tears, is_touched, put, after_write, after_sync};
 ghost use Rattle.sect_journal.specs.Memory.{Looked, Wrote, Tore, Synced, step_of, told_by, marked, image_of};
 
+use crate::window::copy_out;
 use crate::{Disk, DiskFault};
 use sect_base::Memory;
 use sect_edge::{Calls, Failed};
@@ -223,18 +224,6 @@ fn push_room<T: Drop>(list: &mut Vec<T>, item: T)
         Ok(()) => {}
         Err(_) => unreachable!(),
     }
-}
-
-// Copies the bytes from a place on, as many as there are and fit. Gives their number.
-fn copy_out(bytes: &[u8], at: u64, into: &mut [u8]) -> usize
-    ensures count { result ≡ min (length into.new) (length bytes.now - at) }
-    ensures bytes { take result into.new ≡ take result (drop at bytes.now) }
-{
-    let start = bytes.len().min(at as usize);
-    let rest = &bytes[start..];
-    let count = into.len().min(rest.len());
-    into[..count].copy_from_slice(&rest[..count]);
-    count
 }
 
 // A place is in one of the ranges.

@@ -8,6 +8,7 @@ ghost use Rattle.sect_journal.specs.Standing.{LeavesNow};
 use crate::gate::{Gate, read_gate};
 use crate::journal::{Journal, Span};
 use crate::through::write_through;
+use crate::window::Window;
 use crate::{Disk, DiskFault, JournalFault};
 use std::alloc::Global;
 
@@ -26,9 +27,10 @@ pub fn find_end<D: Disk>(
     ensures cause { HasCauseFor JournalFault.Failed (D.faults disk.old) (D.faults disk.new) result }
 {
     let mut spans = Vec::new(alloc);
+    let mut window = Window::new(alloc);
     let mut gate = 0;
     loop {
-        match read_gate(disk, gate, size)? {
+        match read_gate(&mut window, disk, gate, size)? {
             Gate::Closed => return Ok((spans, gate)),
             Gate::Bad => return Err(JournalFault::BadJournal(gate)),
             Gate::Open(length) => {
@@ -74,6 +76,7 @@ impl<D: Disk> Journal<D> {
                 spans,
                 gate,
                 torn: false,
+                window: Window::new(alloc),
                 buffer: Vec::new(alloc),
             }),
             Err(fault) => Err((fault, disk)),

@@ -1,0 +1,158 @@
+// A journal with what its disk was at first.
+
+use crate::words::{bytes_of, numbers_of};
+use sect_base::Memory;
+use sect_edge::{KeepFault, Keeper};
+use sect_journal::{Journal, JournalFault, MemDisk};
+use std::alloc::Global;
+
+/// A journal, and the bytes and the calls that fail with which its disk began.
+#[derive(Drop)]
+pub struct Stand {
+    pub bytes: Vec<u8>,
+    pub fail: Vec<u64>,
+    pub journal: Journal<MemDisk>,
+}
+
+/// A disk in memory.
+pub fn disk_of(alloc: Global, bytes: &[u8], fail: &[u64]) -> Result<MemDisk, Memory> {
+    Ok(MemDisk::new(bytes.to_vec(alloc)?, Vec::from_slice(alloc, fail)?))
+}
+
+/// Opens the journal of a line, or makes one first where there are no bytes.
+pub fn open(
+    alloc: Global,
+    line: &str,
+    makes: bool,
+    into: &mut String,
+) -> Result<Option<Stand>, Memory> {
+    let (bytes, fail) = line.split_once(' ').unwrap_or((line, ""));
+    let bytes = bytes_of(alloc, bytes)?;
+    let fail = numbers_of(alloc, fail)?;
+    let disk = disk_of(alloc, &bytes, &fail)?;
+    match opened(alloc, disk, makes) {
+        Ok(journal) => {
+            into.push_str("ok")?;
+            Ok(Some(Stand {
+                bytes,
+                fail,
+                journal,
+            }))
+        }
+        Err(fault) => {
+            print_fault(fault, into)?;
+            Ok(None)
+        }
+    }
+}
+
+// Opens a journal, or makes one first.
+fn opened(alloc: Global, disk: MemDisk, makes: bool) -> Result<Journal<MemDisk>, JournalFault> {
+    let opened = if makes {
+        Journal::start(alloc, disk)
+    } else {
+        Journal::open(alloc, disk)
+    };
+    match opened {
+        Ok(journal) => Ok(journal),
+        Err((fault, _)) => Err(fault),
+    }
+}
+
+fn print_fault(fault: JournalFault, into: &mut String) -> Result<(), Memory> {
+    match fault {
+        JournalFault::Failed => into.push_str("failed")?,
+        JournalFault::BadJournal(place) => write!(into, "bad journal {place}")?,
+        JournalFault::Memory => into.push_str("memory")?,
+    }
+    Ok(())
+}
+
+/// Prints how an append ended.
+pub fn print_kept(kept: Result<(), KeepFault>, into: &mut String) -> Result<(), Memory> {
+    into.push_str(match kept {
+        Ok(()) => "ok",
+        Err(KeepFault::Failed) => "failed",
+        Err(KeepFault::Memory) => "memory",
+    })?;
+    Ok(())
+}
+
+// Prints a row behind a space.
+fn print_text(row: &[u8], into: &mut String) -> Result<(), Memory> {
+    into.push_str(" ")?;
+    into.push_str(str::from_utf8(row).unwrap_or("?"))?;
+    Ok(())
+}
+
+/// Prints the rows of a journal in order, each behind a space.
+pub fn print_all(
+    alloc: Global,
+    journal: &mut Journal<MemDisk>,
+    into: &mut String,
+) -> Result<(), Memory> {
+    let count = journal.len().unwrap_or(0);
+    let mut row = Vec::new(alloc);
+    for at in 0..count {
+        match journal.row(at, &mut row) {
+            Ok(true) => print_text(&row, into)?,
+            Ok(false) => into.push_str(" none")?,
+            Err(_) => into.push_str(" failed")?,
+        }
+    }
+    Ok(())
+}
+
+impl Stand {
+    /// Appends the words of a line: one by itself, others as a group.
+    pub fn append(&mut self, alloc: Global, line: &str) -> Result<Result<(), KeepFault>, Memory> {
+        let mut rows = Vec::new(alloc);
+        for word in line.split_whitespace() {
+            rows.push(word.as_bytes())?;
+        }
+        Ok(match rows.as_slice() {
+            [row] => self.journal.append(row),
+            rows => self.journal.append_all(rows),
+        })
+    }
+
+    /// Prints how many rows there are, and each of them.
+    pub fn print_rows(&mut self, alloc: Global, into: &mut String) -> Result<(), Memory> {
+        let count = self.journal.len().unwrap_or(0);
+        write!(into, "{count}:")?;
+        print_all(alloc, &mut self.journal, into)
+    }
+
+    /// Prints the row of this number.
+    pub fn print_row(
+        &mut self,
+        alloc: Global,
+        line: &str,
+        into: &mut String,
+    ) -> Result<(), Memory> {
+        let at = line.parse::<u64>().unwrap_or(u64::MAX);
+        let mut row = Vec::new(alloc);
+        write!(into, "{at}:")?;
+        match self.journal.row(at, &mut row) {
+            Ok(true) => print_text(&row, into),
+            Ok(false) => Ok(into.push_str(" none")?),
+            Err(_) => Ok(into.push_str(" failed")?),
+        }
+    }
+
+    /// Prints what a read of the disk gives. The journal is closed.
+    pub fn print_bytes(self, into: &mut String) -> Result<Option<Stand>, Memory> {
+        let disk = self.journal.close();
+        for byte in disk.seen() {
+            write!(into, "{byte} ")?;
+        }
+        Ok(None)
+    }
+
+    /// Prints how many calls the disk had. The journal is closed.
+    pub fn print_calls(self, into: &mut String) -> Result<Option<Stand>, Memory> {
+        let disk = self.journal.close();
+        write!(into, "{} calls", disk.calls().len())?;
+        Ok(None)
+    }
+}
