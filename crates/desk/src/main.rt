@@ -1,11 +1,14 @@
 //! The program: it makes the real objects, calls the desk, prints the status and ends with its number.
 #![tactic(auto)]
 
-use sect_app::{Needs, Status, WordFault, desk, needs, number_of, print_status};
+use sect_app::{Needs, Status, WordFault, Words, desk, needs, number_of, print_status, read_words};
+use sect_clap::read_again;
 use sect_edge::{KeepFault, MemKeeper, MemLink, OpenGate};
 use sect_journal::{Journal, JournalFault};
-use sect_real::{AnyKeeper, FileDisk, RealClock, SqliteKeeper, StdSink, StdSource};
-use std::io::Write;
+use sect_real::{
+    AnyKeeper, FileDisk, RealClock, SqliteKeeper, StdSink, StdSource, ToldKeeper, ToldSource,
+};
+use std::io::{IsTerminal, Write};
 use std::process::ExitCode;
 use std::{env, io};
 
@@ -50,6 +53,9 @@ fn start(rt: HostRuntime) -> Result<Status, End> {
         Err(WordFault::BadWords) => return Err(End::Told(Status::BadWords)),
         Err(WordFault::Memory) => return Err(End::Told(Status::Memory)),
     };
+    if read_again(rt.alloc(), &words).is_err() {
+        return Err(End::Told(Status::Memory));
+    }
     let keeper = keeper_of(rt, needs)?;
     Ok(run(rt, &words, keeper))
 }
@@ -116,7 +122,7 @@ fn run(rt: HostRuntime, words: &[String], keeper: AnyKeeper) -> Status {
         return Status::Memory;
     }
     let links: Vec<MemLink> = Vec::new(alloc);
-    let mut source = StdSource::new(rt.stdin());
+    let mut source = ToldSource::new(rt, StdSource::new(rt.stdin()), is_import_told(rt, words));
     let mut sink = StdSink::new(rt.stdout());
     let (status, keeper, _links) = desk(
         &rt,
@@ -124,12 +130,21 @@ fn run(rt: HostRuntime, words: &[String], keeper: AnyKeeper) -> Status {
         &mut source,
         &mut sink,
         links,
-        keeper,
+        ToldKeeper::new(rt, keeper),
         clocks,
         &OpenGate,
     );
+    source.end();
     if let Some(keeper) = keeper {
-        let _ = keeper.close();
+        let _ = keeper.into_keeper().close();
     }
     status
+}
+
+// Whether it is told how far an import is. Answers that a terminal shows tell it themselves.
+fn is_import_told(rt: HostRuntime, words: &[String]) -> bool {
+    match read_words(words) {
+        Some(Words::Import { .. }) => !rt.stdout().is_terminal(),
+        _ => false,
+    }
 }

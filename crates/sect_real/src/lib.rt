@@ -6,7 +6,7 @@ mod database;
 
 pub use any::AnyKeeper;
 pub use database::SqliteKeeper;
-pub use sect_system::{FileDisk, RealClock, StdSink, StdSource};
+pub use sect_system::{FileDisk, RealClock, StdSink, StdSource, ToldKeeper, ToldSource};
 
 #[cfg(test)]
 mod tests;

@@ -19,6 +19,8 @@ pub struct Case<'a> {
     pub failing_write: u64,
     /// The append that fails.
     pub failing_append: u64,
+    /// The call by which the keeper's rows are counted or read that fails.
+    pub failing_row: u64,
     /// How the desk must end.
     pub status: Status,
 }
@@ -32,5 +34,6 @@ pub const RUN: Case<'static> = Case {
     failing_read: 0,
     failing_write: 0,
     failing_append: 0,
+    failing_row: 0,
     status: Status::Done,
 };

@@ -24,9 +24,13 @@ fn number_alone(alloc: Global, number: u64) -> Result<Vec<u64>, Memory> {
     Ok(numbers)
 }
 
+/// Stands for the word without letters.
+const NO_LETTERS: &str = "\"\"";
+
 fn words_of(alloc: Global, text: &str) -> Result<Vec<String>, Memory> {
     let mut words = Vec::new(alloc);
     for word in text.split_whitespace() {
+        let word = if word == NO_LETTERS { "" } else { word };
         words.push(word.to_string(alloc)?)?;
     }
     Ok(words)
@@ -51,7 +55,7 @@ fn clocks(alloc: Global) -> Result<Vec<MemClock>, Memory>
 }
 
 /// Runs the desk by the case's words over these bytes and this keeper, with a sink that takes a byte at a time.
-fn run_over<R: AllocGlobal>(
+pub fn run_over<R: AllocGlobal>(
     rt: &R,
     case: &Case<'_>,
     input: Vec<u8>,
@@ -83,13 +87,18 @@ fn run_over<R: AllocGlobal>(
     })
 }
 
-/// Runs the desk over these bytes and a keeper with the case's rows.
-pub fn run_desk<R: AllocGlobal>(rt: &R, case: &Case<'_>, input: Vec<u8>) -> Result<Ended, Memory> {
-    let alloc = rt.alloc();
-    let keeper = MemKeeper::new(
+/// A keeper with the case's rows.
+pub fn keeper_of(alloc: Global, case: &Case<'_>) -> Result<MemKeeper, Memory> {
+    Ok(MemKeeper::with_reads(
         rows_of(alloc, case.rows)?,
         number_alone(alloc, case.failing_append)?,
-    );
+        number_alone(alloc, case.failing_row)?,
+    ))
+}
+
+/// Runs the desk over these bytes and a keeper with the case's rows.
+pub fn run_desk<R: AllocGlobal>(rt: &R, case: &Case<'_>, input: Vec<u8>) -> Result<Ended, Memory> {
+    let keeper = keeper_of(rt.alloc(), case)?;
     run_over(rt, case, input, keeper)
 }
 

@@ -3,13 +3,16 @@
 
 mod clock;
 mod disk;
+mod progress;
 mod sink;
 mod source;
+mod told;
 
 pub use clock::RealClock;
 pub use disk::FileDisk;
 pub use sink::StdSink;
 pub use source::StdSource;
+pub use told::{ToldKeeper, ToldSource};
 
 #[cfg(test)]
 mod tests;

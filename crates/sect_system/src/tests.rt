@@ -1,7 +1,7 @@
 // The real objects, each over the system.
 
-use crate::{FileDisk, RealClock, StdSink, StdSource};
-use sect_edge::{Clock, Failed, Keeper, Sink, Source};
+use crate::{FileDisk, RealClock, StdSink, StdSource, ToldKeeper, ToldSource};
+use sect_edge::{Clock, Failed, KeepFault, Keeper, MemKeeper, MemSource, Sink, Source};
 use sect_journal::{Disk, DiskFault, Journal};
 use std::fs::{self, File};
 use std::io;
@@ -102,4 +102,36 @@ fn a_writer_is_a_sink(rt: HostRuntime) {
 fn the_clock_tells_a_day_of_this_century(rt: HostRuntime) {
     let mut clock = RealClock::new(rt);
     assert!(rt; clock.today().get() > 20_000);
+}
+
+#[test]
+fn a_source_that_is_told_reads_as_the_one_behind_it(rt: HostRuntime) -> io::Result<()> {
+    let alloc = rt.alloc();
+    let mut fail = Vec::new(alloc);
+    fail.push(2)?;
+    let mut source = ToldSource::new(rt, MemSource::new(b"abc".to_vec(alloc)?, 2, fail), true);
+    let mut into = [0; 8];
+    assert!(rt; source.read(&mut into) == Ok(2));
+    assert!(rt; source.read(&mut into) == Err(Failed));
+    assert!(rt; source.read(&mut into) == Ok(1));
+    assert!(rt; source.read(&mut into) == Ok(0));
+    source.end();
+    Ok(())
+}
+
+#[test]
+fn a_keeper_that_is_told_keeps_as_the_one_behind_it(rt: HostRuntime) -> io::Result<()> {
+    let alloc = rt.alloc();
+    let mut fail = Vec::new(alloc);
+    fail.push(2)?;
+    let mut keeper = ToldKeeper::new(rt, MemKeeper::new(Vec::new(alloc), fail));
+    let mut row = Vec::new(alloc);
+    assert!(rt; keeper.append(b"ab") == Ok(()));
+    assert!(rt; keeper.append(b"cd") == Err(KeepFault::Failed));
+    assert!(rt; keeper.len() == Ok(1));
+    assert!(rt; keeper.row(0, &mut row) == Ok(true));
+    assert!(rt; row.as_slice() == b"ab".as_slice());
+    assert!(rt; keeper.row(1, &mut row) == Ok(false));
+    assert!(rt; keeper.into_keeper().rows().len() == 1);
+    Ok(())
 }

@@ -113,7 +113,7 @@ fn setting<'a>(name: &'a [u8], value: &'a [u8]) -> Item<'a>
 }
 
 /// The first value of an option of this name.
-pub(crate) fn value<'a>(name: &[u8], words: &'a [String]) -> Option<&'a [u8]>
+pub fn value<'a>(name: &[u8], words: &'a [String]) -> Option<&'a [u8]>
     ensures worded { IfSome result (λ v. IsUtf8 v.now) }
     ensures value { option_map (λ v. v.now) result ≡ value_of name.now (items_of (map string_bytes words.now)) }
 {
@@ -130,7 +130,7 @@ pub(crate) fn value<'a>(name: &[u8], words: &'a [String]) -> Option<&'a [u8]>
 }
 
 /// The first word that stands alone, and the words behind it.
-pub(crate) fn next_positional(words: &[String]) -> Option<(&[u8], &[String])>
+pub fn next_positional(words: &[String]) -> Option<(&[u8], &[String])>
     ensures { positionals_with (option_map (λ r. (r.0.now, positionals_of (items_of (map string_bytes r.1.now)))) result) ≡ positionals_of (items_of (map string_bytes words.now)) }
 {
     let mut rest = words;

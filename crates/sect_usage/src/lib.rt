@@ -11,6 +11,7 @@ mod verb;
 mod words;
 
 pub use help::{help_of, version};
+pub use items::{next_positional, value as option_value};
 pub use needed::{Needs, WordFault};
 pub use needing::needs;
 pub use verb::{Topic, Verb};
