@@ -1,12 +1,13 @@
 -- Whether the lists of a world have room for the rows of another.
-use Rattle.std.specs.Prelude.{◌≡◌, ℕ, ◌+◌, ◌-◌, ◌<◌, ◌≤◌, ⊤, Bool, true, ◌||◌, ◌==◌, length}
+use Rattle.std.specs.Prelude.{◌≡◌, ℕ, ◌+◌, ◌-◌, ◌<◌, ◌≤◌, ⊤, Bool, true, ◌||◌, ◌==◌, length, All}
 use Rattle.std.specs.List.{list_any}
 use Rattle.std.specs.Option.{is_some}
 use Rattle.sect_base.specs.declared.ids.ReservationId.{ReservationId}
 use Rattle.sect_model.specs.World.{World, reservation_of}
+use Rattle.sect_people.specs.Student.{Student}
 use Rattle.sect_model.specs.declared.change.Change.{Change}
-use Rattle.sect_model.specs.declared.change.Change.TheVariants.{Offering, Student, Requests, Reserve, Unreserve, Expiry, Restrict, Unrestrict, Cap as new_cap, Cancelled, Day, Enrol, Leave}
-use Rattle.sect_slots.specs.Rostered.{capacity_of, number_held}
+use Rattle.sect_model.specs.declared.change.Change.TheVariants.{Offering, Student as NewStudent, Requests, Reserve, Unreserve, Expiry, Restrict, Unrestrict, Cap as new_cap, Cancelled, Day, Enrol, Leave}
+use Rattle.sect_slots.specs.Rostered.{Rostered, capacity_of, number_held}
 use Rattle.sect_space.specs.Roomed.{Roomed}
 
 -- how many enrolments more of the student of a number fit without asking for memory
@@ -17,10 +18,18 @@ free_for r n = capacity_of r.rooms n - number_held n r.world.roster
 abbrev pub room_for : Roomed → ℕ → ℕ
 room_for r n = number_held n r.world.roster + free_for r n
 
+-- so many enrolments more of the student fit
+abbrev pub HasRoomFor : Rostered → ℕ → Student → Type 0
+HasRoomFor r n s = n ≤ capacity_of r.rooms s.row.id.0 - number_held s.row.id.0 r.items
+
+-- so many enrolments more of each known student fit
+abbrev pub HasSpare : Roomed → ℕ → Type 0
+HasSpare r n = All (λ s. n ≤ free_for r s.row.id.0) r.world.students
+
 -- where the change enrols a student, that fits without asking for memory
 abbrev pub HasPlace : Roomed → Change → Type 0
 HasPlace r (Offering row) = ⊤
-HasPlace r (Student row) = ⊤
+HasPlace r (NewStudent row) = ⊤
 HasPlace r (Requests student asks) = ⊤
 HasPlace r (Reserve row) = ⊤
 HasPlace r (Unreserve id) = ⊤

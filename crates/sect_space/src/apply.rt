@@ -1,17 +1,20 @@
 // Changes of the world, recorded, and undone again.
 
-ghost use Rattle.std.specs.Prelude.{◌≡◌, ℕ, ◌<◌, ◌≤◌, ◌+◌, ◌++◌, ◌∷◌, [], length, take, drop, IsOk, OnOk, OnErr, IsTrue};
+ghost use Rattle.std.specs.Prelude.{◌≡◌, ℕ, ◌<◌, ◌≤◌, ◌+◌, ◌++◌, ◌∷◌, [], length, take, drop, All, IsOk, OnOk, OnErr, IsTrue};
 ghost use Rattle.sect_model.specs.Fits.{Fits, changed};
 ghost use Rattle.sect_space.specs.Back.{back_of};
 ghost use Rattle.sect_space.specs.Made.{Unchanged};
-ghost use Rattle.sect_space.specs.Room.{HasPlace, KeepsRoom, KeepsUses, free_for};
+ghost use Rattle.sect_slots.specs.Rostered.{capacity_of};
+ghost use Rattle.sect_space.specs.Room.{HasPlace, HasRoomFor, HasSpare, KeepsRoom, KeepsUses, free_for};
 ghost use Rattle.sect_space.specs.Undo.{undone, Undoable, takes_none};
 ghost use Rattle.sect_space.specs.Undoing.{UndoneLast};
 
 use crate::undo::Undo;
 use crate::world::World;
-use sect_base::{Memory, StudentId};
+use sect_base::Memory;
 use sect_model::Change;
+use sect_people::Student;
+use sect_slots::Roster;
 
 impl World {
     /// Makes a change that fits, and records it behind the others. Where memory runs out, the world and what is recorded
@@ -34,19 +37,19 @@ impl World {
         Ok(())
     }
 
-    /// Makes room for so many changes that enrol this student, take an enrolment away, or set the day. The world and what is
-    /// recorded stay.
-    pub fn reserve(&mut self, undo: &mut Undo, student: StudentId, n: usize) -> Result<(), Memory>
+    /// Makes room for so many changes that enrol a known student, take an enrolment away, or set the day, whoever the
+    /// students are. The world and what is recorded stay.
+    pub fn reserve(&mut self, undo: &mut Undo, n: usize) -> Result<(), Memory>
         ensures world { self.new.world ≡ self.old.world }
         ensures recorded { undo.new.backs ≡ undo.old.backs }
-        ensures spare { OnOk result (n ≤ free_for self.new student.0) }
+        ensures spare { OnOk result (HasSpare self.new n) }
         ensures undo_spare { OnOk result (n ≤ undo.new.spare) }
         ensures room { KeepsRoom self.old self.new }
         ensures undo_room { undo.old.spare ≤ undo.new.spare }
-        ensures enough { n ≤ free_for self.old student.0 → n ≤ undo.old.spare → IsOk result }
+        ensures enough { HasSpare self.old n → n ≤ undo.old.spare → IsOk result }
         ensures undoable { Undoable self.old undo.old.backs → Undoable self.new undo.new.backs }
     {
-        self.reserve_roster(student, n)?;
+        self.reserve_roster(n)?;
         undo.reserve(n)
     }
 
@@ -84,12 +87,25 @@ impl World {
         self.take_back(back);
     }
 
-    fn reserve_roster(&mut self, student: StudentId, n: usize) -> Result<(), Memory>
+    fn reserve_roster(&mut self, n: usize) -> Result<(), Memory>
         ensures same { Unchanged self.old self.new }
         ensures uses { KeepsUses self.old self.new }
-        ensures spare { OnOk result (n ≤ free_for self.new student.0) }
-        ensures enough { n ≤ free_for self.old student.0 → IsOk result }
+        ensures spare { OnOk result (HasSpare self.new n) }
+        ensures enough { HasSpare self.old n → IsOk result }
     {
-        self.parts.roster.reserve(student, n)
+        reserve_each(self.parts.people.students(), &mut self.parts.roster, n)
     }
+}
+
+/// Makes room for so many enrolments more of each student. Where memory runs out, some have it.
+fn reserve_each(students: &[Student], roster: &mut Roster, n: usize) -> Result<(), Memory>
+    ensures items { roster.new.items ≡ roster.old.items }
+    ensures grows { (m : ℕ) → capacity_of roster.old.rooms m ≤ capacity_of roster.new.rooms m }
+    ensures spare { OnOk result (All (HasRoomFor roster.new n) students.now) }
+    ensures enough { All (HasRoomFor roster.old n) students.now → IsOk result }
+{
+    for student in students {
+        roster.reserve(student.row().id, n)?;
+    }
+    Ok(())
 }
