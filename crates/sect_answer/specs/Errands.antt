@@ -6,7 +6,7 @@ use Rattle.sect_command.specs.declared.command.Command.{Command}
 use Rattle.sect_json.specs.Bodies.{command_of}
 use Rattle.sect_page.specs.Pages.{method_text}
 use Rattle.sect_page.specs.declared.page.Method.TheVariants.{Get, Post}
-use Rattle.sect_read.specs.Fits.{FitsCommand, FitsId}
+use Rattle.sect_read.specs.Fits.{FitsCommand, FitsDay, FitsId}
 use Rattle.sect_route.specs.Targets.{IsTarget}
 use Rattle.sect_route.specs.declared.target.Target.{Target}
 use Rattle.sect_route.specs.declared.target.Target.TheVariants.{Ask, Look}
@@ -48,3 +48,15 @@ FitsErrand (OtherMethod method) = ⊤
 FitsErrand NoCommand = ⊤
 FitsErrand (Asks id command) = FitsId id × FitsCommand command
 FitsErrand (Looks query) = ⊤
+
+-- what is asked may be asked on each day that has a text
+abbrev pub MayDo : (Id → ℕ → Command → Type 0) → Errand → Type 0
+MayDo may_ask NoRoute = ⊤
+MayDo may_ask (OtherMethod method) = ⊤
+MayDo may_ask NoCommand = ⊤
+MayDo may_ask (Asks id command) = (day : ℕ) → FitsDay day → may_ask id day command
+MayDo may_ask (Looks query) = ⊤
+
+-- each request whose id, day and command have texts may be asked
+abbrev pub TakesTexts : (Id → ℕ → Command → Type 0) → Type 0
+TakesTexts may_ask = (id : Id) (day : ℕ) (command : Command) → FitsId id → FitsDay day → FitsCommand command → may_ask id day command

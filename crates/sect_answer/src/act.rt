@@ -1,28 +1,27 @@
 // What is asked for is done.
 
-ghost use Rattle.std.specs.Prelude.{[], ◌≡◌, ◌≤◌, ◌⊎◌, vec_capacity};
+ghost use Rattle.std.specs.Prelude.{[], ◌≡◌, ◌≤◌, ℕ, List, Option, vec_capacity};
 ghost use mathlib.Core.List.{IsPrefix};
 ghost use Rattle.sect_answer.specs.Answering.{Does, DoesAsk, DoesLook, said_of, sitting};
-ghost use Rattle.sect_answer.specs.Errands.{FitsErrand};
-ghost use Rattle.sect_read.specs.Fits.{FitsCommand, FitsId};
+ghost use Rattle.sect_answer.specs.Errands.{MayDo};
+ghost use Rattle.sect_read.specs.Fits.{FitsDay};
 ghost use Rattle.sect_turn.specs.Passes.{front, opening, share, IsIdle, IsPassOf};
 
 use crate::errand::Errand;
 use crate::said::{answered, no_command, no_route, other_method};
 use http::StatusCode;
-use sect_asking::LineObject;
 use sect_base::{Id, Memory};
-use sect_command::{Command, Query, View};
+use sect_command::{Command, Query, Reply, View};
 use sect_edge::{Clock, Keeper};
 use sect_office::Office;
-use sect_once::Desk;
+use sect_once::{Desk, Object};
 use sect_page::{Kind, Page};
 use sect_report::report;
 use sect_turn::Pass;
 use std::sync::Wait;
 
 // Asks the office a command on the clock's day.
-fn ask<O: LineObject<Query = Query, View = View>, K: Keeper, C: Clock, R: Wait>(
+fn ask<O: Object<Command = Command, Reply = Reply, Query = Query, View = View>, K: Keeper, C: Clock, R: Wait>(
     rt: &R,
     office: &Office<O, K>,
     pass: &mut Pass<Desk<O, K>>,
@@ -33,7 +32,7 @@ fn ask<O: LineObject<Query = Query, View = View>, K: Keeper, C: Clock, R: Wait>(
 ) -> Result<Page, Memory>
     requires turn { IsPassOf (λ d. d.log) (λ d. d.base) office.now.turn pass.old }
     requires idle { IsIdle pass.old }
-    requires fits { FitsId id × FitsCommand command }
+    requires askable { (day : ℕ) → FitsDay day → O.may_ask id day command }
     requires empty { into.old.items ≡ [] }
     requires room { 64 ≤ vec_capacity into.old }
     ensures turn { IsPassOf (λ d. d.log) (λ d. d.base) office.now.turn pass.new × IsIdle pass.new }
@@ -47,7 +46,7 @@ fn ask<O: LineObject<Query = Query, View = View>, K: Keeper, C: Clock, R: Wait>(
 }
 
 // Looks at the object of the office.
-fn look<O: LineObject<Query = Query, View = View>, K: Keeper, R: Wait>(
+fn look<O: Object<Command = Command, Reply = Reply, Query = Query, View = View>, K: Keeper, R: Wait>(
     rt: &R,
     office: &Office<O, K>,
     pass: &mut Pass<Desk<O, K>>,
@@ -74,7 +73,7 @@ fn look<O: LineObject<Query = Query, View = View>, K: Keeper, R: Wait>(
 
 /// Does what a request asks for, and gives the page of the answer, with its text in the room. The clock is read once for
 /// a command, and else not at all. `Memory` is where the answer is that memory was wanted: a command may have acted then.
-pub fn act<O: LineObject<Query = Query, View = View>, K: Keeper, C: Clock, R: Wait>(
+pub fn act<O: Object<Command = Command, Reply = Reply, Query = Query, View = View>, K: Keeper, C: Clock, R: Wait>(
     rt: &R,
     office: &Office<O, K>,
     pass: &mut Pass<Desk<O, K>>,
@@ -84,7 +83,7 @@ pub fn act<O: LineObject<Query = Query, View = View>, K: Keeper, C: Clock, R: Wa
 ) -> Result<Page, Memory>
     requires turn { IsPassOf (λ d. d.log) (λ d. d.base) office.now.turn pass.old }
     requires idle { IsIdle pass.old }
-    requires fits { FitsErrand errand }
+    requires askable { MayDo O.may_ask errand }
     requires empty { into.old.items ≡ [] }
     requires room { 64 ≤ vec_capacity into.old }
     ensures turn { IsPassOf (λ d. d.log) (λ d. d.base) office.now.turn pass.new × IsIdle pass.new }

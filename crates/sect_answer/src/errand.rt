@@ -1,6 +1,6 @@
 // What a request asks for.
 
-ghost use Rattle.std.specs.Prelude.{◌≡◌, IfOk, option_map, OnOk, Result, Ok, Err, Some, ℕ};
+ghost use Rattle.std.specs.Prelude.{◌≡◌, IfOk, IfSome, IfNone, Result, Ok, Err, Some, ℕ};
 ghost use Rattle.sect_command.specs.declared.command.Command.{Command};
 ghost use Rattle.sect_json.specs.Bodies.{command_of};
 ghost use Rattle.sect_page.specs.Pages.{method_text};

@@ -7,3 +7,4 @@ mod said;
 
 pub use act::act;
 pub use errand::{Errand, errand};
+pub use said::{json_page, put};

@@ -12,8 +12,8 @@ use sect_once::Answer;
 use sect_page::{Kind, Method, Page};
 use sect_pieces::append;
 
-// A page of JSON behind which the connection stays, unless it is closing.
-pub(crate) fn json_page(status: StatusCode, allow: Option<Method>, closing: bool) -> Page
+/// A page of JSON, and whether the connection closes behind it.
+pub fn json_page(status: StatusCode, allow: Option<Method>, closing: bool) -> Page
     ensures { result ≡ json_page status allow closing }
 {
     Page {
@@ -24,8 +24,8 @@ pub(crate) fn json_page(status: StatusCode, allow: Option<Method>, closing: bool
     }
 }
 
-// Puts a short text where there is room for it.
-fn put(text: &[u8], into: &mut Vec<u8>)
+/// Puts a text where nothing stands and there is room for it. It takes no memory.
+pub fn put(text: &[u8], into: &mut Vec<u8>)
     requires empty { into.old.items ≡ [] }
     requires room { length text.now ≤ vec_capacity into.old }
     ensures { into.new.items ≡ text.now }
