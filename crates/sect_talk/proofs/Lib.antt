@@ -1,0 +1,4 @@
+pub mod Fronts
+pub mod Stored
+pub mod Taken
+pub mod Talks

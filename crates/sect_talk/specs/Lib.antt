@@ -1,0 +1,4 @@
+pub mod Asked
+pub mod Coming
+pub mod Rest
+pub mod Talk
