@@ -1,5 +1,5 @@
 -- What a request is answered, and what that does to the sink.
-use Rattle.std.specs.Prelude.{◌≡◌, ℕ, Bool, true, List, Option, Result}
+use Rattle.std.specs.Prelude.{◌≡◌, ℕ, Bool, true, List, Option, Result, ⊤}
 use Rattle.sect_edge.specs.declared.edge.Failed.{Failed}
 use Rattle.sect_page.specs.Said.{Said}
 use Rattle.sect_talk.specs.Asked.{Asked, answer_text, closes}
@@ -12,6 +12,12 @@ abbrev pub wish_closes : Wish → Bool
 wish_closes (Refused why) = true
 wish_closes Wanting = true
 wish_closes (Asks errand closing) = closing
+
+-- it is refused, or memory was wanted
+abbrev pub IsRefusal : Wish → Type 0
+IsRefusal (Refused why) = ⊤
+IsRefusal Wanting = ⊤
+IsRefusal (Asks errand closing) = ⊥
 
 -- request number `number` is answered, the answer was written as far as the sink took it, and this says whether the connection closes
 pub record Responds {H : Type 0} (answers : H → Asked → Said → H → Type 0) (number : ℕ) (taken taken' : Option (List ℕ))

@@ -1,6 +1,6 @@
 // The next request of a connection is heard.
 
-ghost use Rattle.std.specs.Prelude.{◌≡◌, ◌≤◌, ◌+◌, ◌⊎◌, ℕ, List, Option, Err, true, false, codes, drop, length, take, IfOk};
+ghost use Rattle.std.specs.Prelude.{◌≡◌, ◌≢◌, ◌≤◌, ◌+◌, Err, true, false, codes, drop, length, take, IfOk};
 ghost use Rattle.std.specs.Str.{bytes_eq};
 ghost use Rattle.httparse.specs.Grammar.{RequestHead};
 ghost use Rattle.httparse.specs.Spans.{IsRequestAt, IsRequestWithin, IsWithin, span_bytes};
@@ -13,7 +13,7 @@ ghost use Rattle.sect_http.specs.Hearing.{BeginsWith, Hears, IsHeard};
 ghost use Rattle.sect_talk.specs.Asked.{Asked, Bytes, HEAD_LIMIT, is_head_method};
 ghost use Rattle.sect_talk.specs.Coming.{IsCrowdedHead, Takes};
 ghost use Rattle.sect_talk.specs.Rest.{IsBlank, IsCut, IsNoHead, IsOpenHead};
-ghost use Rattle.sect_talk.specs.declared.end.End.TheVariants.{ReadFault};
+ghost use Rattle.sect_talk.specs.declared.end.End.TheVariants.{ReadFault, WriteFault};
 
 use crate::heard::{Heard, Wish};
 use httparse::spans::{EMPTY_HEADER_SPAN, HeaderSpan, RequestSpans};
@@ -144,6 +144,7 @@ fn whole<S: Source>(
     ensures hears { Hears room.new (S.left source.new) result }
     ensures later { S.faults source.old ≤ S.faults source.new }
     ensures fault { result ≡ Err ReadFault → Rose (S.faults source.old) (S.faults source.new) }
+    ensures others { result ≢ Err WriteFault }
 {
     let closing = closes_by(room.bytes(), spans, head);
     let headless = is_head(head.method.of(room.bytes()));
@@ -183,6 +184,7 @@ pub(crate) fn hear<S: Source>(
     ensures hears { Hears room.new (S.left source.new) result }
     ensures later { S.faults source.old ≤ S.faults source.new }
     ensures fault { result ≡ Err ReadFault → Rose (S.faults source.old) (S.faults source.new) }
+    ensures others { result ≢ Err WriteFault }
 {
     let mut spans = [EMPTY_HEADER_SPAN; 64];
     match await_head(alloc, room, source, &mut spans) {

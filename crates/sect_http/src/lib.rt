@@ -8,4 +8,4 @@ mod session;
 mod tell;
 mod turn;
 
-pub use session::{Bench, session, talk};
+pub use session::{Bench, talk};

@@ -1,10 +1,11 @@
 // What a request wishes is done.
 
-ghost use Rattle.std.specs.Prelude.{[], ◌≡◌, ◌≤◌, vec_capacity};
+ghost use Rattle.std.specs.Prelude.{[], true, ◌≡◌, ◌≤◌, vec_capacity};
 ghost use Rattle.sect_answer.specs.Answering.{said_of, sitting};
 ghost use Rattle.sect_answer.specs.Errands.{TakesTexts};
 ghost use Rattle.sect_http.specs.Answers.{Answers, refused};
 ghost use Rattle.sect_http.specs.Hearing.{IsFramed, Wishes};
+ghost use Rattle.sect_http.specs.Turns.{IsRefusal};
 ghost use Rattle.sect_talk.specs.Asked.{Asked};
 ghost use Rattle.sect_turn.specs.Passes.{opening, share, IsIdle, IsPassOf};
 
@@ -25,7 +26,8 @@ use std::sync::Wait;
 fn refuse(why: Refusal, into: &mut Vec<u8>) -> Page
     requires empty { into.old.items ≡ [] }
     requires room { 64 ≤ vec_capacity into.old }
-    ensures { record { page = result; body = into.new.items } ≡ refused why }
+    ensures said { record { page = result; body = into.new.items } ≡ refused why }
+    ensures closing { result.closing ≡ true }
 {
     match why {
         Refusal::Head => {
@@ -70,6 +72,7 @@ pub(crate) fn say<
     requires room { 64 ≤ vec_capacity into.old }
     ensures turn { IsPassOf (λ d. d.log) (λ d. d.base) office.now.turn pass.new × IsIdle pass.new }
     ensures same { (share pass.new ≡ share pass.old) × (opening pass.new ≡ opening pass.old) }
+    ensures shut { IsRefusal wish → (said_of result into.new.items).page.closing ≡ true }
     ensures answers { (asked : Asked) → IsFramed asked → Wishes asked wish → Answers O.start O.stepped O.is_row O.looked
         (sitting pass.old (C.days clock.old)) asked (said_of result into.new.items) (sitting pass.new (C.days clock.new)) }
 {
