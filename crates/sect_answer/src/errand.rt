@@ -84,7 +84,7 @@ fn look_errand(query: Query, method: &[u8]) -> Errand
 }
 
 /// What a request asks for, by its method, its target and its body. It takes the memory of the command.
-pub fn errand(
+pub fn read_errand(
     alloc: Global,
     routes: &Routes,
     method: &[u8],

@@ -1,10 +1,10 @@
 //! What a request asks for, and what it is answered, without a byte of HTTP read or written.
 #![tactic(auto)]
 
-mod act;
+mod doing;
 mod errand;
 mod said;
 
-pub use act::act;
-pub use errand::{Errand, errand};
+pub use doing::act;
+pub use errand::{Errand, read_errand};
 pub use said::{json_page, put};

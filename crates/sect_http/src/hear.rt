@@ -17,7 +17,7 @@ ghost use Rattle.sect_talk.specs.declared.end.End.TheVariants.{ReadFault, WriteF
 
 use crate::heard::{Heard, Wish};
 use httparse::spans::{EMPTY_HEADER_SPAN, HeaderSpan, RequestSpans};
-use sect_answer::{Errand, errand};
+use sect_answer::{Errand, read_errand};
 use sect_base::Memory;
 use sect_edge::Source;
 use sect_head::{Framing, Refusal, blank_lines, closes_by, framing};
@@ -93,7 +93,7 @@ fn errand_of(
     ensures fits { IfOk result FitsErrand }
 {
     let body = &bytes[head.len..head.len + len];
-    errand(
+    read_errand(
         alloc,
         routes,
         head.method.of(bytes),
