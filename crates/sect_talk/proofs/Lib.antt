@@ -1,3 +1,4 @@
+pub mod Blank
 pub mod Fronts
 pub mod Stored
 pub mod Taken

@@ -1,7 +1,5 @@
 use Rattle.std.proofs.Common.{sym}
-use Rattle.sect_talk.proofs.Fronts.{head_stays}
 use Rattle.sect_talk.proofs.Stored.{drop-stored}
-use Rattle.sect_talk.proofs.Talks.{talk_ended}
 use Rattle.sect_talk.proofs.room.Room.consume.Goals as goal
 
 pub returns : goal.returns
