@@ -1,3 +1,4 @@
+pub mod Along
 pub mod Heads
 pub mod Short
 pub mod Turning

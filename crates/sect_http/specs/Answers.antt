@@ -1,5 +1,5 @@
 -- What answers the requests of a connection.
-use Rattle.std.specs.Prelude.{◌≡◌, ◌⊎◌, ℕ, List, length, codes}
+use Rattle.std.specs.Prelude.{◌≡◌, ◌⊎◌, ℕ, List, [], length, codes}
 use Rattle.sect_answer.specs.Answering.{Does, Sitting}
 use Rattle.sect_answer.specs.Errands.{IsErrand}
 use Rattle.sect_answer.specs.declared.errand.Errand.{Errand}
@@ -29,6 +29,10 @@ abbrev pub IsRefused : Asked → Refusal → Type 0
 IsRefused (Bytes raw) why = IsNoHead raw × (why ≡ refusals.Head)
 IsRefused (Head h) why = framing_of h ≡ Refuses why
 IsRefused (Whole h body) why = ⊥
+
+-- nothing was read, and it is told that memory was wanted
+abbrev pub IsRefusedAtOnce : Sitting → Asked → Said → Sitting → Type 0
+IsRefusedAtOnce old asked said new = (new ≡ old) × (asked ≡ Bytes []) × (said ≡ no_memory)
 
 module _ {S : Type 0} (start : S) (stepped : S → ℕ → Caller → Command → S × Reply) (is_row : Entry Command Reply → List ℕ → Type 0) (looked : S → Query → View) where
   -- a request whose head isn't read or isn't taken is refused and changes nothing; one that is whole is done as its method, target

@@ -4,8 +4,8 @@
 mod hear;
 mod heard;
 mod say;
-mod session;
+mod sitting;
 mod tell;
 mod turn;
 
-pub use session::{Bench, talk};
+pub use sitting::{Bench, session, talk};

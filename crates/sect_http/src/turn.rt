@@ -37,8 +37,8 @@ fn closes(wish: &Wish) -> bool
     }
 }
 
-// Passes the gate before a step, which is counted.
-fn pass_gate<G: Gate, R: Wait>(rt: &R, gate: &G, worker: u32, step: &mut u64)
+/// Passes the gate before a step, which is counted.
+pub(crate) fn pass_gate<G: Gate, R: Wait>(rt: &R, gate: &G, worker: u32, step: &mut u64)
     requires { step.old < 2 ^ 64 - 1 }
     ensures { step.new ≡ step.old + 1 }
 {
