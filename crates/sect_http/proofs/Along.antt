@@ -1,5 +1,5 @@
 -- What holds from the first state of a connection to its last.
-use Rattle.std.proofs.Common.{◌≡◌, ◌⊎◌, ℕ, ◌+◌, ◌*◌, ◌-◌, ◌≤◌, List, [], ◌∷◌, ◌++◌, take, Option, refl, sym, ap, ◌∙◌, subst, inl, inr, arith, append-nil, length}
+use Rattle.std.proofs.Common.{◌≡◌, ◌⊎◌, ℕ, ◌+◌, ◌*◌, ◌-◌, ◌≤◌, false, List, [], ◌∷◌, ◌++◌, take, Option, refl, sym, ap, ◌∙◌, subst, inl, inr, arith, append-nil, length}
 use mathlib.Core.List.{IsPrefix}
 use Rattle.sect_answer.specs.Answering.{Does, Sitting}
 use Rattle.sect_answer.specs.declared.errand.Errand.{Errand}
@@ -98,15 +98,15 @@ refused_answers : (old : Sitting) → IsRefusedAtOnce old (Bytes []) no_memory o
 refused_answers old = (refl, refl, refl)
 
 -- the answer was written
-pub refused_closed : (left taken taken' : Option (List ℕ)) (step step' : ℕ) (old : Sitting) → Appends taken taken' (page_text no_memory.page false no_memory.body) → step' ≡ step + 2
+pub refused_closed : (left taken taken' : Option (List ℕ)) (step step' : ℕ) (old : Sitting) (bytes : List ℕ) → bytes ≡ page_text no_memory.page false no_memory.body → Appends taken taken' bytes → step' ≡ step + 2
     → Talked IsRefusedAtOnce left left taken taken' step step' old old Closed
-refused_closed left taken taken' step step' old written steps =
+refused_closed left taken taken' step step' old bytes is written steps =
     talk_closed IsRefusedAtOnce left left left taken taken taken' step step step' old old 1 [] [] (Bytes []) no_memory old
-    (talk_begins IsRefusedAtOnce left taken step old) (takes_none left []) tt (refused_answers old) refl (λ raw is. refl) written steps
+    (talk_begins IsRefusedAtOnce left taken step old) (takes_none left []) tt (refused_answers old) refl (λ raw is. refl) (subst (Appends taken taken') is written) steps
 
 -- a front of it was written
-pub refused_broken : (n : ℕ) (left taken taken' : Option (List ℕ)) (step step' : ℕ) (old : Sitting) → Appends taken taken' (take n (page_text no_memory.page false no_memory.body)) → step' ≡ step + 1
+pub refused_broken : (n : ℕ) (left taken taken' : Option (List ℕ)) (step step' : ℕ) (old : Sitting) (bytes : List ℕ) → bytes ≡ page_text no_memory.page false no_memory.body → Appends taken taken' (take n bytes) → step' ≡ step + 1
     → Talked IsRefusedAtOnce left left taken taken' step step' old old WriteFault
-refused_broken n left taken taken' step step' old written steps =
+refused_broken n left taken taken' step step' old bytes is written steps =
     talk_broken IsRefusedAtOnce left left left taken taken taken' step step step' old old 1 [] [] (Bytes []) no_memory old
-    n (talk_begins IsRefusedAtOnce left taken step old) (takes_none left []) tt (refused_answers old) (λ raw is. refl) written steps
+    n (talk_begins IsRefusedAtOnce left taken step old) (takes_none left []) tt (refused_answers old) (λ raw is. refl) (subst (λ l. Appends taken taken' (take n l)) is written) steps

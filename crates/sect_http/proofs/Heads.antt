@@ -19,8 +19,8 @@ use Rattle.sect_head.specs.declared.told.Refusal.TheVariants as refusals
 use Rattle.sect_talk.specs.Asked.{Asked, Bytes, Head, Whole, FitsHead, HEAD_LIMIT, is_head_method}
 use Rattle.sect_talk.specs.Coming.{IsCrowdedHead, Takes}
 use Rattle.sect_talk.specs.Rest.{IsBlank, IsCut, IsNoHead, IsOpenBody, IsOpenHead}
-use Rattle.sect_talk.proofs.Fronts.{head_stays, within_stays}
-use Rattle.sect_http.specs.Hearing.{BeginsWith, IsHeard, Wishes}
+use Rattle.sect_talk.proofs.Fronts.{head_stays}
+use Rattle.sect_http.specs.Hearing.{BeginsWith, IsHeard, IsMarked, IsReadAt, Wishes}
 use Rattle.sect_http.specs.declared.heard.Heard.{Heard}
 use Rattle.sect_http.specs.declared.heard.Wish.{Wish}
 use Rattle.sect_http.specs.declared.heard.Wish.TheVariants.{Refused, Wanting, Asks}
@@ -60,21 +60,25 @@ head_is_not_bytes h raw e = absurd cc
 whole_is_not_bytes : {P : Type 0} (h : RequestHead) (body raw : List ℕ) → Whole h body ≡ Bytes raw → P
 whole_is_not_bytes h body raw e = absurd cc
 
-is_head_at : (bytes method : List ℕ) → bytes ≡ method → bytes_eq bytes (codes "HEAD") ≡ bytes_eq method (codes "HEAD")
+pub is_head_at : (bytes method : List ℕ) → bytes ≡ method → bytes_eq bytes (codes "HEAD") ≡ bytes_eq method (codes "HEAD")
 is_head_at bytes method same = ap (λ l. bytes_eq l (codes "HEAD")) same
 
-pub heard_head : (bytes : List ℕ) (heard : Heard) (r : RequestSpans) (h : RequestHead) → ReadsRequest bytes h (drop r.len bytes) → r.len ≡ length (print_request h) → r.len ≤ HEAD_LIMIT
-    → heard.len ≡ r.len → heard.headless ≡ is_head_method h → Wishes (Head h) heard.wish → IsHeard bytes heard (Head h)
-heard_head bytes heard r h reads len short same headless wish = record {
+pub heard_head : (bytes : List ℕ) (heard : Heard) (r : RequestSpans) (h : RequestHead) → BeginsWith bytes r h → heard.len ≡ r.len → heard.headless ≡ is_head_method h → Wishes (Head h) heard.wish
+    → IsHeard bytes heard (Head h)
+heard_head bytes heard r h b same headless wish = record {
   rest = drop r.len bytes;
-  fits = (reads.0, omega (arith, len, short));
+  fits = b.fits;
   framed = tt;
-  bytes = reads.1;
-  len = same ∙ len;
+  bytes = b.reads;
+  len = same ∙ b.len;
   headless = headless;
   whole = λ raw is. head_is_not_bytes h raw is;
   wish = wish;
 }
+
+pub refused_head : (bytes : List ℕ) (heard : Heard) (r : RequestSpans) (h : RequestHead) (why : Refusal) → BeginsWith bytes r h → framing_of h ≡ Refuses why
+    → heard.len ≡ r.len → heard.headless ≡ is_head_method h → heard.wish ≡ Refused why → IsHeard bytes heard (Head h)
+refused_head bytes heard r h why b framing same headless wish = heard_head bytes heard r h b same headless (subst (Wishes (Head h)) (sym wish) framing)
 
 many_refused : (h : RequestHead) → 64 < length h.fields → framing_of h ≡ Refuses refusals.Head
 unfolding framing_of
@@ -82,22 +86,33 @@ many_refused h many = let more : nat_lt 64 (length h.fields) ≡ true = grind (a
 
 pub heard_crowded : (bytes : List ℕ) (heard : Heard) (r : RequestSpans) (h : RequestHead) → IsCrowdedHead bytes r h
     → heard.len ≡ r.len → heard.headless ≡ bytes_eq (span_bytes bytes r.method) (codes "HEAD") → heard.wish ≡ Refused refusals.Head → IsHeard bytes heard (Head h)
-heard_crowded bytes heard r h c same headless wish =
-    heard_head bytes heard r h c.reads c.len c.short same (headless ∙ is_head_at (span_bytes bytes r.method) h.method c.method) (subst (Wishes (Head h)) (sym wish) (many_refused h c.many))
+heard_crowded bytes heard r h c same headless wish = record {
+  rest = drop r.len bytes;
+  fits = (c.reads.0, omega (arith, c.len, c.short));
+  framed = tt;
+  bytes = c.reads.1;
+  len = same ∙ c.len;
+  headless = headless ∙ is_head_at (span_bytes bytes r.method) h.method c.method;
+  whole = λ raw is. head_is_not_bytes h raw is;
+  wish = subst (Wishes (Head h)) (sym wish) (many_refused h c.many);
+}
 
 -- ---- a head with its body
 
--- the head at a place, in the bytes with those that came since
-pub begins : (front more bytes : List ℕ) (spans : List HeaderSpan) (r : RequestSpans) (h : RequestHead) → bytes ≡ front ++ more
-    → IsRequestWithin front spans r → IsRequestAt front spans r h → r.len ≤ HEAD_LIMIT → BeginsWith bytes r h
-begins front more bytes spans r h is within at short =
-    let now = subst (λ l. IsRequestAt l spans r h) (sym is) (head_stays front more spans r h within at) in record {
-      fits = (now.reads.0, omega (arith, now.len, short));
-      reads = now.reads.1;
-      len = now.len;
-      method = now.method;
-      path = now.path;
-    }
+-- the head that was read
+pub begins : (bytes : List ℕ) (spans : List HeaderSpan) (r : RequestSpans) (h : RequestHead) → IsRequestAt bytes spans r h → r.len ≤ HEAD_LIMIT → BeginsWith bytes r h
+begins bytes spans r h at short = record {
+  fits = (at.reads.0, omega (arith, at.len, short));
+  reads = at.reads.1;
+  len = at.len;
+  method = at.method;
+  path = at.path;
+}
+
+-- the same, in the bytes with those that came since
+pub begins_more : (front bytes : List ℕ) (r : RequestSpans) (h : RequestHead) (more : List ℕ) → bytes ≡ front ++ more → IsReadAt front r h → r.len ≤ HEAD_LIMIT → BeginsWith bytes r h
+begins_more front bytes r h more is read short =
+    begins bytes read.spans r h (subst (λ l. IsRequestAt l read.spans r h) (sym is) (head_stays front more read.spans r h read.within read.at)) short
 
 body_there : (bytes : List ℕ) (at n : ℕ) → at + n ≤ length bytes → length (take n (drop at bytes)) ≡ n
 body_there bytes at n there = length-take-le n (drop at bytes) (let l = length-drop at bytes in omega (arith, l, there))

@@ -29,6 +29,7 @@ use Rattle.sect_page.specs.declared.page.Page.{Page}
 use Rattle.sect_json.specs.Answers.{answer_body}
 use Rattle.sect_talk.specs.Asked.{Asked, Bytes, Head, Whole}
 use Rattle.sect_http.specs.Answers.{Answers}
+use Rattle.sect_http.specs.Hearing.{IsFramed}
 use Rattle.sect_http.specs.Telling.{ANSWER_ROOM, IsTold, said_text}
 
 -- ---- pages
@@ -162,8 +163,17 @@ module _ {S : Type 0} (start : S) (stepped : S → ℕ → Caller → Command �
   does_want NoCommand old said new closing headless (same, is) long =
       absurd (not_long 400 None false (error_body (codes "body")) said closing headless front_400 (omega arith) is long)
   does_want (Asks id command) old said new closing headless d long =
-      record d { told = tells_want id d.day command old.front new.front old.own new.own d.answer said closing headless d.roomy d.shows d.told long }
-  does_want (Looks query) old said new closing headless d long = record d { told = inr refl }
+      record {
+        day = d.day;
+        answer = d.answer;
+        on = d.on;
+        grown = d.grown;
+        legal = d.legal;
+        roomy = d.roomy;
+        shows = d.shows;
+        told = tells_want id d.day command old.front new.front old.own new.own d.answer said closing headless d.roomy d.shows d.told long;
+      }
+  does_want (Looks query) old said new closing headless d long = record { grown = d.grown; legal = d.legal; own = d.own; days = d.days; told = inr refl }
 
   -- what is told in place of what was to be said answers the request too
   pub told_answers : (old : Sitting) (asked : Asked) (said : Said) (new : Sitting) (closing headless : Bool) (told : Said)
@@ -177,3 +187,9 @@ module _ {S : Type 0} (start : S) (stepped : S → ℕ → Caller → Command �
   told_answers old (Whole h body) said new closing headless told (framed, inr (e, is, does)) t =
       told_or (λ s. Answers start stepped is_row looked old (Whole h body) s new) said told closing headless (framed, inr (e, is, does))
       (λ long. (framed, inr (e, is, does_want e old said new closing headless does long))) t
+
+  -- to each request it may be told that memory was wanted before anything was done
+  pub want_answers : (old : Sitting) (asked : Asked) → IsFramed asked → Answers start stepped is_row looked old asked no_memory old
+  want_answers old (Bytes raw) framed = (refl, inr refl)
+  want_answers old (Head h) framed = (refl, inr refl)
+  want_answers old (Whole h body) framed = (framed, inl (refl, refl))

@@ -1,18 +1,20 @@
 -- What was heard of the next request, in the bytes that stand ready.
 use Rattle.std.specs.Prelude.{◌≡◌, ℕ, Bool, false, List, [], ◌++◌, drop, length, Option, Result, Ok, Err, ⊤}
 use Rattle.httparse.specs.Grammar.{RequestHead, print_request}
-use Rattle.httparse.specs.Spans.{span_bytes}
+use Rattle.httparse.specs.Spans.{IsRequestAt, IsRequestWithin, span_bytes}
+use Rattle.httparse.specs.declared.spans.HeaderSpan.{HeaderSpan}
 use Rattle.httparse.specs.declared.spans.RequestSpans.{RequestSpans}
 use Rattle.sect_answer.specs.Errands.{FitsErrand, IsErrand}
 use Rattle.sect_answer.specs.declared.errand.Errand.{Errand}
 use Rattle.sect_head.specs.Closing.{closes_by}
 use Rattle.sect_head.specs.Framing.{framing_of}
 use Rattle.sect_head.specs.declared.told.Framing.TheVariants.{HasBody}
-use Rattle.sect_talk.specs.Asked.{Asked, Bytes, Head, Whole, FitsAsked, FitsHead, is_headless, raw_of}
+use Rattle.sect_talk.specs.Asked.{Asked, Bytes, Head, Whole, FitsAsked, FitsHead, is_head_method, is_headless, raw_of}
 use Rattle.sect_talk.specs.Rest.{IsEnd}
 use Rattle.sect_talk.specs.declared.end.End.{End}
 use Rattle.sect_http.specs.Answers.{IsRefused}
 use Rattle.sect_http.specs.declared.heard.Heard.{Heard}
+use Rattle.sect_http.specs.declared.heard.Marks.{Marks}
 use Rattle.sect_http.specs.declared.heard.Wish.{Wish}
 use Rattle.sect_http.specs.declared.heard.Wish.TheVariants.{Refused, Wanting, Asks}
 
@@ -57,3 +59,14 @@ pub record BeginsWith (bytes : List ℕ) (r : RequestSpans) (h : RequestHead) : 
   pub len : r.len ≡ length (print_request h)
   pub method : span_bytes bytes r.method ≡ h.method
   pub path : span_bytes bytes r.path ≡ h.target
+
+-- the marks are what the head says of its answer
+pub record IsMarked (h : RequestHead) (marks : Marks) : Type 0 where
+  pub closing : marks.closing ≡ closes_by h
+  pub headless : marks.headless ≡ is_head_method h
+
+-- the bytes begin with this head, of which some spans tell the parts
+pub record IsReadAt (bytes : List ℕ) (r : RequestSpans) (h : RequestHead) : Type 0 where
+  pub spans : List HeaderSpan
+  pub within : IsRequestWithin bytes spans r
+  pub at : IsRequestAt bytes spans r h

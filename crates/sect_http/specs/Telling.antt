@@ -17,7 +17,11 @@ said_text said closing headless = page_text (record said.page { closing = said.p
 abbrev pub IsTold : Said → Bool → Bool → Said → Type 0
 IsTold said closing headless told = (told ≡ said) ⊎ ((told ≡ no_memory) × (ANSWER_ROOM < length (said_text said closing headless)))
 
--- the text was written, or a front of it where the sink failed
-abbrev pub Wrote : Option (List ℕ) → Option (List ℕ) → List ℕ → Result (Unit {0}) Failed → Type 0
-Wrote taken taken' text (Ok _) = Appends taken taken' text
-Wrote taken taken' text (Err _) = (n : ℕ) × Appends taken taken' (take n text)
+-- the text was written, and this is whether the connection closes behind it; or a front of it was written where the sink failed
+abbrev pub Writes : Option (List ℕ) → Option (List ℕ) → List ℕ → Bool → Result Bool Failed → Type 0
+Writes taken taken' text closing (Ok ends) = (ends ≡ closing) × Appends taken taken' text
+Writes taken taken' text closing (Err _) = (n : ℕ) × Appends taken taken' (take n text)
+
+-- the same of what is said
+abbrev pub Tells : Option (List ℕ) → Option (List ℕ) → Said → Bool → Bool → Result Bool Failed → Type 0
+Tells taken taken' said closing headless result = Writes taken taken' (said_text said closing headless) (said.page.closing || closing) result

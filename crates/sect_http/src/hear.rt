@@ -1,6 +1,6 @@
 // The next request of a connection is heard.
 
-ghost use Rattle.std.specs.Prelude.{◌≡◌, ◌≢◌, ◌≤◌, ◌+◌, Err, true, false, codes, drop, length, take, IfOk};
+ghost use Rattle.std.specs.Prelude.{◌≡◌, ◌≢◌, ◌≤◌, ◌+◌, ℕ, Err, true, false, codes, drop, length, take, IfOk};
 ghost use Rattle.std.specs.Str.{bytes_eq};
 ghost use Rattle.httparse.specs.Grammar.{RequestHead};
 ghost use Rattle.httparse.specs.Spans.{IsRequestAt, IsRequestWithin, IsWithin, span_bytes};
@@ -8,14 +8,14 @@ ghost use Rattle.sect_answer.specs.Errands.{FitsErrand, IsErrand};
 ghost use Rattle.sect_edge.specs.Causes.{Rose};
 ghost use Rattle.sect_head.specs.Closing.{closes_by};
 ghost use Rattle.sect_head.specs.Framing.{framing_of};
-ghost use Rattle.sect_head.specs.declared.told.Framing.TheVariants.{HasBody};
-ghost use Rattle.sect_http.specs.Hearing.{BeginsWith, Hears, IsHeard};
-ghost use Rattle.sect_talk.specs.Asked.{Asked, Bytes, HEAD_LIMIT, is_head_method};
+ghost use Rattle.sect_head.specs.declared.told.Framing.TheVariants.{HasBody, Refuses};
+ghost use Rattle.sect_http.specs.Hearing.{BeginsWith, Hears, IsHeard, IsMarked, IsReadAt, Wishes};
+ghost use Rattle.sect_talk.specs.Asked.{Asked, Bytes, HEAD_LIMIT, Whole};
 ghost use Rattle.sect_talk.specs.Coming.{IsCrowdedHead, Takes};
 ghost use Rattle.sect_talk.specs.Rest.{IsBlank, IsCut, IsNoHead, IsOpenHead};
 ghost use Rattle.sect_talk.specs.declared.end.End.TheVariants.{ReadFault, WriteFault};
 
-use crate::heard::{Heard, Wish};
+use crate::heard::{Heard, Marks, Wish};
 use httparse::spans::{EMPTY_HEADER_SPAN, HeaderSpan, RequestSpans};
 use sect_answer::{Errand, read_errand};
 use sect_base::Memory;
@@ -102,6 +102,26 @@ fn errand_of(
     )
 }
 
+// What a whole request wishes, with so many bytes of body.
+fn wish_of(
+    alloc: Global,
+    routes: &Routes,
+    bytes: &[u8],
+    head: &RequestSpans,
+    len: usize,
+    closing: bool,
+) -> Wish
+    requires method { IsWithin (length bytes.now) head.now.method }
+    requires path { IsWithin (length bytes.now) head.now.path }
+    requires there { head.now.len + len ≤ length bytes.now }
+    ensures { (h : RequestHead) → BeginsWith bytes.now head.now h → closing ≡ closes_by h → Wishes (Whole h (take len (drop head.now.len bytes.now))) result }
+{
+    match errand_of(alloc, routes, bytes, head, len) {
+        Ok(errand) => Wish::Asks(errand, closing),
+        Err(_) => Wish::Wanting,
+    }
+}
+
 // A whole head whose body, of so many bytes, is there.
 fn with_body(
     alloc: Global,
@@ -109,23 +129,79 @@ fn with_body(
     bytes: &[u8],
     head: &RequestSpans,
     len: usize,
-    closing: bool,
-    headless: bool,
+    marks: Marks,
 ) -> Heard
     requires method { IsWithin (length bytes.now) head.now.method }
     requires path { IsWithin (length bytes.now) head.now.path }
     requires there { head.now.len + len ≤ length bytes.now }
-    requires head { (h : RequestHead) × BeginsWith bytes.now head.now h × (framing_of h ≡ HasBody len) × (closing ≡ closes_by h) × (headless ≡ is_head_method h) }
+    requires head { (h : RequestHead) × BeginsWith bytes.now head.now h × IsMarked h marks × (framing_of h ≡ HasBody len) }
     ensures { (asked : Asked) × IsHeard bytes.now result asked }
 {
-    let wish = match errand_of(alloc, routes, bytes, head, len) {
-        Ok(errand) => Wish::Asks(errand, closing),
-        Err(_) => Wish::Wanting,
-    };
+    let wish = wish_of(alloc, routes, bytes, head, len, marks.closing);
     Heard {
         wish,
         len: head.len + len,
-        headless,
+        headless: marks.headless,
+    }
+}
+
+// What a head says of its body.
+fn framed(bytes: &[u8], spans: &[HeaderSpan], head: &RequestSpans) -> Framing
+    requires head { (h : RequestHead) × IsRequestAt bytes.now spans.now head.now h }
+    requires within { IsRequestWithin bytes.now spans.now head.now }
+    ensures framing { (h : RequestHead) → IsRequestAt bytes.now spans.now head.now h → result ≡ framing_of h }
+    ensures bound { (n : ℕ) → result ≡ HasBody n → n ≤ 65536 }
+{
+    framing(bytes, spans, head)
+}
+
+// What a head says of its answer.
+fn marked(bytes: &[u8], spans: &[HeaderSpan], head: &RequestSpans) -> Marks
+    requires { IsRequestWithin bytes.now spans.now head.now }
+    ensures { (h : RequestHead) → IsRequestAt bytes.now spans.now head.now h → IsMarked h result }
+{
+    Marks {
+        closing: closes_by(bytes, spans, head),
+        headless: is_head(head.method.of(bytes)),
+    }
+}
+
+// A head that is refused before its body is read.
+fn refused(bytes: &[u8], head: &RequestSpans, why: Refusal, marks: Marks) -> Heard
+    requires { (h : RequestHead) × BeginsWith bytes.now head.now h × IsMarked h marks × (framing_of h ≡ Refuses why) }
+    ensures { (asked : Asked) × IsHeard bytes.now result asked }
+{
+    Heard {
+        wish: Wish::Refused(why),
+        len: head.len,
+        headless: marks.headless,
+    }
+}
+
+// A head of at most 64 fields that isn't refused.
+fn awaits_body<S: Source>(
+    alloc: Global,
+    routes: &Routes,
+    room: &mut Room,
+    source: &mut S,
+    head: &RequestSpans,
+    len: usize,
+    marks: Marks,
+) -> Result<Heard, End>
+    requires head { (h : RequestHead) × IsReadAt room.old head.now h × IsMarked h marks × (framing_of h ≡ HasBody len) }
+    requires within { IsWithin (length room.old) head.now.method × IsWithin (length room.old) head.now.path }
+    requires bound { len ≤ 65536 }
+    requires short { head.now.len ≤ HEAD_LIMIT }
+    ensures takes { Takes (S.left source.old) (S.left source.new) room.old room.new }
+    ensures hears { Hears room.new (S.left source.new) result }
+    ensures later { S.faults source.old ≤ S.faults source.new }
+    ensures fault { result ≡ Err ReadFault → Rose (S.faults source.old) (S.faults source.new) }
+    ensures others { result ≢ Err WriteFault }
+{
+    match await_body(room, source, head.len + len) {
+        Ok(true) => Ok(with_body(alloc, routes, room.bytes(), head, len, marks)),
+        Ok(false) => Err(End::Cut),
+        Err(_) => Err(End::ReadFault),
     }
 }
 
@@ -138,7 +214,8 @@ fn whole<S: Source>(
     spans: &[HeaderSpan],
     head: &RequestSpans,
 ) -> Result<Heard, End>
-    requires head { (h : RequestHead) × IsRequestAt room.old spans.now head.now h × (head.now.len ≤ HEAD_LIMIT) }
+    requires head { (h : RequestHead) × IsRequestAt room.old spans.now head.now h }
+    requires short { head.now.len ≤ HEAD_LIMIT }
     requires within { IsRequestWithin room.old spans.now head.now }
     ensures takes { Takes (S.left source.old) (S.left source.new) room.old room.new }
     ensures hears { Hears room.new (S.left source.new) result }
@@ -146,30 +223,11 @@ fn whole<S: Source>(
     ensures fault { result ≡ Err ReadFault → Rose (S.faults source.old) (S.faults source.new) }
     ensures others { result ≢ Err WriteFault }
 {
-    let closing = closes_by(room.bytes(), spans, head);
-    let headless = is_head(head.method.of(room.bytes()));
-    let len = match framing(room.bytes(), spans, head) {
-        Framing::HasBody(len) => len,
-        Framing::Refuses(why) => {
-            return Ok(Heard {
-                wish: Wish::Refused(why),
-                len: head.len,
-                headless,
-            });
-        }
-    };
-    match await_body(room, source, head.len + len) {
-        Ok(true) => Ok(with_body(
-            alloc,
-            routes,
-            room.bytes(),
-            head,
-            len,
-            closing,
-            headless,
-        )),
-        Ok(false) => Err(End::Cut),
-        Err(_) => Err(End::ReadFault),
+    let bytes = room.bytes();
+    let marks = marked(bytes, spans, head);
+    match framed(bytes, spans, head) {
+        Framing::Refuses(why) => Ok(refused(bytes, head, why, marks)),
+        Framing::HasBody(len) => awaits_body(alloc, routes, room, source, head, len, marks),
     }
 }
 

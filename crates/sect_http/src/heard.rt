@@ -23,3 +23,12 @@ pub(crate) struct Heard {
     /// Its answer leaves out the body.
     pub(crate) headless: bool,
 }
+
+/// What a head says of its answer.
+#[derive(Clone, Copy)]
+pub(crate) struct Marks {
+    /// It asks that its connection closes.
+    pub(crate) closing: bool,
+    /// Its answer leaves out the body.
+    pub(crate) headless: bool,
+}

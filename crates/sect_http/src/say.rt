@@ -1,15 +1,17 @@
 // What a request wishes is done.
 
-ghost use Rattle.std.specs.Prelude.{[], true, ◌≡◌, ◌≤◌, vec_capacity};
+ghost use Rattle.std.specs.Prelude.{[], Ok, true, ◌≡◌, ◌≤◌, vec_capacity};
 ghost use Rattle.sect_answer.specs.Answering.{said_of, sitting};
 ghost use Rattle.sect_answer.specs.Errands.{TakesTexts};
 ghost use Rattle.sect_http.specs.Answers.{Answers, refused};
 ghost use Rattle.sect_http.specs.Hearing.{IsFramed, Wishes};
+ghost use Rattle.sect_http.specs.Telling.{ANSWER_ROOM};
 ghost use Rattle.sect_http.specs.Turns.{IsRefusal};
 ghost use Rattle.sect_talk.specs.Asked.{Asked};
 ghost use Rattle.sect_turn.specs.Passes.{opening, share, IsIdle, IsPassOf};
 
 use crate::heard::Wish;
+use crate::tell::ready;
 use http::StatusCode;
 use sect_answer::{act, json_page, put};
 use sect_base::Memory;
@@ -49,9 +51,9 @@ fn refuse(why: Refusal, into: &mut Vec<u8>) -> Page
     }
 }
 
-/// Does what a request wishes, and gives the page of the answer, with its text in the room. `Memory` is where the answer
-/// is that memory was wanted.
-pub(crate) fn say<
+// Does what a request wishes, and gives the page of the answer, with its text in the room. `Memory` is where the answer
+// is that memory was wanted.
+fn say<
     O: Object<Command = Command, Reply = Reply, Query = Query, View = View>,
     K: Keeper,
     C: Clock,
@@ -81,4 +83,40 @@ pub(crate) fn say<
         Wish::Wanting => Err(Memory),
         Wish::Asks(errand, _) => act(rt, office, pass, clock, errand, into),
     }
+}
+
+/// Does what a request wishes, where there is room for its answer, and gives the page of that, with its text. `Memory`
+/// is where the answer is that memory was wanted.
+pub(crate) fn say_ready<
+    O: Object<Command = Command, Reply = Reply, Query = Query, View = View>,
+    K: Keeper,
+    C: Clock,
+    R: Wait,
+>(
+    rt: &R,
+    office: &Office<O, K>,
+    pass: &mut Pass<Desk<O, K>>,
+    clock: &mut C,
+    wish: Wish,
+    text: &mut Vec<u8>,
+    out: &mut Vec<u8>,
+) -> Result<Page, Memory>
+    requires turn { IsPassOf (λ d. d.log) (λ d. d.base) office.now.turn pass.old }
+    requires idle { IsIdle pass.old }
+    requires texts { TakesTexts O.may_ask }
+    requires wished { (asked : Asked) × Wishes asked wish }
+    ensures turn { IsPassOf (λ d. d.log) (λ d. d.base) office.now.turn pass.new × IsIdle pass.new }
+    ensures same { (share pass.new ≡ share pass.old) × (opening pass.new ≡ opening pass.old) }
+    ensures room { (page : Page) → result ≡ Ok page → (out.new.items ≡ []) × (ANSWER_ROOM ≤ vec_capacity out.new) }
+    ensures shut { IsRefusal wish → (said_of result text.new.items).page.closing ≡ true }
+    ensures answers { (asked : Asked) → IsFramed asked → Wishes asked wish → Answers O.start O.stepped O.is_row O.looked
+        (sitting pass.old (C.days clock.old)) asked (said_of result text.new.items) (sitting pass.new (C.days clock.new)) }
+{
+    if !ready(text, 64) {
+        return Err(Memory);
+    }
+    if !ready(out, 256) {
+        return Err(Memory);
+    }
+    say(rt, office, pass, clock, wish, text)
 }

@@ -171,9 +171,11 @@ fn refuse<T: Sink, G: Gate, R: Wait>(
     ensures others { result ≢ End.ReadFault }
 {
     pass_gate(rt, gate, worker, step);
-    if write_all(sink, no_memory(false)).is_err() {
-        return End::WriteFault;
+    match write_all(sink, no_memory(false)) {
+        Ok(()) => {
+            pass_gate(rt, gate, worker, step);
+            End::Closed
+        }
+        Err(_) => End::WriteFault,
     }
-    pass_gate(rt, gate, worker, step);
-    End::Closed
 }

@@ -1,6 +1,6 @@
 // One request of a connection.
 
-ghost use Rattle.std.specs.Prelude.{◌≡◌, ◌<◌, ◌≤◌, ◌+◌, ◌^◌, ◌-◌, ℕ, List, Option, None, Some};
+ghost use Rattle.std.specs.Prelude.{◌≡◌, ◌==◌, ◌||◌, ◌<◌, ◌≤◌, ◌+◌, ◌^◌, ◌-◌, ℕ, List, Option, None, Some};
 ghost use Rattle.sect_answer.specs.Answering.{sitting, Sitting};
 ghost use Rattle.sect_answer.specs.Errands.{TakesTexts};
 ghost use Rattle.sect_edge.specs.Causes.{HasCause, Rose};
@@ -14,9 +14,8 @@ ghost use Rattle.sect_turn.specs.Passes.{opening, share, IsIdle, IsPassOf};
 
 use crate::hear::hear;
 use crate::heard::{Heard, Wish};
-use crate::say::say;
-use crate::tell::{ready, tell};
-use sect_base::Memory;
+use crate::say::say_ready;
+use crate::tell::tell;
 use sect_command::{Command, Query, Reply, View};
 use sect_edge::{Clock, Failed, Gate, Keeper, Sink, Source};
 use sect_office::Office;
@@ -27,13 +26,13 @@ use sect_turn::Pass;
 use std::alloc::Global;
 use std::sync::Wait;
 
-// Whether the connection closes because of what is wished.
-fn closes(wish: &Wish) -> bool
-    ensures { result ≡ wish_closes wish.now }
+// Whether the connection closes because of what is wished, or of the number of the request.
+fn closes(wish: &Wish, number: u32) -> bool
+    ensures { result ≡ (wish_closes wish.now || number == LAST_REQUEST) }
 {
     match wish {
         Wish::Refused(_) | Wish::Wanting => true,
-        Wish::Asks(_, closing) => *closing,
+        Wish::Asks(_, closing) => *closing || number == 1_000_000,
     }
 }
 
@@ -63,7 +62,7 @@ fn respond<
     out: &mut Vec<u8>,
     heard: Heard,
     number: u32,
-) -> (bool, Result<(), Failed>)
+) -> Result<bool, Failed>
     requires turn { IsPassOf (λ d. d.log) (λ d. d.base) office.now.turn pass.old }
     requires idle { IsIdle pass.old }
     requires texts { TakesTexts O.may_ask }
@@ -72,17 +71,16 @@ fn respond<
     ensures same { (share pass.new ≡ share pass.old) × (opening pass.new ≡ opening pass.old) }
     ensures responds { (pending : List ℕ) (asked : Asked) → IsHeard pending heard asked
         → Responds (Answers O.start O.stepped O.is_row O.looked) number (T.taken sink.old) (T.taken sink.new)
-            (sitting pass.old (C.days clock.old)) asked (sitting pass.new (C.days clock.new)) result.0 result.1 }
-    ensures cause { HasCause (T.faults sink.old) (T.faults sink.new) result.1 }
+            (sitting pass.old (C.days clock.old)) asked (sitting pass.new (C.days clock.new)) result }
+    ensures cause { HasCause (T.faults sink.old) (T.faults sink.new) result }
 {
-    let Heard { wish, len: _, headless } = heard;
-    let closing = closes(&wish) || number == 1_000_000;
-    let roomy = ready(text, 64) && ready(out, 256);
-    let said = if roomy {
-        say(rt, office, pass, clock, wish, text)
-    } else {
-        Err(Memory)
-    };
+    let Heard {
+        wish,
+        len: _,
+        headless,
+    } = heard;
+    let closing = closes(&wish, number);
+    let said = say_ready(rt, office, pass, clock, wish, text, out);
     tell(sink, said, closing, headless, text, out)
 }
 
@@ -136,10 +134,11 @@ pub(crate) fn turn<
     };
     let len = heard.len;
     pass_gate(rt, gate, worker, step);
-    let (closing, written) = respond(rt, office, pass, sink, clock, text, out, heard, number);
-    if written.is_err() {
-        return Some(End::WriteFault);
-    }
+    let responded = respond(rt, office, pass, sink, clock, text, out, heard, number);
+    let closing = match responded {
+        Ok(closing) => closing,
+        Err(_) => return Some(End::WriteFault),
+    };
     pass_gate(rt, gate, worker, step);
     room.consume(len);
     if closing { Some(End::Closed) } else { None }
