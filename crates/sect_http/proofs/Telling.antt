@@ -1,5 +1,5 @@
 -- What is told of a page.
-use Rattle.std.proofs.Common.{◌≡◌, ◌⊎◌, ℕ, ◌+◌, ◌<◌, ◌≤◌, ◌||◌, Bool, List, [], ◌++◌, refl, sym, ap, ◌∙◌, ⊎_elim, arith, length}
+use Rattle.std.proofs.Common.{◌≡◌, ◌⊎◌, ℕ, ◌+◌, ◌<◌, ◌≤◌, ◌||◌, Bool, true, false, List, [], ◌++◌, refl, sym, ap, ◌∙◌, ⊎_elim, arith, length}
 use Rattle.std.proofs.lemmas.Bool.{cases_lt}
 use Rattle.sect_page.specs.Pages.{page_text}
 use Rattle.sect_page.specs.declared.page.Page.{Page}
@@ -15,13 +15,16 @@ pub page_told : (page closed : Page) (closing headless : Bool) (text before out 
 page_told page closed closing headless text before out same none is =
     is ∙ (ap (λ (l : List ℕ). l ++ page_text closed headless text) none ∙ same_page page closed closing headless text same)
 
-more_than : (n cap : ℕ) → ANSWER_ROOM ≤ cap → (n ≤ cap → ⊥) → ANSWER_ROOM < n
-more_than n cap room no = ⊎_elim (λ (less : ANSWER_ROOM < n). less) (λ (few : n ≤ ANSWER_ROOM). absurd (no (omega (arith, few, room)))) (cases_lt ANSWER_ROOM n)
+false_is_not_true : false ≡ true → ⊥
+false_is_not_true e = cc
+
+more_than : (n cap : ℕ) → ANSWER_ROOM ≤ cap → (n ≤ cap → false ≡ true) → ANSWER_ROOM < n
+more_than n cap room lacks = ⊎_elim (λ (less : ANSWER_ROOM < n). less) (λ (few : n ≤ ANSWER_ROOM). absurd (false_is_not_true (lacks (omega (arith, few, room))))) (cases_lt ANSWER_ROOM n)
 
 -- a page for which there was no room is long
 pub page_long : (page closed : Page) (closing headless : Bool) (text before : List ℕ) (cap : ℕ) → closed ≡ record page { closing = page.closing || closing } → before ≡ [] → ANSWER_ROOM ≤ cap
-    → (length before + length (page_text closed headless text) ≤ cap → ⊥) → ANSWER_ROOM < length (said_text (record { page = page; body = text }) closing headless)
-page_long page closed closing headless text before cap same none room no =
+    → (length before + length (page_text closed headless text) ≤ cap → false ≡ true) → ANSWER_ROOM < length (said_text (record { page = page; body = text }) closing headless)
+page_long page closed closing headless text before cap same none room lacks =
     let e = ap length (same_page page closed closing headless text same) in
     let z = ap length none in
-    more_than (length (said_text (record { page = page; body = text }) closing headless)) cap room (λ few. no (omega (arith, e, z, few)))
+    more_than (length (said_text (record { page = page; body = text }) closing headless)) cap room (λ few. lacks (omega (arith, e, z, few)))
