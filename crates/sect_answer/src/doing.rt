@@ -21,7 +21,12 @@ use sect_turn::Pass;
 use std::sync::Wait;
 
 // Asks the office a command on the clock's day.
-fn ask<O: Object<Command = Command, Reply = Reply, Query = Query, View = View>, K: Keeper, C: Clock, R: Wait>(
+fn ask<
+    O: Object<Command = Command, Reply = Reply, Query = Query, View = View>,
+    K: Keeper,
+    C: Clock,
+    R: Wait,
+>(
     rt: &R,
     office: &Office<O, K>,
     pass: &mut Pass<Desk<O, K>>,
@@ -46,7 +51,11 @@ fn ask<O: Object<Command = Command, Reply = Reply, Query = Query, View = View>, 
 }
 
 // Looks at the object of the office.
-fn look<O: Object<Command = Command, Reply = Reply, Query = Query, View = View>, K: Keeper, R: Wait>(
+fn look<
+    O: Object<Command = Command, Reply = Reply, Query = Query, View = View>,
+    K: Keeper,
+    R: Wait,
+>(
     rt: &R,
     office: &Office<O, K>,
     pass: &mut Pass<Desk<O, K>>,
@@ -73,7 +82,12 @@ fn look<O: Object<Command = Command, Reply = Reply, Query = Query, View = View>,
 
 /// Does what a request asks for, and gives the page of the answer, with its text in the room. The clock is read once for
 /// a command, and else not at all. `Memory` is where the answer is that memory was wanted: a command may have acted then.
-pub fn act<O: Object<Command = Command, Reply = Reply, Query = Query, View = View>, K: Keeper, C: Clock, R: Wait>(
+pub fn act<
+    O: Object<Command = Command, Reply = Reply, Query = Query, View = View>,
+    K: Keeper,
+    C: Clock,
+    R: Wait,
+>(
     rt: &R,
     office: &Office<O, K>,
     pass: &mut Pass<Desk<O, K>>,

@@ -61,7 +61,7 @@ pub responds_as_heard : {H : Type 0} (answers : H → Asked → Said → H → T
 unfolding text_with
 responds_as_heard answers number taken taken' old asked new heard pending closing said told result h closing_is answered shut is_told wrote =
     let same = ap (λ c. told.page.closing || c) closing_is
-        ∙ closes_as_heard heard.wish asked number told h.wish (λ r. told_shut said told closing heard.headless is_told (shut r)) in record {
+    ∙ closes_as_heard heard.wish asked number told h.wish (λ r. told_shut said told closing heard.headless is_told (shut r)) in record {
       told = told;
       answered = answered;
       wrote = writes_same taken taken' (said_text told closing heard.headless) (answer_text number asked told) (told.page.closing || closing) (closes number asked told) result
@@ -94,7 +94,6 @@ turn_ended answers left now later taken taken' step step' old new number pending
 
 module _ {H : Type 0} (answers : H → Asked → Said → H → Type 0) (left now later taken taken' taken'' : Option (List ℕ)) (step step' step'' : ℕ) (old new : H)
     (number : ℕ) (pending ready : List ℕ) (heard : Heard) (asked : Asked) (after : H) where
-
   takes_asked : (h : IsHeard ready heard asked) → Takes now later pending ready → Takes now later pending (raw_of asked ++ h.rest)
   takes_asked h (bytes, took, is) = (bytes, took, sym h.bytes ∙ is)
 

@@ -42,4 +42,4 @@ module _ {S : Type 0} (start : S) (stepped : S → ℕ → Caller → Command �
   Answers old (Head h) said new = (new ≡ old) × (((why : Refusal) × IsRefused (Head h) why × (said ≡ refused why)) ⊎ (said ≡ no_memory))
   Answers old (Whole h body) said new = (framing_of h ≡ HasBody (length body))
       × (((new ≡ old) × (said ≡ no_memory))
-          ⊎ ((errand : Errand) × IsErrand h.method h.target body errand × Does start stepped is_row looked errand old said new))
+      ⊎ ((errand : Errand) × IsErrand h.method h.target body errand × Does start stepped is_row looked errand old said new))

@@ -71,7 +71,7 @@ fn respond<
     ensures same { (share pass.new ≡ share pass.old) × (opening pass.new ≡ opening pass.old) }
     ensures responds { (pending : List ℕ) (asked : Asked) → IsHeard pending heard asked
         → Responds (Answers O.start O.stepped O.is_row O.looked) number (T.taken sink.old) (T.taken sink.new)
-            (sitting pass.old (C.days clock.old)) asked (sitting pass.new (C.days clock.new)) result }
+        (sitting pass.old (C.days clock.old)) asked (sitting pass.new (C.days clock.new)) result }
     ensures cause { HasCause (T.faults sink.old) (T.faults sink.new) result }
 {
     let Heard {
@@ -120,9 +120,9 @@ pub(crate) fn turn<
     ensures same { (share pass.new ≡ share pass.old) × (opening pass.new ≡ opening pass.old) }
     ensures goes { (left taken : Option (List ℕ)) (first : ℕ) (old : Sitting)
         → Progress (Answers O.start O.stepped O.is_row O.looked) left (S.left source.old) taken (T.taken sink.old) first step.old
-            old (sitting pass.old (C.days clock.old)) number room.old
+        old (sitting pass.old (C.days clock.old)) number room.old
         → GoesOn (Answers O.start O.stepped O.is_row O.looked) left (S.left source.new) taken (T.taken sink.new) first step.new
-            old (sitting pass.new (C.days clock.new)) number room.new result }
+        old (sitting pass.new (C.days clock.new)) number room.new result }
     ensures more { result ≡ None → (number < LAST_REQUEST) × (step.new ≡ step.old + 2) }
     ensures later { (S.faults source.old ≤ S.faults source.new) × (T.faults sink.old ≤ T.faults sink.new) }
     ensures read_fault { result ≡ Some ReadFault → Rose (S.faults source.old) (S.faults source.new) }

@@ -65,7 +65,16 @@ pub fn converse<R: Wait>(
     let mut clock = MemClock::new(a_day()?, Vec::new(alloc));
     let mut step = 0;
     let end = session(
-        rt, alloc, &office, &mut pass, &mut source, &mut sink, &mut clock, &OpenGate, 0, &mut step,
+        rt,
+        alloc,
+        &office,
+        &mut pass,
+        &mut source,
+        &mut sink,
+        &mut clock,
+        &OpenGate,
+        0,
+        &mut step,
     );
     office.close(pass)?;
     Ok(Answered {

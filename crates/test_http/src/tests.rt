@@ -19,8 +19,21 @@ const ROWS: [&[u8]; 3] = [
 ];
 
 // What these bytes are answered, sent in pieces of so many.
-fn in_pieces<R: Wait>(rt: &R, alloc: Global, bytes: &[u8], piece: usize) -> Result<Answered, Memory> {
-    converse(rt, alloc, &ROWS, Vec::new(alloc), bytes, piece, Vec::new(alloc))
+fn in_pieces<R: Wait>(
+    rt: &R,
+    alloc: Global,
+    bytes: &[u8],
+    piece: usize,
+) -> Result<Answered, Memory> {
+    converse(
+        rt,
+        alloc,
+        &ROWS,
+        Vec::new(alloc),
+        bytes,
+        piece,
+        Vec::new(alloc),
+    )
 }
 
 // The bytes, sent in one piece, are answered so.

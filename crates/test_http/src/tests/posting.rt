@@ -1,9 +1,11 @@
 // Requests that act, as curl sends them.
 use super::*;
 
-const THREE: &[u8] = b"POST /students/11/asks/1 HTTP/1.1\r\nHost: localhost:8080\r\nUser-Agent: curl/8.5.0\r\nAccept: */*\r\nContent-Type: application/json\r\nContent-Length: 43\r\n\r\n{\"verb\":\"enrol\",\"student\":11,\"courses\":[1]}GET /waiting HTTP/1.1\r\nHost: localhost:8080\r\n\r\nPOST /students/11/asks/1 HTTP/1.1\r\nHost: localhost:8080\r\nUser-Agent: curl/8.5.0\r\nAccept: */*\r\nContent-Type: application/json\r\nContent-Length: 43\r\n\r\n{\"verb\":\"e";
+const THREE: &[u8] =
+    b"POST /students/11/asks/1 HTTP/1.1\r\nHost: localhost:8080\r\nUser-Agent: curl/8.5.0\r\nAccept: */*\r\nContent-Type: application/json\r\nContent-Length: 43\r\n\r\n{\"verb\":\"enrol\",\"student\":11,\"courses\":[1]}GET /waiting HTTP/1.1\r\nHost: localhost:8080\r\n\r\nPOST /students/11/asks/1 HTTP/1.1\r\nHost: localhost:8080\r\nUser-Agent: curl/8.5.0\r\nAccept: */*\r\nContent-Type: application/json\r\nContent-Length: 43\r\n\r\n{\"verb\":\"e";
 
-const ANSWERS: &[u8] = b"HTTP/1.1 200 OK\r\nContent-Type: application/json\r\nContent-Length: 38\r\n\r\n{\"place\":3,\"reply\":\"enrolled 1/-/1/7\"}HTTP/1.1 200 OK\r\nContent-Type: text/plain\r\nContent-Length: 5\r\n\r\nnone\n";
+const ANSWERS: &[u8] =
+    b"HTTP/1.1 200 OK\r\nContent-Type: application/json\r\nContent-Length: 38\r\n\r\n{\"place\":3,\"reply\":\"enrolled 1/-/1/7\"}HTTP/1.1 200 OK\r\nContent-Type: text/plain\r\nContent-Length: 5\r\n\r\nnone\n";
 
 #[test]
 fn two_requests_and_a_third_that_is_cut(rt: HostRuntime) -> Result<(), Fail> {

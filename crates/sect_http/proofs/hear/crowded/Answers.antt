@@ -6,6 +6,8 @@ use Rattle.sect_http.proofs.hear.crowded.Goals as goal
 
 pub returns : goal.returns
 returns c =
-    let h = c.requires.crowded.0 in
-    (Head h, heard_crowded c.args.bytes.now _ c.args.head.now h c.requires.crowded.1 refl
-    (c.is_head.ensures ∙ is_head_at c.of.result.now (span_bytes c.args.bytes.now c.args.head.now.method) c.of.ensures) refl)
+    let h = c.requires.crowded.0 in (
+      Head h,
+      heard_crowded c.args.bytes.now _ c.args.head.now h c.requires.crowded.1 refl
+          (c.is_head.ensures ∙ is_head_at c.of.result.now (span_bytes c.args.bytes.now c.args.head.now.method) c.of.ensures) refl,
+    )

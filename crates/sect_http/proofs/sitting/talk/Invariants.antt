@@ -16,7 +16,7 @@ invariant-loop-end g l = record {
       (g.T.Sink.taken l.fn.sink) (g.T.Sink.taken l.sink) l.fn.step l.step
       (sitting l.fn.pass (g.C.Clock.days l.fn.clock)) (sitting l.pass (g.C.Clock.days l.clock)) l.number l.room;
   source_later : g.S.Source.faults l.fn.source ≤ g.S.Source.faults l.source;
-  sink_later : g.T.Sink.faults l.fn.sink ≤ g.T.Sink.faults l.sink
+  sink_later : g.T.Sink.faults l.fn.sink ≤ g.T.Sink.faults l.sink;
 }
 
 abbrev pub decreases-loop-end : goal.decreases-loop-end
