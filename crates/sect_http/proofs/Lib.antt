@@ -1,0 +1,5 @@
+pub mod Along
+pub mod Heads
+pub mod Short
+pub mod Telling
+pub mod Turning

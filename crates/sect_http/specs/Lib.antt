@@ -1,0 +1,4 @@
+pub mod Answers
+pub mod Hearing
+pub mod Telling
+pub mod Turns
