@@ -205,6 +205,10 @@ CHAPTERS = [
     ('One connection',
      'What a connection asks and is answered, over any state; and what comes of waiting for a head or a body.',
      ['sect_talk/specs/' + n + '.antt' for n in ('Asked', 'Rest', 'Talk', 'Coming')]),
+    ('What a request over HTTP is answered',
+     'What a request asks for, what is done for it at the office and told, and what answers each request of a connection.',
+     ['sect_answer/specs/' + n + '.antt' for n in ('Errands', 'Answering')]
+     + ['sect_http/specs/' + n + '.antt' for n in ('Answers', 'Hearing', 'Telling', 'Turns')]),
     ('The turn and the office',
      'One value under a turn, and the passes that share it.',
      ['sect_turn/specs/' + n + '.antt' for n in ('Seats', 'Rule', 'Steps', 'Passes')]
