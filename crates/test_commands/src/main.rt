@@ -46,9 +46,14 @@ fn print_ended(rt: HostRuntime, ended: Result<Ended, Memory>) -> io::Result<Opti
         println!(rt; "no end")?;
         return Ok(None);
     };
-    print_text(rt, ended.sink.bytes())?;
-    print_end(rt, ended.status)?;
-    match ended.keeper {
+    let Ended {
+        status,
+        sink,
+        keeper,
+    } = ended;
+    print_text(rt, sink.bytes())?;
+    print_end(rt, status)?;
+    match keeper {
         Some(keeper) => {
             let rows = keeper.rows().len();
             println!(rt; "rows {rows}")?;
