@@ -11,6 +11,7 @@ requests, reservations and a wait-list, and answers each request with a place or
 \n\
 Commands:\n\
   desk run                       reads requests from standard input, one a line, and answers each by a line\n\
+  desk serve --port P            answers requests over HTTP, of many connections at once\n\
   desk import TABLE --first N    reads a table in CSV from standard input, and asks for what it says\n\
   desk export TABLE              prints a table in CSV\n\
   desk report KIND [ID]          prints a roll, the open places, a schedule, who waits or what is unmet\n\
@@ -40,6 +41,25 @@ An answer is the request's place and its reply. A request that was answered befo
 once. Empty lines, and lines that begin with #, are passed over.\n\
 \n\
 Options:\n\
+  --db FILE       the history is kept in this database of SQLite (default: in memory, until the program ends)\n\
+  --journal FILE  the history is kept in this journal (default: in memory, until the program ends)\n\
+Either file is made where there is none. Only one of the two may be given.\n";
+
+const SERVE_HELP: &[u8] =
+    b"desk serve --port P [--workers W] [--sessions N] [--db FILE | --journal FILE]: answers requests over HTTP/1.1 on\n\
+127.0.0.1, port P, until it is ended. All connections ask one history.\n\
+\n\
+  POST /students/ID/asks/N       a student's request number N; the body is JSON, as {\"verb\":\"enrol\",\"student\":11,\"courses\":[1]}\n\
+  POST /registrars/ID/asks/N     a registrar's; {\"verb\":\"line\",\"text\":\"..\"} holds any verb as a line has it\n\
+  GET /students/ID               a schedule, as report schedule prints it\n\
+  GET /sections/ID/roll          a roll\n\
+  GET /offerings/ID/open         the open places of an offering\n\
+  GET /waiting, GET /unmet       who waits, and what is unmet\n\
+\n\
+Options:\n\
+  --port P        the port, from 1 to 65535 (must be given)\n\
+  --workers W     how many connections are served at once, from 1 to 64 (default: 4)\n\
+  --sessions N    how many connections each worker serves before it ends, from 1 to 1000000 (default: 1000000)\n\
   --db FILE       the history is kept in this database of SQLite (default: in memory, until the program ends)\n\
   --journal FILE  the history is kept in this journal (default: in memory, until the program ends)\n\
 Either file is made where there is none. Only one of the two may be given.\n";
@@ -110,6 +130,7 @@ pub fn help_of(topic: Topic) -> &'static [u8]
     match topic {
         Topic::Desk => DESK_HELP,
         Topic::Command(Verb::Run) => RUN_HELP,
+        Topic::Command(Verb::Serve) => SERVE_HELP,
         Topic::Command(Verb::Make) => MAKE_HELP,
         Topic::Command(Verb::Audit) => AUDIT_HELP,
         Topic::Command(Verb::Report) => REPORT_HELP,

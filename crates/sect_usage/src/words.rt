@@ -3,10 +3,10 @@
 ghost use Rattle.std.specs.Prelude.{◌≡◌, Some, map, option_map};
 ghost use Rattle.std.specs.String.{string_bytes};
 ghost use Rattle.sect_usage.specs.Items.{items_of, positionals, value_of};
-ghost use Rattle.sect_usage.specs.Grammar.{allows, asked_by, asked_for, import_of, is_given, is_help, lone_of, make_of, one_keeper, query_by, query_of, table_of, takes as takes_name, term_of, the_one, where_none, words_of};
+ghost use Rattle.sect_usage.specs.Grammar.{allows, asked_by, asked_for, import_of, is_given, is_help, lone_of, make_of, one_keeper, query_by, query_of, serve_of, table_of, takes as takes_name, term_of, the_one, where_none, words_of};
 
 use crate::items::{Item, next_item, next_positional, value};
-use crate::number::{between, day, id, number};
+use crate::number::{between, day, id, number, usual};
 use crate::verb::{Topic, Verb, read_verb, takes};
 use sect_base::{OfferingId, SectionId, StudentId};
 use sect_command::{Query, Table};
@@ -17,6 +17,13 @@ use sect_words::same_bytes;
 #[derive(Clone, Copy, Debug, PartialEq, Eq)]
 pub enum Words {
     Run,
+    /// Connections over HTTP are served at the port, from 1 to 65,535, by so many workers, from 1 to 64. Each worker ends
+    /// after so many sessions, from 1 to 1,000,000.
+    Serve {
+        port: u16,
+        workers: u32,
+        sessions: u32,
+    },
     /// So many offerings, from 1 to 100, are made.
     Make(u32),
     Audit,
@@ -128,6 +135,7 @@ fn asked_of(verb: Verb, words: &[String]) -> Option<Words>
 {
     match verb {
         Verb::Run => alone(Words::Run, words),
+        Verb::Serve => read_serve(words),
         Verb::Make => read_make(words),
         Verb::Audit => alone(Words::Audit, words),
         Verb::Report => read_report(words),
@@ -155,6 +163,20 @@ fn only(words: &[String]) -> Option<&[u8]>
         Some(_) => None,
         None => Some(word),
     }
+}
+
+fn read_serve(words: &[String]) -> Option<Words>
+    ensures { result ≡ where_none (serve_of (items_of (map string_bytes words.now))) (positionals (items_of (map string_bytes words.now))) }
+{
+    let port = between(value(b"port", words)?, 1, 65_535)?;
+    let workers = usual(value(b"workers", words), 4, 1, 64)?;
+    let sessions = usual(value(b"sessions", words), 1_000_000, 1, 1_000_000)?;
+    let asked = Words::Serve {
+        port: port as u16,
+        workers,
+        sessions,
+    };
+    alone(asked, words)
 }
 
 fn read_make(words: &[String]) -> Option<Words>
