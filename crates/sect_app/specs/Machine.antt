@@ -31,6 +31,8 @@ module _ {K : Type 0} (rows : K → Option (List (List ℕ))) (faults : K → �
   abbrev pub DeskDoes : Words → K → K → Option (List ℕ) → Option (List ℕ) → Option (List ℕ) → Option (List ℕ) → Option (List ℕ) → Status → Type 0
   DeskDoes asked.Run keeper back left left' taken taken' days status =
       RunsDesk keeper back left left' taken taken' days status ⊎ DeskStaysShut keeper back left left' taken taken' status
+  -- what is asked and answered on connections is told beside this
+  DeskDoes (asked.Serve port workers sessions) keeper back left left' taken taken' days status = (left' ≡ left) × (taken' ≡ taken)
   DeskDoes asked.Audit keeper back left left' taken taken' days status =
       Audits rows faults keeper back taken taken' status ⊎ DeskStaysShut keeper back left left' taken taken' status
   DeskDoes (asked.Report query) keeper back left left' taken taken' days status =
