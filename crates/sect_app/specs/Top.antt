@@ -15,6 +15,7 @@ reads asked.Audit = false
 reads (asked.Report query) = false
 reads (asked.Import table first term) = true
 reads (asked.Export table) = false
+reads (asked.Plan student budget) = false
 reads (asked.Help topic) = false
 reads asked.Version = false
 
@@ -31,6 +32,7 @@ sessions_in asked.Audit = None
 sessions_in (asked.Report query) = None
 sessions_in (asked.Import table first term) = None
 sessions_in (asked.Export table) = None
+sessions_in (asked.Plan student budget) = None
 sessions_in (asked.Help topic) = None
 sessions_in asked.Version = None
 

@@ -17,7 +17,7 @@ use sect_intake::import_table;
 use sect_machine::Machine;
 use sect_making::make;
 use sect_script::{Status, write_all};
-use sect_tell::{Export, Report, audit, tell};
+use sect_tell::{Export, Plan, Report, audit, tell};
 use sect_usage::{Words, help_of, version};
 use std::alloc::Global;
 
@@ -52,6 +52,7 @@ pub(crate) fn do_asked<S: Source, T: Sink, K: Keeper, C: Clock + Drop>(
         Words::Audit => audit(alloc, sink, keeper),
         Words::Report(query) => tell(alloc, sink, keeper, &Report(query)),
         Words::Export(table) => tell(alloc, sink, keeper, &Export(table)),
+        Words::Plan { student, budget } => tell(alloc, sink, keeper, &Plan { student, budget }),
         Words::Make(offerings) => (make_on(alloc, offerings, sink, clock), keeper),
         Words::Help(topic) => (say(help_of(topic), sink), keeper),
         Words::Version => (say(version(), sink), keeper),

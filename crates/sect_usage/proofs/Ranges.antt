@@ -4,10 +4,11 @@ use Rattle.std.specs.Prelude.{⊤, ◌&&◌, nat_le, if◌then◌else◌, option
 use Rattle.std.specs.Prelude.{codes}
 use Rattle.std.specs.Str.{bytes_eq}
 use Rattle.std.proofs.lemmas.Bool.{leb-true}
+use Rattle.sect_base.specs.declared.ids.StudentId.{StudentId}
 use Rattle.sect_command.specs.declared.view.Query.{Query}
 use Rattle.sect_command.specs.declared.view.Table.{Table}
 use Rattle.sect_words.specs.Reading.{◌>>=◌}
-use Rattle.sect_words.specs.ReadingWords.{between_of, number_of, u64_of}
+use Rattle.sect_words.specs.ReadingWords.{between_of, number_of, student_of, u64_of}
 use Rattle.sect_words.proofs.Exact.{bind_found, if_found}
 use Rattle.sect_words.proofs.Numbers.{exact_upto}
 use Rattle.sect_usage.specs.declared.verb.Verb.{Verb}
@@ -15,7 +16,7 @@ use Rattle.sect_usage.specs.declared.verb.Verb.TheVariants as verbs
 use Rattle.sect_usage.specs.declared.verb.Topic.TheVariants as topics
 use Rattle.sect_usage.specs.declared.words.Words.{Words}
 use Rattle.sect_usage.specs.declared.words.Words.TheVariants as asked
-use Rattle.sect_usage.specs.Grammar.{allows, asked_by, asked_for, import_of, is_help, lone_of, make_of, one_keeper, query_of, serve_of, table_of, takes, term_of, the_one, usual_or, verb_of, where_none, words_by, words_of}
+use Rattle.sect_usage.specs.Grammar.{allows, asked_by, asked_for, import_of, is_help, lone_of, make_of, one_keeper, plan_of, query_of, serve_of, table_of, takes, term_of, the_one, usual_or, verb_of, where_none, words_by, words_of}
 use Rattle.sect_usage.specs.Items.{Item, items_of, positionals, value_of}
 use Rattle.sect_usage.specs.Laws.{AskedInRange, IsBetween, IsInRange}
 
@@ -94,6 +95,14 @@ served_in_range items =
         usual_in_range 1000000 1 1000000 (omega arith) (omega arith) (omega arith) sessions_word sessions sessions_is,
     ))))
 
+planned_in_range : (items : List Item) → InRange (plan_of items)
+planned_in_range items =
+    let budget_word = value_of (codes "budget") items in
+    let asks : StudentId → ℕ → Option Words = λ student budget. Some (asked.Plan student budget) in
+    bind_in_range (the_one (positionals items) >>= student_of) (λ student. usual_or 2000 1 20000 budget_word >>= asks student)
+    (λ student _. bind_in_range (usual_or 2000 1 20000 budget_word) (asks student)
+    (λ budget is. usual_in_range 2000 1 20000 (omega arith) (omega arith) (omega arith) budget_word budget is))
+
 for_in_range : (verb : Verb) (items : List Item) → InRange (asked_for verb items)
 unfolding asked_for
 for_in_range verbs.Run items = where_in_range (Some asked.Run) (positionals items) tt
@@ -103,6 +112,7 @@ for_in_range verbs.Audit items = where_in_range (Some asked.Audit) (positionals 
 for_in_range verbs.Report items = report_in_range (query_of (positionals items))
 for_in_range verbs.Import items = imported_in_range items
 for_in_range verbs.Export items = export_in_range (the_one (positionals items) >>= table_of)
+for_in_range verbs.Plan items = planned_in_range items
 
 by_in_range : (verb : Verb) (items : List Item) → InRange (asked_by verb items)
 unfolding asked_by

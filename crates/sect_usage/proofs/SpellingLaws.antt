@@ -122,6 +122,17 @@ serve_words port workers sessions may =
         port_low, workers_low, sessions_low,
     ) refl
 
+plan_words : (student budget : ℕ) → student < 2 ^ 32 → 1 ≤ budget → budget ≤ 20000
+    → words_of (word_list (asked.Plan (record { 0 = student }) budget)) ≡ Some (asked.Plan (record { 0 = student }) budget)
+unfolding words_of verb_of asked_by asked_for takes between_of
+plan_words student budget fits low high =
+    let budget_low : nat_le 1 budget ≡ true = grind (arith, nat_tests, low) in
+    let plain = number_plain student (omega (arith, fits)) in
+    rw (
+        positional_word (decimal student) (codes "--budget" ∷ (decimal budget ∷ [])) plain, number_value (codes "budget") budget 20000 (omega arith) high,
+        read_id student fits, read_number 20000 budget (omega arith) high, budget_low,
+    ) refl
+
 pub plain_words : PlainWords
 unfolding words_of verb_of lone_of query_by asked_by asked_for takes between_of
 plain_words asked.Run may = refl
@@ -139,6 +150,7 @@ plain_words (asked.Report queries.Unmet) may = refl
 plain_words (asked.Report (queries.Rows table)) may = absurd may
 plain_words (asked.Import table first term) may = import_words table first term may
 plain_words (asked.Export table) may = export_words table
+plain_words (asked.Plan student budget) may = plan_words student.0 budget may.0 may.1 may.2
 plain_words (asked.Help topics.Desk) may = refl
 plain_words (asked.Help (topics.Command verbs.Run)) may = refl
 plain_words (asked.Help (topics.Command verbs.Serve)) may = refl
@@ -147,4 +159,5 @@ plain_words (asked.Help (topics.Command verbs.Audit)) may = refl
 plain_words (asked.Help (topics.Command verbs.Report)) may = refl
 plain_words (asked.Help (topics.Command verbs.Import)) may = refl
 plain_words (asked.Help (topics.Command verbs.Export)) may = refl
+plain_words (asked.Help (topics.Command verbs.Plan)) may = refl
 plain_words asked.Version may = refl

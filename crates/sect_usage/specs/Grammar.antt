@@ -23,7 +23,8 @@ verb_of word =
     (if bytes_eq word (codes "audit") then Some verbs.Audit else
     (if bytes_eq word (codes "report") then Some verbs.Report else
     (if bytes_eq word (codes "import") then Some verbs.Import else
-    (if bytes_eq word (codes "export") then Some verbs.Export else None))))))
+    (if bytes_eq word (codes "export") then Some verbs.Export else
+    (if bytes_eq word (codes "plan") then Some verbs.Plan else None)))))))
 
 -- the option names a keeper
 abbrev pub is_keeper : List ℕ → Bool
@@ -42,6 +43,7 @@ takes verbs.Audit name = is_keeper name
 takes verbs.Report name = is_keeper name
 takes verbs.Import name = is_keeper name || (bytes_eq name (codes "first") || bytes_eq name (codes "term"))
 takes verbs.Export name = is_keeper name
+takes verbs.Plan name = is_keeper name || bytes_eq name (codes "budget")
 
 -- there is a value
 abbrev pub is_given : Option (List ℕ) → Bool
@@ -123,6 +125,13 @@ import_of items = do
   term ← term_of (value_of (codes "term") items)
   Some (asked.Import table first term)
 
+-- what `plan` asks for: each search visits at most 2,000 decisions where the budget isn't named
+abbrev pub plan_of : List Item → Option Words
+plan_of items = do
+  student ← the_one (positionals items) >>= student_of
+  budget ← usual_or 2000 1 20000 (value_of (codes "budget") items)
+  Some (asked.Plan student budget)
+
 -- what a command asks for by items that it allows
 unfoldable pub asked_for : Verb → List Item → Option Words
 asked_for verbs.Run items = where_none (Some asked.Run) (positionals items)
@@ -132,6 +141,7 @@ asked_for verbs.Audit items = where_none (Some asked.Audit) (positionals items)
 asked_for verbs.Report items = option_map asked.Report (query_of (positionals items))
 asked_for verbs.Import items = import_of items
 asked_for verbs.Export items = option_map asked.Export (the_one (positionals items) >>= table_of)
+asked_for verbs.Plan items = plan_of items
 
 -- what a command asks for by these items
 unfoldable pub asked_by : Verb → List Item → Option Words

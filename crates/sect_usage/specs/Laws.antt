@@ -29,6 +29,7 @@ pub record Worked : Type 0 where
   pub dash : words_of (codes "run" ∷ codes "--db" ∷ codes "-x" ∷ []) ≡ no_words
   pub serve : words_of (codes "serve" ∷ codes "--port=8080" ∷ []) ≡ Some (asked.Serve 8080 4 1000000)
   pub many : words_of (codes "serve" ∷ codes "--port=8080" ∷ codes "--workers" ∷ codes "65" ∷ []) ≡ no_words
+  pub plan : words_of (codes "plan" ∷ codes "11" ∷ codes "--budget" ∷ codes "12" ∷ []) ≡ Some (asked.Plan (record { 0 = 11 }) 12)
   pub equals : words_of (codes "run" ∷ codes "--db=-x" ∷ []) ≡ Some asked.Run
 
 -- not empty, and it doesn't begin with a dash
@@ -52,7 +53,8 @@ AnyOrder =
 abbrev pub IsBetween : ℕ → ℕ → ℕ → Type 0
 IsBetween least most n = (least ≤ n) × (n ≤ most)
 
--- offerings are made from 1 to 100; a port is from 1 to 65,535, workers are from 1 to 64, and sessions from 1 to 1,000,000
+-- offerings are made from 1 to 100; a port is from 1 to 65,535, workers are from 1 to 64, sessions from 1 to 1,000,000; a budget
+-- is from 1 to 20,000
 abbrev pub IsInRange : Words → Type 0
 IsInRange asked.Run = ⊤
 IsInRange (asked.Serve port workers sessions) = IsBetween 1 65535 port × IsBetween 1 64 workers × IsBetween 1 1000000 sessions
@@ -61,6 +63,7 @@ IsInRange asked.Audit = ⊤
 IsInRange (asked.Report query) = ⊤
 IsInRange (asked.Import table first term) = ⊤
 IsInRange (asked.Export table) = ⊤
+IsInRange (asked.Plan student budget) = IsBetween 1 20000 budget
 IsInRange (asked.Help topic) = ⊤
 IsInRange asked.Version = ⊤
 

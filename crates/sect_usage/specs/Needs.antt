@@ -32,6 +32,7 @@ port_of asked.Audit = None
 port_of (asked.Report query) = None
 port_of (asked.Import table first term) = None
 port_of (asked.Export table) = None
+port_of (asked.Plan student budget) = None
 port_of (asked.Help topic) = None
 port_of asked.Version = None
 
@@ -44,6 +45,7 @@ workers_of asked.Audit = 0
 workers_of (asked.Report query) = 0
 workers_of (asked.Import table first term) = 0
 workers_of (asked.Export table) = 0
+workers_of (asked.Plan student budget) = 0
 workers_of (asked.Help topic) = 0
 workers_of asked.Version = 0
 

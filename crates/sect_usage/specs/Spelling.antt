@@ -23,6 +23,7 @@ verb_word verbs.Audit = codes "audit"
 verb_word verbs.Report = codes "report"
 verb_word verbs.Import = codes "import"
 verb_word verbs.Export = codes "export"
+verb_word verbs.Plan = codes "plan"
 
 -- the word of a table
 abbrev pub table_word : Table → List ℕ
@@ -55,6 +56,7 @@ word_list asked.Audit = codes "audit" ∷ []
 word_list (asked.Report query) = codes "report" ∷ query_words query
 word_list (asked.Import table first term) = codes "import" ∷ (table_word table ∷ (codes "--first" ∷ (decimal first ∷ term_words term)))
 word_list (asked.Export table) = codes "export" ∷ (table_word table ∷ [])
+word_list (asked.Plan student budget) = codes "plan" ∷ (decimal student.0 ∷ (codes "--budget" ∷ (decimal budget ∷ [])))
 word_list (asked.Help topics.Desk) = codes "--help" ∷ []
 word_list (asked.Help (topics.Command verb)) = verb_word verb ∷ (codes "--help" ∷ [])
 word_list asked.Version = codes "--version" ∷ []
@@ -82,6 +84,7 @@ MayBeAsked asked.Audit = ⊤
 MayBeAsked (asked.Report query) = IsReported query
 MayBeAsked (asked.Import table first term) = (first < 2 ^ 64) × IsTerm term
 MayBeAsked (asked.Export table) = ⊤
+MayBeAsked (asked.Plan student budget) = (student.0 < 2 ^ 32) × IsBetween 1 20000 budget
 MayBeAsked (asked.Help topic) = ⊤
 MayBeAsked asked.Version = ⊤
 

@@ -15,6 +15,7 @@ Commands:\n\
   desk import TABLE --first N    reads a table in CSV from standard input, and asks for what it says\n\
   desk export TABLE              prints a table in CSV\n\
   desk report KIND [ID]          prints a roll, the open places, a schedule, who waits or what is unmet\n\
+  desk plan STUDENT              prints the best whole schedule that a student could have\n\
   desk audit                     checks each refusal of the history again, and tells how many there are\n\
   desk make N                    makes N offerings with their students, and tells how many requests are met\n\
   desk COMMAND --help            says more of a command, with its options\n\
@@ -121,6 +122,21 @@ Options:\n\
   --journal FILE  the history is in this journal (default: there is none)\n\
 Either file is made where there is none. Only one of the two may be given.\n";
 
+const PLAN_HELP: &[u8] =
+    b"desk plan STUDENT [--budget N] [--db FILE | --journal FILE]: prints the best whole schedule that the student's requests\n\
+could have, as if the student held nothing. Nothing is enrolled.\n\
+\n\
+  rank P met CHOICE          the request at position P, with the choice that the schedule has for it\n\
+  rank P unmet VISITS TREE   it can't be had beside those that stand before it: the tree refutes each choice\n\
+  rank P spent               the search would visit more decisions than the budget\n\
+The requests are taken by position, and each is kept where a schedule has it and all that were kept before it.\n\
+\n\
+Options:\n\
+  --budget N      how many decisions each search may visit, from 1 to 20000 (default: 2000)\n\
+  --db FILE       the history is in this database of SQLite (default: there is none)\n\
+  --journal FILE  the history is in this journal (default: there is none)\n\
+Either file is made where there is none. Only one of the two may be given.\n";
+
 const VERSION: &[u8] = b"desk 0.1.0\n";
 
 /// The text of a topic.
@@ -136,6 +152,7 @@ pub fn help_of(topic: Topic) -> &'static [u8]
         Topic::Command(Verb::Report) => REPORT_HELP,
         Topic::Command(Verb::Import) => IMPORT_HELP,
         Topic::Command(Verb::Export) => EXPORT_HELP,
+        Topic::Command(Verb::Plan) => PLAN_HELP,
     }
 }
 

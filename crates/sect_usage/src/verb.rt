@@ -15,6 +15,7 @@ pub enum Verb {
     Report,
     Import,
     Export,
+    Plan,
 }
 
 /// What a text of help is about.
@@ -44,6 +45,8 @@ pub(crate) fn read_verb(word: &[u8]) -> Option<Verb>
         Some(Verb::Import)
     } else if same_bytes(word, b"export") {
         Some(Verb::Export)
+    } else if same_bytes(word, b"plan") {
+        Some(Verb::Plan)
     } else {
         None
     }
@@ -62,6 +65,7 @@ pub(crate) fn takes(verb: Verb, name: &[u8]) -> bool
         Verb::Audit => is_keeper(name),
         Verb::Report => is_keeper(name),
         Verb::Export => is_keeper(name),
+        Verb::Plan => is_keeper(name) || same_bytes(name, b"budget"),
     }
 }
 

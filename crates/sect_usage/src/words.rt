@@ -3,12 +3,12 @@
 ghost use Rattle.std.specs.Prelude.{◌≡◌, Some, map, option_map};
 ghost use Rattle.std.specs.String.{string_bytes};
 ghost use Rattle.sect_usage.specs.Items.{items_of, positionals, value_of};
-ghost use Rattle.sect_usage.specs.Grammar.{allows, asked_by, asked_for, import_of, is_given, is_help, lone_of, make_of, one_keeper, query_by, query_of, serve_of, table_of, takes as takes_name, term_of, the_one, where_none, words_of};
+ghost use Rattle.sect_usage.specs.Grammar.{allows, asked_by, asked_for, import_of, is_given, is_help, lone_of, make_of, one_keeper, plan_of, query_by, query_of, serve_of, table_of, takes as takes_name, term_of, the_one, where_none, words_of};
 
 use crate::items::{Item, next_item, next_positional, value};
 use crate::number::{between, day, id, number, usual};
 use crate::verb::{Topic, Verb, read_verb, takes};
-use sect_base::{OfferingId, SectionId, StudentId};
+use sect_base::{Budget, OfferingId, SectionId, StudentId};
 use sect_command::{Query, Table};
 use sect_time::Day;
 use sect_words::same_bytes;
@@ -35,6 +35,11 @@ pub enum Words {
         term: Option<Day>,
     },
     Export(Table),
+    /// The best whole schedule of a student, where each search visits at most so many decisions.
+    Plan {
+        student: StudentId,
+        budget: Budget,
+    },
     Help(Topic),
     Version,
 }
@@ -141,6 +146,7 @@ fn asked_of(verb: Verb, words: &[String]) -> Option<Words>
         Verb::Report => read_report(words),
         Verb::Import => read_import(words),
         Verb::Export => read_export(words),
+        Verb::Plan => read_plan(words),
     }
 }
 
@@ -255,6 +261,18 @@ fn read_export(words: &[String]) -> Option<Words>
 {
     let table = read_table(only(words)?)?;
     Some(Words::Export(table))
+}
+
+fn read_plan(words: &[String]) -> Option<Words>
+    ensures { result ≡ plan_of (items_of (map string_bytes words.now)) }
+{
+    let student = id(only(words)?)?;
+    let visits = usual(value(b"budget", words), 2_000, 1, 20_000)?;
+    let budget = Budget::new(visits)?;
+    Some(Words::Plan {
+        student: StudentId(student),
+        budget,
+    })
 }
 
 // A table.
