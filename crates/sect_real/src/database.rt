@@ -3,11 +3,11 @@ ghost use Rattle.std.specs.Prelude.{◌≡◌, ◌≤◌, None};
 ghost use Rattle.sect_edge.specs.declared.edge.KeepFault.{KeepFault};
 ghost use Rattle.sect_edge.specs.Causes.{Rose};
 
+use crate::window::Window;
 use sect_edge::{KeepFault, Keeper};
-use sqlite::types::ValueRef;
 use sqlite::{Connection, Error, ErrorCode, File, FileStore, params};
 
-type Database = Connection<FileStore<File>>;
+pub(crate) type Database = Connection<FileStore<File>>;
 
 /// The rows of the table `entry` of a database file, by place from 0. It doesn't tell them. While it lives the file is locked
 /// against every other program. After a failure of the disk each later call fails.
@@ -15,6 +15,7 @@ pub struct SqliteKeeper {
     database: Database,
     // How many rows there are, which is the place of the next.
     rows: u64,
+    window: Window,
     faults: u64,
 }
 
@@ -24,6 +25,7 @@ impl Drop for SqliteKeeper {
         let SqliteKeeper {
             database: _,
             rows: _,
+            window: _,
             faults: _,
         } = self;
     }
@@ -34,11 +36,7 @@ impl SqliteKeeper {
     /// locked, or has another table of this name.
     pub fn open(rt: &HostRuntime, path: &str) -> Result<SqliteKeeper, KeepFault> {
         match opened(rt, path) {
-            Ok((database, rows)) => Ok(SqliteKeeper {
-                database,
-                rows,
-                faults: 0,
-            }),
+            Ok(keeper) => Ok(keeper),
             Err(error) => Err(fault_of(error)),
         }
     }
@@ -48,6 +46,7 @@ impl SqliteKeeper {
         let SqliteKeeper {
             database,
             rows: _,
+            window: _,
             faults: _,
         } = self;
         match database.close() {
@@ -77,15 +76,19 @@ fn fault_of(error: Error) -> KeepFault {
     }
 }
 
-// The database of a path, with the number of its rows.
-fn opened(rt: &HostRuntime, path: &str) -> Result<(Database, u64), Error> {
+fn opened(rt: &HostRuntime, path: &str) -> Result<SqliteKeeper, Error> {
     let mut database = Connection::open(rt, path)?;
     make_table(&mut database)?;
-    // It is refused where the table has other columns.
-    let mut none = Vec::new(rt.alloc());
-    select(&mut database, -1, &mut none)?;
     let rows = count(&mut database)?;
-    Ok((database, rows))
+    // It is refused where the table has other columns.
+    let mut window = Window::new(rt.alloc());
+    window.move_to(&mut database, 0)?;
+    Ok(SqliteKeeper {
+        database,
+        rows,
+        window,
+        faults: 0,
+    })
 }
 
 fn make_table(database: &mut Database) -> Result<(), Error> {
@@ -112,23 +115,6 @@ fn insert(database: &mut Database, place: u64, row: &[u8]) -> Result<(), Error> 
     Ok(())
 }
 
-// Puts the row of a place in place of what `into` held. False where there is none.
-fn select(database: &mut Database, place: i64, into: &mut Vec<u8>) -> Result<bool, Error> {
-    let found = database.query_row("SELECT row FROM entry WHERE place = ?1", params![place]);
-    match found {
-        Ok(row) => match row.get_ref(0)? {
-            ValueRef::Blob(bytes) => {
-                into.clear();
-                into.extend_from_slice(bytes)?;
-                Ok(true)
-            }
-            _ => Err(Error::InvalidQuery),
-        },
-        Err(Error::QueryReturnedNoRows) => Ok(false),
-        Err(error) => Err(error),
-    }
-}
-
 impl Keeper for SqliteKeeper {
     ghost rows = { λ k. None };
 
@@ -149,10 +135,15 @@ impl Keeper for SqliteKeeper {
         let Ok(place) = i64::try_from(at) else {
             return Ok(false);
         };
-        match select(&mut self.database, place, into) {
-            Ok(found) => Ok(found),
-            Err(error) => Err(self.told(error)),
+        if let Err(error) = self.window.reach(&mut self.database, place) {
+            return Err(self.told(error));
         }
+        let Some(row) = self.window.row(place) else {
+            return Ok(false);
+        };
+        into.clear();
+        into.extend_from_slice(row)?;
+        Ok(true)
     }
 
     /// No call of the database.

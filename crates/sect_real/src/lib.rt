@@ -3,6 +3,7 @@
 
 mod any;
 mod database;
+mod window;
 
 pub use any::AnyKeeper;
 pub use database::SqliteKeeper;

@@ -34,6 +34,34 @@ fn a_database_has_its_rows_again(rt: HostRuntime) -> io::Result<()> {
 }
 
 #[test]
+fn more_rows_than_are_read_at_once_come_one_by_one(rt: HostRuntime) -> io::Result<()> {
+    let path = "sect_real_many.db";
+    let _ = fs::remove_file(&rt, path);
+    let _ = fs::remove_file(&rt, "sect_real_many.db-wal");
+    let Ok(mut keeper) = SqliteKeeper::open(&rt, path) else {
+        panic!(rt; "a new file opens");
+    };
+    // The row of a place has as many bytes.
+    let bytes = [b'a'; 600];
+    for place in 0..600usize {
+        assert!(rt; keeper.append(&bytes[..place]) == Ok(()));
+    }
+    let mut row = Vec::new(rt.alloc());
+    for place in 0..600u64 {
+        assert!(rt; keeper.row(place, &mut row) == Ok(true));
+        assert!(rt; row.len() as u64 == place);
+    }
+    assert!(rt; keeper.row(600, &mut row) == Ok(false));
+    assert!(rt; keeper.append(b"ab") == Ok(()));
+    assert!(rt; keeper.row(600, &mut row) == Ok(true));
+    assert!(rt; row.len() == 2);
+    assert!(rt; keeper.row(7, &mut row) == Ok(true));
+    assert!(rt; row.len() == 7);
+    let _ = fs::remove_file(&rt, "sect_real_many.db-wal");
+    fs::remove_file(&rt, path)
+}
+
+#[test]
 fn a_file_of_another_kind_does_not_open(rt: HostRuntime) -> io::Result<()> {
     let path = "sect_real_other.db";
     let mut file = File::create(&rt, path)?;
