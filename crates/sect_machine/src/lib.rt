@@ -12,6 +12,7 @@ mod marking;
 mod moves;
 mod object;
 mod place;
+mod plan;
 mod recheck;
 mod replies;
 mod reserved;

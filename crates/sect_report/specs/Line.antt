@@ -2,8 +2,9 @@
 use Rattle.std.specs.Prelude.{ℕ, ℤ, List, [], ◌∷◌, ◌++◌, Option, None, Some, decimal}
 use Rattle.std.specs.Fmt.{signed_decimal}
 use Rattle.sect_report.specs.declared.line.Word.{Word}
-use Rattle.sect_report.specs.declared.line.Word.TheVariants.{Name, Number, Optional, Space, Places, Courses, Sections}
-use Rattle.sect_words.specs.Words.{course_text, limit_text, list_text, optional_text, section_text}
+use Rattle.sect_report.specs.declared.line.Word.TheVariants.{Name, Number, Optional, Space, Places, Courses, Sections, Choice, Tree}
+use Rattle.sect_command.specs.TreeText.{tree_text}
+use Rattle.sect_words.specs.Words.{choice_text, course_text, limit_text, list_text, optional_text, section_text}
 
 -- each word behind a space, which is 32, and the line feed
 abbrev pub more_words_text : List (List ℕ) → List ℕ
@@ -29,3 +30,5 @@ word_text (Space n) = space_text n
 word_text (Places limit) = limit_text limit
 word_text (Courses ids) = list_text 43 course_text ids.now
 word_text (Sections ids) = list_text 43 section_text ids.now
+word_text (Choice choice) = choice_text choice.now
+word_text (Tree tree) = tree_text tree.now

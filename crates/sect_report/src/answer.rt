@@ -28,8 +28,8 @@ pub fn report(query: &Query, view: &View, into: &mut Vec<u8>) -> Result<(), Memo
     }
 }
 
-// Appends the line of an id that nothing has.
-fn print_unknown(kind: &str, id: u32, into: &mut Vec<u8>) -> Result<(), Memory>
+/// Appends the line of an id that nothing of the kind has. After `Memory` the bytes are as before.
+pub fn print_unknown(kind: &str, id: u32, into: &mut Vec<u8>) -> Result<(), Memory>
     ensures text { OnOk result (into.new.items ≡ into.old.items ++ unknown_text kind.now id) }
     ensures memory { OnErr result (into.new.items ≡ into.old.items) }
 {

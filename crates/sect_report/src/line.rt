@@ -4,12 +4,12 @@ ghost use Rattle.std.specs.Prelude.{◌≡◌, ◌++◌, ◌∷◌, [], OnOk, On
 ghost use Rattle.sect_report.specs.Line.{line_text, more_words_text, space_text, word_text};
 
 use itoa::Buffer;
-use sect_base::{CourseId, Limit, Memory, SectionId};
+use sect_base::{Block, Choice, CourseId, Limit, Memory, SectionId};
 use sect_words::{Spelled, print_list, print_number, print_text};
 
 /// A word of a line.
 #[derive(Clone, Copy)]
-pub(crate) enum Word<'a> {
+pub enum Word<'a> {
     Name(&'a str),
     Number(u64),
     /// A number, or a dash for none.
@@ -19,10 +19,12 @@ pub(crate) enum Word<'a> {
     Places(Limit),
     Courses(&'a [CourseId]),
     Sections(&'a [SectionId]),
+    Choice(&'a Choice),
+    Tree(&'a Block),
 }
 
 /// Appends a line. After `Memory` the bytes are as before.
-pub(crate) fn print_line(words: &[Word], into: &mut Vec<u8>) -> Result<(), Memory>
+pub fn print_line(words: &[Word], into: &mut Vec<u8>) -> Result<(), Memory>
     ensures text { OnOk result (into.new.items ≡ into.old.items ++ line_text (map word_text words.now)) }
     ensures memory { OnErr result (into.new.items ≡ into.old.items) }
 {
@@ -80,6 +82,8 @@ fn print_word(word: &Word, into: &mut Vec<u8>) -> Result<(), Memory>
         Word::Places(limit) => limit.print(into),
         Word::Courses(courses) => print_list(b'+', courses, into),
         Word::Sections(sections) => print_list(b'+', sections, into),
+        Word::Choice(choice) => choice.print(into),
+        Word::Tree(tree) => tree.print(into),
     }
 }
 

@@ -9,7 +9,7 @@ use crate::line::{Word, print_line};
 use sect_base::Memory;
 
 /// A value that has lines in a report.
-pub(crate) trait Printed {
+pub trait Printed {
     /// The lines.
     ghost lines: { Self → List ℕ };
 
@@ -62,7 +62,7 @@ pub(crate) fn print_under<P: Printed>(
 }
 
 /// Appends the lines of each, or one that says that there are none. After `Memory` the bytes are as before.
-pub(crate) fn print_list<P: Printed>(items: &[P], into: &mut Vec<u8>) -> Result<(), Memory>
+pub fn print_list<P: Printed>(items: &[P], into: &mut Vec<u8>) -> Result<(), Memory>
     ensures text { OnOk result (into.new.items ≡ into.old.items ++ listed_text P.lines items.now) }
     ensures memory { OnErr result (into.new.items ≡ into.old.items) }
 {

@@ -1,0 +1,4 @@
+pub mod Plan
+pub mod Text
+pub mod Vector
+pub mod Laws
