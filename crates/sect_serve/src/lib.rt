@@ -1,0 +1,8 @@
+//! Many links, each served by a worker of its own, at one desk.
+#![tactic(auto)]
+
+mod server;
+mod serving;
+
+pub use server::{Back, RequestObject, Server, WorkerEnd};
+pub use serving::{ServeEnd, serve};
