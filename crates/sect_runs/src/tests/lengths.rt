@@ -5,8 +5,8 @@ use sect_app::Status;
 use sect_base::Memory;
 use std::alloc::AllocGlobal;
 use std::sync::Wait;
-use std::thread::Threads;
 use std::test::Fail;
+use std::thread::Threads;
 
 /// Whether a run over a comment of so many bytes, with this behind it, ends and answers so.
 fn ends_so<R: AllocGlobal + Threads + Wait + Sync>(

@@ -7,8 +7,8 @@ use sect_app::Status;
 use sect_base::Memory;
 use std::alloc::AllocGlobal;
 use std::sync::Wait;
-use std::thread::Threads;
 use std::test::Fail;
+use std::thread::Threads;
 
 /// A student who waits for the place that another has.
 const WAITS: &str = "s12 1 wait 12 1 => 4 waiting 1";
