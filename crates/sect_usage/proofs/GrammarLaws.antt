@@ -6,7 +6,6 @@ use Rattle.std.proofs.lemmas.Grind.{common_steps}
 use Rattle.std.proofs.lemmas.List.{get_or_append_left, get_or_at, take_at, drop_at, length_push}
 use Rattle.std.proofs.lemmas.List.Sums.{fails_before_first, position_or_len_is}
 use Rattle.sect_catalog.proofs.RisingLemmas.{no_place}
-use Rattle.sect_words.specs.ReadingWords.{between_of}
 use Rattle.sect_usage.specs.declared.verb.Verb.{Verb}
 use Rattle.sect_usage.specs.declared.verb.Verb.TheVariants as verbs
 use Rattle.sect_usage.specs.Grammar.{asked_by, asked_for, takes, words_of, verb_of, lone_of, table_of, query_by}
@@ -14,8 +13,8 @@ use Rattle.sect_usage.specs.Items.{Item, equals_at, items_of, option_cut, option
 use Rattle.sect_usage.specs.Laws.{AnyOrder, OneItem, Worked}
 
 pub worked : Worked
-unfolding words_of verb_of lone_of table_of query_by asked_by asked_for takes between_of
-worked = record { run = refl; kept = refl; twice = refl; extra = refl; help = refl; export = refl; again = refl; empty = refl; unmet = refl; dash = refl; serve = refl; many = refl; plan = refl; equals = refl }
+unfolding words_of verb_of lone_of table_of query_by asked_by asked_for takes
+worked = record { run = refl; kept = refl; twice = refl; extra = refl; help = refl; export = refl; again = refl; empty = refl; unmet = refl; dash = refl; portless = refl; nobody = refl; equals = refl }
 
 -- the first `=` stands behind a name without one
 equals_behind : (name value : List ℕ) → equals_at name ≡ None → position_or_len (λ byte. byte == 61) (name ++ 61 ∷ value) ≡ length name

@@ -27,9 +27,8 @@ pub record Worked : Type 0 where
   pub empty : words_of (codes "audit" ∷ codes "--db=" ∷ []) ≡ no_words
   pub unmet : words_of (codes "report" ∷ codes "unmet" ∷ []) ≡ Some (asked.Report queries.Unmet)
   pub dash : words_of (codes "run" ∷ codes "--db" ∷ codes "-x" ∷ []) ≡ no_words
-  pub serve : words_of (codes "serve" ∷ codes "--port=8080" ∷ []) ≡ Some (asked.Serve 8080 4 1000000)
-  pub many : words_of (codes "serve" ∷ codes "--port=8080" ∷ codes "--workers" ∷ codes "65" ∷ []) ≡ no_words
-  pub plan : words_of (codes "plan" ∷ codes "11" ∷ codes "--budget" ∷ codes "12" ∷ []) ≡ Some (asked.Plan (record { 0 = 11 }) 12)
+  pub portless : words_of (codes "serve" ∷ codes "--workers" ∷ codes "9" ∷ []) ≡ no_words
+  pub nobody : words_of (codes "plan" ∷ codes "--budget=12" ∷ []) ≡ no_words
   pub equals : words_of (codes "run" ∷ codes "--db=-x" ∷ []) ≡ Some asked.Run
 
 -- not empty, and it doesn't begin with a dash
