@@ -14,19 +14,23 @@ use sect_net::TcpLink;
 use sect_real::{
     AnyKeeper, FileDisk, RealClock, SqliteKeeper, StdSink, StdSource, ToldKeeper, ToldSource,
 };
+use std::alloc::AllocGlobal;
 use std::io::{IsTerminal, Write};
 use std::net::{Ipv4Addr, TcpListener};
 use std::process::ExitCode;
+use std::sync::Wait;
+use std::thread::Threads;
 use std::{env, io};
 
 // How the program ended: as the desk did, or with a journal whose gate at this place has no byte or no whole row behind it.
+#[derive(Drop)]
 enum End {
     Told(Status),
     BadJournal(u64),
 }
 
 fn main(rt: HostRuntime) -> ExitCode {
-    let end = match start(rt) {
+    let end = match start(rt, &rt) {
         Ok(status) => End::Told(status),
         Err(end) => end,
     };
@@ -53,7 +57,10 @@ fn print_end(rt: HostRuntime, status: Status) -> io::Result<()> {
 }
 
 // Reads the words, makes what they need and calls the desk.
-fn start(rt: HostRuntime) -> Result<Status, End> {
+fn start<R: AllocGlobal + Threads + Wait + Sync>(
+    rt: HostRuntime,
+    threads: &R,
+) -> Result<Status, End> {
     let words = words_of(rt).map_err(End::Told)?;
     let needs = match needs(rt.alloc(), &words) {
         Ok(needs) => needs,
@@ -74,11 +81,11 @@ fn start(rt: HostRuntime) -> Result<Status, End> {
             let listener = listen(rt, port)?;
             let keeper = keeper_of(rt, db, journal)?;
             let links = links_of(rt, &listener, workers).ok_or(End::Told(Status::Memory))?;
-            Ok(run(rt, &words, keeper, links, workers))
+            Ok(run(rt, threads, &words, keeper, links, workers))
         }
         None => {
             let keeper = keeper_of(rt, db, journal)?;
-            Ok(run(rt, &words, keeper, Vec::new(rt.alloc()), 1))
+            Ok(run(rt, threads, &words, keeper, Vec::new(rt.alloc()), 1))
         }
     }
 }
@@ -171,8 +178,9 @@ fn clocks_of(rt: HostRuntime, count: u32) -> Option<Vec<RealClock>>
 }
 
 // Calls the desk over the process's own input and output, and closes the keeper. Where that fails, no row is lost.
-fn run(
+fn run<R: AllocGlobal + Threads + Wait + Sync>(
     rt: HostRuntime,
+    threads: &R,
     words: &[String],
     keeper: AnyKeeper,
     links: Vec<TcpLink<'_>>,
@@ -188,7 +196,7 @@ fn run(
     let mut source = ToldSource::new(rt, StdSource::new(rt.stdin()), is_import_told(rt, words));
     let mut sink = StdSink::new(rt.stdout());
     let (status, keeper, _links) = desk(
-        &rt,
+        threads,
         words,
         &mut source,
         &mut sink,
