@@ -79,8 +79,8 @@ fn start<R: AllocGlobal + Threads + Wait + Sync>(
     match port {
         Some(port) => {
             let listener = listen(rt, port)?;
-            let keeper = keeper_of(rt, db, journal)?;
             let links = links_of(rt, &listener, workers).ok_or(End::Told(Status::Memory))?;
+            let keeper = keeper_of(rt, db, journal)?;
             Ok(run(rt, threads, &words, keeper, links, workers))
         }
         None => {
