@@ -89,7 +89,7 @@ def bytes_of(dice, fuzz, seed):
     if chance < 0.5:
         few = [b'\r\n', b'\n', b'\r', b'G', b'\x16\x03\x01\x02\0\x01', b'PRI * HTTP/2.0\r\n\r\nSM\r\n\r\n', b'\0' * 100, b'']
         return (dice.choice(few) * dice.choice([1, 1, 20000]))[:100000]
-    data = b''.join(request_of(dice, dice.randint(0, 40)) for _ in range(dice.randint(1, 5)))
+    data = b''.join(request_of(dice, dice.choice([dice.randint(0, 9), dice.randint(10, 10**6)])) for _ in range(dice.randint(1, 5)))
     for _ in range(dice.choice([0, 0, 0, 1, 1, 3])):
         at = dice.randrange(len(data) + 1)
         data = data[:at] + dice.choice(ODD) + data[at + dice.randint(0, 1):]
