@@ -5,7 +5,7 @@ mod link;
 mod sink;
 mod source;
 
-pub use link::TcpLink;
+pub use link::{TcpLink, links};
 pub use sink::TcpSink;
 pub use source::TcpSource;
 

@@ -1,8 +1,9 @@
 // Connections that come in at one listener.
-ghost use Rattle.std.specs.Prelude.{None, ◌≡◌};
+ghost use Rattle.std.specs.Prelude.{None, ◌≡◌, length, IfOk};
 
 use crate::{TcpSink, TcpSource};
 use sect_edge::{Link, LinkFault};
+use std::alloc::AllocError;
 use std::io::{self, ErrorKind, Read};
 use std::net::{Shutdown, TcpListener, TcpStream};
 use std::time::{Duration, Instant};
@@ -39,6 +40,21 @@ impl<'a> TcpLink<'a> {
             faults: 0,
         }
     }
+}
+
+/// So many links over one listener, which share its connections.
+pub fn links(
+    rt: HostRuntime,
+    listener: &TcpListener,
+    count: u32,
+) -> Result<Vec<TcpLink<'_>>, AllocError>
+    ensures { IfOk result (λ links. length links.items ≡ count) }
+{
+    let mut links = Vec::new(rt.alloc());
+    for _ in 0..count {
+        links.push(TcpLink::new(rt, listener))?;
+    }
+    Ok(links)
 }
 
 // The two ends of the next connection. What the client sends is answered at once, and no call waits for ever.

@@ -1,6 +1,6 @@
 // Links over sockets of this machine.
 
-use crate::{TcpLink, TcpSink, TcpSource};
+use crate::{TcpLink, TcpSink, TcpSource, links};
 use sect_edge::{Failed, Link, Sink, Source};
 use std::io::{self, Read, Write};
 use std::net::{Shutdown, TcpListener, TcpStream};
@@ -95,8 +95,11 @@ fn two_workers_share_a_listener(rt: HostRuntime) -> io::Result<()> {
     let listener = listener(rt)?;
     let mut first = client(rt, &listener, b"x")?;
     let mut second = client(rt, &listener, b"y")?;
-    let one = TcpLink::new(rt, &listener);
-    let other = TcpLink::new(rt, &listener);
+    let Ok(mut links) = links(rt, &listener, 2) else {
+        panic!(rt; "there is memory");
+    };
+    let one = links.remove(0);
+    let other = links.remove(0);
     let echoed = thread::join(&rt, || echoes(one), || echoes(other));
     assert!(rt; echoed == (true, true));
     let mut into = [0; 2];
