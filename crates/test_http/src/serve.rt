@@ -3,7 +3,7 @@
 ghost use Rattle.sect_turn.specs.Passes.{IsIdle, IsPassOf};
 
 use sect_edge::{MemClock, MemKeeper, MemSink, MemSource, OpenGate};
-use sect_http::session;
+use sect_http::{Bench, session, talk};
 use sect_machine::Machine;
 use sect_office::Office;
 use sect_once::Desk;
@@ -32,43 +32,69 @@ pub struct Told {
     pub end: End,
 }
 
-// Serves one connection on 2025-09-01. None where memory is wanted for its sink.
+// Serves one connection on 2025-09-01, on this bench or one of its own. None where memory is wanted for its sink.
 fn serve<R: Wait>(
     rt: &R,
     alloc: Global,
     office: &Office<Machine, MemKeeper>,
     pass: &mut Pass<Desk<Machine, MemKeeper>>,
+    bench: Option<&mut Bench>,
     sent: Sent,
 ) -> Option<Told>
     requires turn { IsPassOf (λ d. d.log) (λ d. d.base) office.now.turn pass.old }
     requires idle { IsIdle pass.old }
-    ensures turn { IsPassOf (λ d. d.log) (λ d. d.base) office.now.turn pass.new × IsIdle pass.new }
+    ensures { IsPassOf (λ d. d.log) (λ d. d.base) office.now.turn pass.new × IsIdle pass.new }
 {
     let piece = sent.piece.max(1);
     let mut source = MemSource::new(sent.bytes, piece, sent.failing_reads);
     let mut sink = MemSink::new(alloc, 4_096, piece, sent.failing_writes).ok()?;
     let mut clock = MemClock::new(Day::new(20_332)?, Vec::new(alloc));
     let mut step = 0;
-    let end = session(
-        rt, alloc, office, pass, &mut source, &mut sink, &mut clock, &OpenGate, 0, &mut step,
-    );
+    let end = match bench {
+        Some(bench) => talk(
+            rt,
+            office,
+            pass,
+            &mut source,
+            &mut sink,
+            &mut clock,
+            &OpenGate,
+            0,
+            &mut step,
+            bench,
+        ),
+        None => session(
+            rt,
+            alloc,
+            office,
+            pass,
+            &mut source,
+            &mut sink,
+            &mut clock,
+            &OpenGate,
+            0,
+            &mut step,
+        ),
+    };
     Some(Told { sink, end })
 }
 
-/// Serves these connections one after another, on the desk of this keeper. None where its rows don't open, or memory is
-/// wanted.
+/// Serves these connections one after another on the desk of this keeper: all of them on the bench, where there is one, and
+/// else each as a session. None where the rows don't open, or memory is wanted.
 pub fn served<R: Wait>(
     rt: &R,
     alloc: Global,
     keeper: MemKeeper,
+    bench: Option<Bench>,
     connections: Vec<Sent>,
 ) -> Option<Vec<Told>> {
     let desk = Desk::<Machine, MemKeeper>::open(alloc, keeper).ok()?;
     let (office, mut pass) = Office::open(alloc, desk).ok()?;
-    let mut answers = Vec::new(alloc);
+    let mut bench = bench;
+    let mut talks = Vec::new(alloc);
     for sent in connections {
-        let told = serve(rt, alloc, &office, &mut pass, sent)?;
-        answers.push(told).ok()?;
+        let told = serve(rt, alloc, &office, &mut pass, bench.as_mut(), sent)?;
+        talks.push(told).ok()?;
     }
-    Some(answers)
+    Some(talks)
 }

@@ -63,9 +63,9 @@ fn check_over<R: Abort + Wait>(
     for Case(parts, _, _) in cases {
         connections.push(sent(alloc, &joined(alloc, parts)?, piece)?)?;
     }
-    let answers = served(rt, alloc, keeper, connections).ok_or("not served")?;
-    assert_eq!(rt; answers.len(), cases.len());
-    for (told, Case(parts, expected, end)) in answers.iter().zip(cases) {
+    let talks = served(rt, alloc, keeper, None, connections).ok_or("not served")?;
+    assert_eq!(rt; talks.len(), cases.len());
+    for (told, Case(parts, expected, end)) in talks.iter().zip(cases) {
         let expected = joined(alloc, expected)?;
         assert_eq!(rt; told.end, *end, "at {parts:?}");
         assert_eq!(rt; told.sink.bytes(), expected.as_slice(), "at {parts:?}");

@@ -6,9 +6,16 @@ const CASES: &[Case<'static>] = &[
     Case(&[], &[], End::Closed),
     Case(&["\r\n\n\r\n"], &[], End::Closed),
     Case(&["\r\n\n\r"], &[], End::Cut),
-    Case(&["\n", LOOK, "\r\n\r\n", LOOK, "\n"], &[WAITING, WAITING], End::Closed),
     Case(
-        &["GET /waiting?all HTTP/1.1\r\nConnection: keep-alive\r\n\r\n", LOOK],
+        &["\n", LOOK, "\r\n\r\n", LOOK, "\n"],
+        &[WAITING, WAITING],
+        End::Closed,
+    ),
+    Case(
+        &[
+            "GET /waiting?all HTTP/1.1\r\nConnection: keep-alive\r\n\r\n",
+            LOOK,
+        ],
         &[WAITING, WAITING],
         End::Closed,
     ),
@@ -18,7 +25,10 @@ const CASES: &[Case<'static>] = &[
         End::Closed,
     ),
     Case(
-        &["GET /waiting HTTP/1.1\r\nConnection: Keep-Alive , CLOSE\r\n\r\n", LOOK],
+        &[
+            "GET /waiting HTTP/1.1\r\nConnection: Keep-Alive , CLOSE\r\n\r\n",
+            LOOK,
+        ],
         &[WAITING_CLOSING],
         End::Closed,
     ),
@@ -28,16 +38,26 @@ const CASES: &[Case<'static>] = &[
         End::Closed,
     ),
     Case(
-        &["GET /waiting HTTP/1.0\r\nConnection: keep-alive\r\n\r\n", LOOK],
+        &[
+            "GET /waiting HTTP/1.0\r\nConnection: keep-alive\r\n\r\n",
+            LOOK,
+        ],
         &[WAITING_CLOSING],
         End::Closed,
     ),
     Case(
-        &["GET /waiting HTTP/1.1\r\nContent-Length: 5\r\n\r\nhello", LOOK],
+        &[
+            "GET /waiting HTTP/1.1\r\nContent-Length: 5\r\n\r\nhello",
+            LOOK,
+        ],
         &[WAITING, WAITING],
         End::Closed,
     ),
-    Case(&["GET /waiting HTTP/1.1\r\nContent-Length: 5\r\n\r\nhell"], &[], End::Cut),
+    Case(
+        &["GET /waiting HTTP/1.1\r\nContent-Length: 5\r\n\r\nhell"],
+        &[],
+        End::Cut,
+    ),
     Case(
         &[LOOK, ASK, ASK, LOOK, ASK, LOOK],
         &[WAITING, ENROLLED, ENROLLED, WAITING, ENROLLED, WAITING],

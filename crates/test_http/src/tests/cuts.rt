@@ -2,6 +2,7 @@
 use super::asks::CUT_ASK;
 use super::*;
 use crate::Told;
+use sect_http::Bench;
 
 /// Where the first request ends, and the second, and the bytes.
 const ENDS: [usize; 3] = [191, 238, 396];
@@ -39,16 +40,26 @@ fn end_after(came: usize) -> End {
 // The connection is told so many bytes of the answers, and ends so.
 fn check_told<R: Abort>(
     rt: &R,
-    alloc: Global,
     told: &Told,
+    answers: &[u8],
     count: usize,
     end: End,
 ) -> Result<(), Fail> {
-    let mut expected = answers(alloc)?;
-    expected.truncate(count);
+    let expected = answers.get(..count).ok_or("no such front")?;
     assert_eq!(rt; told.end, end, "after {count} bytes");
-    assert_eq!(rt; told.sink.bytes(), expected.as_slice());
+    assert_eq!(rt; told.sink.bytes(), expected);
     Ok(())
+}
+
+// Serves the connections one after another on one bench.
+fn served_on_a_bench<R: Wait>(
+    rt: &R,
+    alloc: Global,
+    connections: Vec<Sent>,
+) -> Result<Vec<Told>, Fail> {
+    let bench = Bench::new(alloc)?;
+    let keeper = keeper(alloc, DESK, 0)?;
+    Ok(served(rt, alloc, keeper, Some(bench), connections).ok_or("not served")?)
 }
 
 #[test]
@@ -59,22 +70,26 @@ fn as_curl_sends_it(rt: HostRuntime) -> Result<(), Fail> {
     assert_eq!(rt; requests(alloc)?.len(), ENDS[2]);
     assert_eq!(rt; ENROLLED.len(), TOLD[0]);
     assert_eq!(rt; answers(alloc)?.len(), TOLD[1]);
-    check(&rt, alloc, &[Case(&[ASK, LOOK, CUT_ASK], &[ENROLLED, WAITING], End::Cut)])
+    check(
+        &rt,
+        alloc,
+        &[Case(&[ASK, LOOK, CUT_ASK], &[ENROLLED, WAITING], End::Cut)],
+    )
 }
 
 #[test]
 fn cut_after_each_byte(rt: HostRuntime) -> Result<(), Fail> {
     let alloc = rt.alloc();
+    let requests = requests(alloc)?;
     let mut connections = Vec::new(alloc);
-    for cut in 0..ENDS[2] + 1 {
-        let mut bytes = requests(alloc)?;
-        bytes.truncate(cut);
-        connections.push(sent(alloc, &bytes, 1_000)?)?;
+    for cut in 0..requests.len() + 1 {
+        connections.push(sent(alloc, &requests[..cut], 1_000)?)?;
     }
-    let answers = served(&rt, alloc, keeper(alloc, DESK, 0)?, connections).ok_or("not served")?;
-    assert_eq!(rt; answers.len(), ENDS[2] + 1);
-    for (cut, told) in answers.iter().enumerate() {
-        check_told(&rt, alloc, told, told_after(cut), end_after(cut))?;
+    let talks = served_on_a_bench(&rt, alloc, connections)?;
+    assert_eq!(rt; talks.len(), requests.len() + 1);
+    let answers = answers(alloc)?;
+    for (cut, told) in talks.iter().enumerate() {
+        check_told(&rt, told, &answers, told_after(cut), end_after(cut))?;
     }
     Ok(())
 }
@@ -82,18 +97,19 @@ fn cut_after_each_byte(rt: HostRuntime) -> Result<(), Fail> {
 #[test]
 fn each_read_of_a_byte_fails(rt: HostRuntime) -> Result<(), Fail> {
     let alloc = rt.alloc();
-    let bytes = requests(alloc)?;
+    let requests = requests(alloc)?;
     let mut connections = Vec::new(alloc);
-    for number in 1..ENDS[2] + 2 {
+    for came in 0..requests.len() as u64 + 1 {
         connections.push(Sent {
-            failing_reads: vec![in alloc; number as u64]?,
-            ..sent(alloc, &bytes, 1)?
+            failing_reads: vec![in alloc; came + 1]?,
+            ..sent(alloc, &requests, 1)?
         })?;
     }
-    let answers = served(&rt, alloc, keeper(alloc, DESK, 0)?, connections).ok_or("not served")?;
-    assert_eq!(rt; answers.len(), ENDS[2] + 1);
-    for (came, told) in answers.iter().enumerate() {
-        check_told(&rt, alloc, told, told_after(came), End::ReadFault)?;
+    let talks = served_on_a_bench(&rt, alloc, connections)?;
+    assert_eq!(rt; talks.len(), requests.len() + 1);
+    let answers = answers(alloc)?;
+    for (came, told) in talks.iter().enumerate() {
+        check_told(&rt, told, &answers, told_after(came), End::ReadFault)?;
     }
     Ok(())
 }
@@ -101,19 +117,24 @@ fn each_read_of_a_byte_fails(rt: HostRuntime) -> Result<(), Fail> {
 #[test]
 fn each_write_of_a_byte_fails(rt: HostRuntime) -> Result<(), Fail> {
     let alloc = rt.alloc();
-    let bytes = requests(alloc)?;
+    let requests = requests(alloc)?;
+    let answers = answers(alloc)?;
     let mut connections = Vec::new(alloc);
-    for number in 1..TOLD[1] + 2 {
+    for written in 0..answers.len() as u64 + 1 {
         connections.push(Sent {
-            failing_writes: vec![in alloc; number as u64]?,
-            ..sent(alloc, &bytes, 1)?
+            failing_writes: vec![in alloc; written + 1]?,
+            ..sent(alloc, &requests, 1)?
         })?;
     }
-    let answers = served(&rt, alloc, keeper(alloc, DESK, 0)?, connections).ok_or("not served")?;
-    assert_eq!(rt; answers.len(), TOLD[1] + 1);
-    for (written, told) in answers.iter().enumerate() {
-        let end = if written < TOLD[1] { End::WriteFault } else { End::Cut };
-        check_told(&rt, alloc, told, written, end)?;
+    let talks = served_on_a_bench(&rt, alloc, connections)?;
+    assert_eq!(rt; talks.len(), answers.len() + 1);
+    for (written, told) in talks.iter().enumerate() {
+        let end = if written < answers.len() {
+            End::WriteFault
+        } else {
+            End::Cut
+        };
+        check_told(&rt, told, &answers, written, end)?;
     }
     Ok(())
 }

@@ -10,39 +10,64 @@ use super::*;
 const CLOSING: &[Case<'static>] = &[
     Case(&["("], &[BAD_HEAD], End::Closed),
     Case(&["GET / HTTP/2.0\r\n\r\n"], &[BAD_HEAD], End::Closed),
-    Case(&["POST /students/11/asks/1 HTTP/1.1\r\n\r\n", ASK], &[NO_LENGTH], End::Closed),
     Case(
-        &["POST /students/11/asks/1 HTTP/1.1\r\nContent-Length: 65537\r\n\r\n", LOOK],
+        &["POST /students/11/asks/1 HTTP/1.1\r\n\r\n", ASK],
+        &[NO_LENGTH],
+        End::Closed,
+    ),
+    Case(
+        &[
+            "POST /students/11/asks/1 HTTP/1.1\r\nContent-Length: 65537\r\n\r\n",
+            LOOK,
+        ],
         &[TOO_LONG],
         End::Closed,
     ),
     Case(
-        &["POST /students/11/asks/1 HTTP/1.1\r\nTransfer-Encoding: chunked\r\n\r\n5\r\nhello\r\n0\r\n\r\n", LOOK],
+        &[
+            "POST /students/11/asks/1 HTTP/1.1\r\nTransfer-Encoding: chunked\r\n\r\n5\r\nhello\r\n0\r\n\r\n",
+            LOOK,
+        ],
         &[CODING],
         End::Closed,
     ),
     Case(
-        &["GET /waiting HTTP/1.1\r\nContent-Length: x\r\ntransfer-encoding: gzip\r\n\r\n", LOOK],
+        &[
+            "GET /waiting HTTP/1.1\r\nContent-Length: x\r\ntransfer-encoding: gzip\r\n\r\n",
+            LOOK,
+        ],
         &[CODING],
         End::Closed,
     ),
     Case(
-        &["HEAD /waiting HTTP/1.1\r\nTransfer-Encoding: chunked\r\n\r\n", LOOK],
+        &[
+            "HEAD /waiting HTTP/1.1\r\nTransfer-Encoding: chunked\r\n\r\n",
+            LOOK,
+        ],
         &[CODING_HEADLESS],
         End::Closed,
     ),
     Case(
-        &["POST /students/11/asks/1 HTTP/1.1\r\nContent-Length: 14\r\nContent-Length: 15\r\n\r\n", LOOK],
+        &[
+            "POST /students/11/asks/1 HTTP/1.1\r\nContent-Length: 14\r\nContent-Length: 15\r\n\r\n",
+            LOOK,
+        ],
         &[BAD_HEAD],
         End::Closed,
     ),
     Case(
-        &["POST /students/11/asks/1 HTTP/1.1\r\nContent-Length: 00000000014\r\n\r\n", LOOK],
+        &[
+            "POST /students/11/asks/1 HTTP/1.1\r\nContent-Length: 00000000014\r\n\r\n",
+            LOOK,
+        ],
         &[BAD_HEAD],
         End::Closed,
     ),
     Case(
-        &["POST /students/11/asks/1 HTTP/1.1\r\nContent-Length: +14\r\n\r\n", LOOK],
+        &[
+            "POST /students/11/asks/1 HTTP/1.1\r\nContent-Length: +14\r\n\r\n",
+            LOOK,
+        ],
         &[BAD_HEAD],
         End::Closed,
     ),
@@ -50,20 +75,36 @@ const CLOSING: &[Case<'static>] = &[
 
 /// Behind each of these the connection goes on.
 const OPEN: &[Case<'static>] = &[
-    Case(&["GET /none HTTP/1.1\r\n\r\n", LOOK], &[NO_ROUTE, WAITING], End::Closed),
-    Case(&["HEAD /none HTTP/1.1\r\n\r\n", LOOK], &[NO_ROUTE_HEADLESS, WAITING], End::Closed),
+    Case(
+        &["GET /none HTTP/1.1\r\n\r\n", LOOK],
+        &[NO_ROUTE, WAITING],
+        End::Closed,
+    ),
+    Case(
+        &["HEAD /none HTTP/1.1\r\n\r\n", LOOK],
+        &[NO_ROUTE_HEADLESS, WAITING],
+        End::Closed,
+    ),
     Case(
         &["GET http://localhost/waiting HTTP/1.1\r\n\r\n", LOOK],
         &[NO_ROUTE, WAITING],
         End::Closed,
     ),
-    Case(&["GET /students/11/asks/1 HTTP/1.1\r\n\r\n", LOOK], &[BY_POST, WAITING], End::Closed),
+    Case(
+        &["GET /students/11/asks/1 HTTP/1.1\r\n\r\n", LOOK],
+        &[BY_POST, WAITING],
+        End::Closed,
+    ),
     Case(
         &["POST /waiting HTTP/1.1\r\nContent-Length: 0\r\n\r\n", LOOK],
         &[BY_GET, WAITING],
         End::Closed,
     ),
-    Case(&["HEAD /waiting HTTP/1.1\r\n\r\n", LOOK], &[BY_GET_HEADLESS, WAITING], End::Closed),
+    Case(
+        &["HEAD /waiting HTTP/1.1\r\n\r\n", LOOK],
+        &[BY_GET_HEADLESS, WAITING],
+        End::Closed,
+    ),
     Case(&[FLY, LOOK], &[BAD_BODY, WAITING], End::Closed),
     Case(
         &[
@@ -94,7 +135,8 @@ const TAKEN: &str =
 2025-09-01 s12 1 enrol 12 1 = blocked 4 [[[[16:7]]]]";
 
 /// The number of the request that was refused, with another command.
-const DROP: &str = "POST /students/12/asks/1 HTTP/1.1\r\nContent-Length: 39\r\n\r\n{\"verb\":\"drop\",\"student\":12,\"course\":1}";
+const DROP: &str =
+    "POST /students/12/asks/1 HTTP/1.1\r\nContent-Length: 39\r\n\r\n{\"verb\":\"drop\",\"student\":12,\"course\":1}";
 
 #[test]
 fn a_number_reused(rt: HostRuntime) -> Result<(), Fail> {
