@@ -10,7 +10,7 @@ use sect_app::{Needs, Status, WordFault, Words, desk, needs, number_of, print_st
 use sect_clap::read_again;
 use sect_edge::{KeepFault, MemKeeper, OpenGate};
 use sect_journal::{Journal, JournalFault};
-use sect_net::TcpLink;
+use sect_net::{TcpLink, links};
 use sect_real::{
     AnyKeeper, FileDisk, RealClock, SqliteKeeper, StdSink, StdSource, ToldKeeper, ToldSource,
 };
@@ -79,7 +79,8 @@ fn start<R: AllocGlobal + Threads + Wait + Sync>(
     match port {
         Some(port) => {
             let listener = listen(rt, port)?;
-            let links = links_of(rt, &listener, workers).ok_or(End::Told(Status::Memory))?;
+            let links =
+                links(rt, &listener, workers).map_err(|_| End::Told(Status::Memory))?;
             let keeper = keeper_of(rt, db, journal)?;
             Ok(run(rt, threads, &words, keeper, links, workers))
         }
@@ -149,21 +150,6 @@ fn open_journal(rt: HostRuntime, path: &str) -> Result<AnyKeeper, End> {
 // A listener at the port of this machine alone.
 fn listen(rt: HostRuntime, port: u16) -> Result<TcpListener, End> {
     TcpListener::bind(&rt, (Ipv4Addr::LOCALHOST, port)).map_err(|_| End::Told(Status::LinkFault))
-}
-
-// As many links to the listener. None where memory is wanted.
-fn links_of<'a>(
-    rt: HostRuntime,
-    listener: &'a TcpListener,
-    count: u32,
-) -> Option<Vec<TcpLink<'a>>>
-    ensures { IfSome result (λ links. length links.items ≡ count) }
-{
-    let mut links = Vec::new(rt.alloc());
-    for _made in 0..count {
-        links.push(TcpLink::new(rt, listener)).ok()?;
-    }
-    Some(links)
 }
 
 // As many clocks. None where memory is wanted.

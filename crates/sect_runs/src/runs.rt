@@ -6,18 +6,18 @@ use crate::case::{Case, RUN};
 use crate::script::script_of;
 use sect_app::{Status, desk};
 use sect_base::Memory;
-use sect_edge::{MemClock, MemKeeper, MemLink, MemSink, MemSource, OpenGate};
+use sect_edge::{Keeper, MemClock, MemKeeper, MemLink, MemSink, MemSource, OpenGate};
 use sect_time::Day;
 use std::alloc::{AllocGlobal, Global};
 use std::sync::Wait;
 use std::thread::Threads;
 
-/// What a run left.
+/// What a run over a keeper left.
 #[derive(Drop)]
-pub struct Ended {
+pub struct Ended<K = MemKeeper> {
     pub status: Status,
     pub sink: MemSink,
-    pub keeper: Option<MemKeeper>,
+    pub keeper: Option<K>,
 }
 
 fn number_alone(alloc: Global, number: u64) -> Result<Vec<u64>, Memory> {
@@ -66,12 +66,12 @@ fn links(alloc: Global) -> Result<Vec<MemLink>, Memory>
 }
 
 /// Runs the desk by the case's words over these bytes and this keeper, with a sink that takes a byte at a time.
-pub fn run_over<R: AllocGlobal + Threads + Wait + Sync>(
+pub fn run_over<R: AllocGlobal + Threads + Wait + Sync, K: Keeper + Send + Drop>(
     rt: &R,
     case: &Case<'_>,
     input: Vec<u8>,
-    keeper: MemKeeper,
-) -> Result<Ended, Memory> {
+    keeper: K,
+) -> Result<Ended<K>, Memory> {
     let alloc = rt.alloc();
     let words = words_of(alloc, case.words)?;
     let mut source = MemSource::new(
