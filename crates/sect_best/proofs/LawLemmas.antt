@@ -5,7 +5,8 @@ use Rattle.std.specs.Option.{is_some}
 use Rattle.std.proofs.Common.{sym, ◌∙◌, ap, subst, arith, append_assoc, append-nil}
 use Rattle.sect_base.specs.Tree.{Tree}
 use Rattle.sect_people.specs.Student.{find_student}
-use Rattle.sect_model.specs.Data.{StudentId, Want, Choice, Outcome}
+use Rattle.sect_model.specs.Data.{StudentId, Want, Choice}
+use Rattle.sect_model.specs.declared.pick.Outcome.{Outcome}
 use Rattle.sect_model.specs.declared.pick.Outcome.TheVariants.{Found, Blocked, Spent as over_budget}
 use Rattle.sect_model.specs.World.{World, enrol, leave_all}
 use Rattle.sect_model.specs.Kept.{KeptWorld}
@@ -81,7 +82,7 @@ allowed-length : (w : World) (student : StudentId) (wants : List Want) (choices 
 allowed-length w student [] [] h = refl
 allowed-length w student [] (c ∷ cs) h = absurd (not_both false h refl)
 allowed-length w student (x ∷ xs) [] h = absurd (not_both false h refl)
-allowed-length w student (x ∷ xs) (c ∷ cs) h = ap (λ n. n + 1) (allowed-length (enrol w student c) student xs cs (both-right (is_allowed w student x c) _ h))
+allowed-length w student (x ∷ xs) (c ∷ cs) h = ap suc (allowed-length (enrol w student c) student xs cs (both-right (is_allowed w student x c) _ h))
 
 -- ---- what is unmet is refuted
 
@@ -124,7 +125,7 @@ module _ (w : World) (student : StudentId) (budget : ℕ) (k : KeptWorld w) (kno
       let mv = plan_move w student (tried_with p want) in
       let front = front-allowed (leave_all w student mv.give) student (tried_with p want) (picked vector wants) choices all in
       absurd (not_both (is_allowed_move w mv front.0) front.1 ((refuted-try (tried_with p want) (fit-more w p.kept want kept fits) (Blocked tree visits) e).1 front.0))
-  with-it want wants vector fits later p kept choices allowed (over_budget spent) e never = absurd (not_both false (both-left false _ never) refl)
+  with-it want wants vector fits later p kept choices allowed (over_budget spent) e never = absurd (not_both false never refl)
 
   -- the request is not in the vector
   without-it : (want : Want) (wants : List Want) (vector : List Bool) → ((q : Planned) → NoneGreater wants vector q) → (p : Planned) → list_all (want_fits w) p.kept ≡ true
@@ -135,7 +136,7 @@ module _ (w : World) (student : StudentId) (budget : ℕ) (k : KeptWorld w) (kno
   without-it want wants vector later p kept choices allowed (Found found visits) never = refl
   without-it want wants vector later p kept choices allowed (Blocked tree visits) never =
       later (planned_by p (tried_with p want) want.rank (Blocked tree visits)) kept never choices allowed
-  without-it want wants vector later p kept choices allowed (over_budget spent) never = absurd (not_both false (both-left false _ never) refl)
+  without-it want wants vector later p kept choices allowed (over_budget spent) never = absurd (not_both false never refl)
 
   none-greater : (wants : List Want) → list_all (want_fits w) wants ≡ true → (vector : List Bool) (p : Planned) → NoneGreater wants vector p
   none-greater [] fit [] p kept never choices allowed = refl

@@ -10,7 +10,7 @@ use Rattle.sect_model.specs.Refuted.{Refuted}
 use Rattle.sect_model.specs.Visits.{full_of}
 use Rattle.sect_model.specs.Batch.{asks_of}
 use Rattle.sect_model.specs.Outcome.{outcome_of}
-use Rattle.sect_model.specs.Data.{Outcome}
+use Rattle.sect_model.specs.declared.pick.Outcome.{Outcome}
 use Rattle.sect_model.specs.declared.pick.Outcome.TheVariants.{Found, Blocked, Spent}
 use Rattle.sect_best.specs.Plan.{course_asks, plan_move, plan_ask, planned, plan_lines, tried_with, nothing_planned}
 use Rattle.sect_best.specs.Vector.{picked, is_greater, kept_vector, never_spent}
