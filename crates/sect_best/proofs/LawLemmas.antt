@@ -1,9 +1,8 @@
 -- The laws of the best whole schedule.
-use Rattle.std.specs.Prelude.{◌≡◌, ℕ, suc, ◌+◌, ◌≤◌, Bool, true, false, not, ◌&&◌, List, [], ◌∷◌, ◌++◌, length, map, Some, refl, count_by, cond}
+use Rattle.std.specs.Prelude.{◌≡◌, ℕ, suc, ◌+◌, ◌≤◌, Bool, true, false, not, List, [], ◌∷◌, ◌++◌, length, map, refl, cond}
 use Rattle.std.specs.List.{list_all}
 use Rattle.std.specs.Option.{is_some}
 use Rattle.std.proofs.Common.{sym, ◌∙◌, ap, subst, arith, append_assoc, append-nil}
-use Rattle.sect_base.specs.Tree.{Tree}
 use Rattle.sect_people.specs.Student.{find_student}
 use Rattle.sect_model.specs.Data.{StudentId, Want, Choice}
 use Rattle.sect_model.specs.declared.pick.Outcome.{Outcome}
@@ -17,7 +16,7 @@ use Rattle.sect_model.specs.Batch.{asks_of}
 use Rattle.sect_model.specs.Outcome.{outcome_of}
 use Rattle.sect_model.specs.Settle.{found_in}
 use Rattle.sect_model.specs.Visits.{full_of}
-use Rattle.sect_model.proofs.Members.{both, both-left, both-right, not_both, if_false}
+use Rattle.sect_model.proofs.Members.{both, both-left, both-right, not_both}
 use Rattle.sect_model.proofs.KeptMoves.{found-allowed}
 use Rattle.sect_model.proofs.OutcomeLemmas.{full-not-spent}
 use Rattle.sect_model.proofs.RefutedLemmas.{blocked-refutes}

@@ -1,5 +1,5 @@
 -- The trees of a plan have a text.
-use Rattle.std.specs.Prelude.{◌≡◌, ℕ, zero, suc, ◌≤◌, List, [], ◌∷◌, ◌++◌, Result, Ok, Err, IfOk}
+use Rattle.std.specs.Prelude.{◌≡◌, ℕ, zero, suc, ◌≤◌, List, [], ◌∷◌, Result, Ok, Err, IfOk}
 use Rattle.std.proofs.Common.{sym, subst, arith}
 use Rattle.sect_base.specs.Tree.{Tree, Trees, broken, split, none, more}
 use Rattle.sect_command.specs.TreeText.{HasText, HaveTexts}
