@@ -56,7 +56,3 @@ MayDo may_ask (OtherMethod method) = ⊤
 MayDo may_ask NoCommand = ⊤
 MayDo may_ask (Asks id command) = (day : ℕ) → FitsDay day → may_ask id day command
 MayDo may_ask (Looks query) = ⊤
-
--- each request whose id, day and command have texts may be asked
-abbrev pub TakesTexts : (Id → ℕ → Command → Type 0) → Type 0
-TakesTexts may_ask = (id : Id) (day : ℕ) (command : Command) → FitsId id → FitsDay day → FitsCommand command → may_ask id day command

@@ -13,7 +13,6 @@ use Rattle.sect_once.specs.declared.entry.Note.{Note}
 use Rattle.sect_once.specs.Desks.{HasOther, Standing, Answers as AnswersAsk}
 use Rattle.sect_once.specs.History.{IsFull}
 use Rattle.sect_read.specs.declared.line.LineAsk.{LineAsk}
-use Rattle.sect_wire.specs.Fits.{FitsCommand, FitsDay, FitsId}
 use Rattle.sect_wire.specs.Lines.{IsLine}
 use Rattle.sect_asking.specs.AnswerLines.{answer_line}
 
@@ -35,10 +34,6 @@ IsAsking false line = (ask : LineAsk) × IsLine line ask
 -- the line is passed over, or is a request
 abbrev pub IsKnown : List ℕ → Type 0
 IsKnown line = IsAsking (is_passed_over line) line
-
--- each request whose id, day and command have texts may be asked
-abbrev pub TakesTexts : (Id → ℕ → Command → Type 0) → Type 0
-TakesTexts may_ask = (id : Id) (day : ℕ) (command : Command) → FitsId id → FitsDay day → FitsCommand command → may_ask id day command
 
 -- a request that finds room and meets no fault is Done, or told the place of an entry with its id and another command, or where
 -- there is no such entry told that memory was wanted

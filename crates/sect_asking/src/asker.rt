@@ -2,7 +2,7 @@
 ghost use Rattle.std.specs.Prelude.{◌≡◌, ℕ, List, [], false, IfOk, OnOk, IsErrOf};
 ghost use Rattle.sect_script.specs.declared.script.LineFault.TheVariants as faults;
 ghost use Rattle.sect_once.specs.Desks.{Answers as AnswersAsk, IsSound};
-ghost use Rattle.sect_asking.specs.Asks.{is_passed_over, AnswersScript, IsAskedOn, IsKnown, TakesTexts};
+ghost use Rattle.sect_asking.specs.Asks.{is_passed_over, AnswersScript, IsAskedOn, IsKnown};
 ghost use Rattle.sect_script.specs.Run.{MayAnswer};
 ghost use Rattle.sect_wire.specs.Fits.{FitsCommand, FitsDay, FitsId};
 ghost use Rattle.sect_wire.specs.Lines.{IsLine};
@@ -11,23 +11,13 @@ use crate::answer::print_answer;
 use sect_base::Memory;
 use sect_command::{Command, Reply};
 use sect_edge::{Clock, Keeper};
-use sect_machine::Machine;
+use sect_object::TextObject;
 use sect_once::{Answer, Desk, Object};
 use sect_script::{Handler, LineFault};
 use sect_time::Day;
 use sect_wire::{LineAsk, WireFault, read_line};
 use std::alloc::Global;
 use std::marker::Model;
-
-/// An object that lines ask: each request whose id, day and command have texts may be asked of it.
-pub trait LineObject: Object<Command = Command, Reply = Reply> {
-    /// A request that was read may be asked.
-    ghost takes_texts: { TakesTexts Self.may_ask };
-}
-
-impl LineObject for Machine {
-    ghost takes_texts = { λ id day command named dated told. (named, dated, told) };
-}
 
 /// A desk whose requests come in lines, and the clock that gives the day of those that name none.
 #[derive(Drop)]
@@ -70,7 +60,7 @@ impl<O: Object, K: Keeper, C: Clock> Asker<O, K, C> {
     }
 }
 
-impl<O: LineObject, K: Keeper, C: Clock> Asker<O, K, C> {
+impl<O: TextObject, K: Keeper, C: Clock> Asker<O, K, C> {
     /// Asks a request with a text on its day, or where it names none on the clock's.
     pub fn ask(&mut self, ask: LineAsk) -> Answer<Reply>
         requires { FitsId ask.id × FitsCommand ask.command }
@@ -100,7 +90,7 @@ impl<O: LineObject, K: Keeper, C: Clock> Asker<O, K, C> {
     }
 }
 
-impl<O: LineObject, K: Keeper, C: Clock> Handler for Asker<O, K, C> {
+impl<O: TextObject, K: Keeper, C: Clock> Handler for Asker<O, K, C> {
     ghost known = { IsKnown };
 
     ghost answers = { AnswersScript O.stepped O.is_row K.rows K.faults };

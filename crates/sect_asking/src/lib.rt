@@ -6,5 +6,5 @@ mod asker;
 mod runs;
 
 pub use answer::print_answer;
-pub use asker::{Asker, LineObject};
+pub use asker::Asker;
 pub use runs::{run, shut_status};

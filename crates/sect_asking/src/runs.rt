@@ -9,14 +9,15 @@ ghost use Rattle.sect_script.specs.declared.status.Status.{Status};
 ghost use Rattle.sect_asking.specs.Desk.{Runs, RunsLines, shut_status};
 ghost use Rattle.sect_script.specs.Statuses.{status_of};
 
-use crate::asker::{Asker, LineObject};
+use crate::asker::Asker;
 use sect_edge::{Clock, Keeper, Sink, Source};
+use sect_object::TextObject;
 use sect_once::{Desk, OpenFault};
 use sect_script::{RunEnd, Status, run_lines, status_of};
 use std::alloc::Global;
 
 /// Answers the lines of the source into the sink, over the history of the keeper's rows. The keeper comes back.
-pub fn run<O: LineObject, S: Source, T: Sink, K: Keeper, C: Clock>(
+pub fn run<O: TextObject, S: Source, T: Sink, K: Keeper, C: Clock>(
     alloc: Global,
     source: &mut S,
     sink: &mut T,
@@ -43,7 +44,7 @@ where
 }
 
 // Answers the lines of the source over the desk to which a keeper opened.
-fn ask_lines<O: LineObject, S: Source, T: Sink, K: Keeper, C: Clock>(
+fn ask_lines<O: TextObject, S: Source, T: Sink, K: Keeper, C: Clock>(
     alloc: Global,
     source: &mut S,
     sink: &mut T,

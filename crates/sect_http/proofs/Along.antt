@@ -20,9 +20,9 @@ use Rattle.sect_talk.specs.Asked.{Asked, Bytes, Head, Whole, Exchange}
 use Rattle.sect_talk.specs.Talk.{Exchanges, Talked, passes}
 use Rattle.sect_talk.specs.declared.end.End.{End}
 use Rattle.sect_talk.specs.declared.end.End.TheVariants.{Closed, Cut, ReadFault, WriteFault}
+use Rattle.sect_talk.proofs.Taken.{takes_none}
 use Rattle.sect_talk.proofs.Talks.{Exchanges-along, exchanges_are_few, talk_begins, talk_broken, talk_closed}
 use Rattle.sect_http.specs.Answers.{Answers, IsRefusedAtOnce}
-use Rattle.sect_http.proofs.Heads.{takes_none}
 
 -- the front has grown, and new calls stand in it
 abbrev pub Leads : Sitting → Sitting → Type 0

@@ -1,8 +1,7 @@
 -- A request in the bytes that stand ready.
 use Rattle.std.proofs.Common.{◌≡◌, ◌≢◌, ◌⊎◌, ℕ, nat_lt, ◌+◌, ◌<◌, ◌≤◌, Bool, true, false, List, [], ◌++◌, Option, None, Some, Ok, Err, Result, refl, sym, ap, ◌∙◌, subst, inl, inr, arith, length, drop, take, append-nil, append_assoc, length-append, length-drop, codes}
 use Rattle.std.specs.Str.{bytes_eq}
-use Rattle.std.specs.Io.KnownBytes.{Consumes, IsAtEnd}
-use Rattle.std.proofs.KnownBytes.{Consumes-nil, Consumes-trans}
+use Rattle.std.specs.Io.KnownBytes.{IsAtEnd}
 use Rattle.std.proofs.lemmas.List.{length-take-le, take-append-drop}
 use Rattle.httparse.specs.Grammar.{RequestHead, ReadsRequest, print_request}
 use Rattle.httparse.specs.Spans.{IsRequestAt, IsRequestWithin, span_bytes}
@@ -17,25 +16,13 @@ use Rattle.sect_head.specs.declared.told.Framing.TheVariants.{HasBody, Refuses}
 use Rattle.sect_head.specs.declared.told.Refusal.{Refusal}
 use Rattle.sect_head.specs.declared.told.Refusal.TheVariants as refusals
 use Rattle.sect_talk.specs.Asked.{Asked, Bytes, Head, Whole, FitsHead, HEAD_LIMIT, is_head_method}
-use Rattle.sect_talk.specs.Coming.{IsCrowdedHead, Takes}
+use Rattle.sect_talk.specs.Coming.{IsCrowdedHead}
 use Rattle.sect_talk.specs.Rest.{IsBlank, IsCut, IsNoHead, IsOpenBody, IsOpenHead}
 use Rattle.sect_talk.proofs.Fronts.{head_stays}
 use Rattle.sect_http.specs.Hearing.{BeginsWith, IsHeard, IsMarked, IsReadAt, Wishes}
 use Rattle.sect_http.specs.declared.heard.Heard.{Heard}
 use Rattle.sect_http.specs.declared.heard.Wish.{Wish}
 use Rattle.sect_http.specs.declared.heard.Wish.TheVariants.{Refused, Wanting, Asks}
-
--- ---- bytes that were taken
-
-pub takes_none : (left : Option (List ℕ)) (bytes : List ℕ) → Takes left left bytes bytes
-takes_none left bytes = ([], Consumes-nil left, sym (append-nil bytes))
-
-pub takes_then : (a b c : Option (List ℕ)) (old mid new : List ℕ) → Takes a b old mid → Takes b c mid new → Takes a c old new
-takes_then a b c old mid new (first, took, is) (second, took', is') = (
-  first ++ second,
-  Consumes-trans a b c first second took took',
-  is' ∙ (ap (λ l. l ++ second) is ∙ append_assoc old first second),
-)
 
 -- ---- no head
 

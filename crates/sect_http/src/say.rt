@@ -2,7 +2,7 @@
 
 ghost use Rattle.std.specs.Prelude.{[], Ok, true, ◌≡◌, ◌≤◌, vec_capacity};
 ghost use Rattle.sect_answer.specs.Answering.{said_of, sitting};
-ghost use Rattle.sect_answer.specs.Errands.{TakesTexts};
+ghost use Rattle.sect_object.specs.Objects.{TakesTexts};
 ghost use Rattle.sect_http.specs.Answers.{Answers, refused};
 ghost use Rattle.sect_http.specs.Hearing.{IsFramed, Wishes};
 ghost use Rattle.sect_http.specs.Telling.{ANSWER_ROOM};

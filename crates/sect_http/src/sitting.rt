@@ -3,7 +3,7 @@
 ghost use Rattle.std.specs.Prelude.{◌≡◌, ◌≢◌, ◌≤◌, ◌+◌, ◌^◌, ℕ, List, Option};
 ghost use mathlib.Core.List.{IsPrefix};
 ghost use Rattle.sect_answer.specs.Answering.{Sitting, sitting};
-ghost use Rattle.sect_answer.specs.Errands.{TakesTexts};
+ghost use Rattle.sect_object.specs.Objects.{TakesTexts};
 ghost use Rattle.sect_edge.specs.Causes.{Rose};
 ghost use Rattle.sect_http.specs.Answers.{Answers, IsRefusedAtOnce};
 ghost use Rattle.sect_office.specs.Calls.{AddsCalls};

@@ -9,18 +9,19 @@ ghost use Rattle.sect_wire.specs.Fits.{FitsCommand};
 ghost use Rattle.sect_intake.specs.Asking.{AnswersNumbered, AsksEach, AsksOne};
 ghost use Rattle.sect_intake.specs.Numbers.{id_of, number_at};
 
-use sect_asking::{Asker, LineObject, print_answer};
+use sect_asking::{Asker, print_answer};
 use sect_base::{Caller, Id};
 use sect_command::{Command, Reply};
 use sect_csv::Given;
 use sect_edge::{Clock, Failed, Keeper, Sink};
+use sect_object::TextObject;
 use sect_once::Answer;
 use sect_script::{RunEnd, write_all};
 use sect_wire::LineAsk;
 
 /// Asks commands by the numbers from the next one on, and writes the lines of their answers. The end is there where one
 /// has no number, the sink fails or memory is wanted.
-pub(crate) fn ask_each<O: LineObject, K: Keeper, C: Clock, T: Sink>(
+pub(crate) fn ask_each<O: TextObject, K: Keeper, C: Clock, T: Sink>(
     asker: &mut Asker<O, K, C>,
     sink: &mut T,
     given: Vec<Given>,
@@ -50,7 +51,7 @@ pub(crate) fn ask_each<O: LineObject, K: Keeper, C: Clock, T: Sink>(
 }
 
 // Asks a command by its number, and writes the line of its answer.
-fn ask_one<O: LineObject, K: Keeper, C: Clock, T: Sink>(
+fn ask_one<O: TextObject, K: Keeper, C: Clock, T: Sink>(
     asker: &mut Asker<O, K, C>,
     sink: &mut T,
     answer: &mut Vec<u8>,
@@ -76,7 +77,7 @@ fn ask_one<O: LineObject, K: Keeper, C: Clock, T: Sink>(
 }
 
 // Asks a command by its number.
-fn ask_numbered<O: LineObject, K: Keeper, C: Clock>(
+fn ask_numbered<O: TextObject, K: Keeper, C: Clock>(
     asker: &mut Asker<O, K, C>,
     command: Command,
     number: u64,

@@ -10,16 +10,17 @@ ghost use Rattle.sect_script.specs.Statuses.{status_of};
 ghost use Rattle.sect_intake.specs.Opened.{RunsTable, TakesTable};
 
 use crate::table::run_table;
-use sect_asking::{Asker, LineObject, shut_status};
+use sect_asking::{Asker, shut_status};
 use sect_command::Table;
 use sect_edge::{Clock, Keeper, Sink, Source};
+use sect_object::TextObject;
 use sect_once::Desk;
 use sect_script::{Status, status_of};
 use sect_time::Day;
 use std::alloc::Global;
 
 /// Asks the commands of a table over the history of the keeper's rows. The keeper comes back.
-pub(crate) fn import_over<O: LineObject, S: Source, T: Sink, K: Keeper, C: Clock>(
+pub(crate) fn import_over<O: TextObject, S: Source, T: Sink, K: Keeper, C: Clock>(
     alloc: Global,
     table: Table,
     term: Option<Day>,
@@ -49,7 +50,7 @@ where
 }
 
 // Asks the commands of a table of the desk to which a keeper opened.
-fn ask_table<O: LineObject, S: Source, T: Sink, K: Keeper, C: Clock>(
+fn ask_table<O: TextObject, S: Source, T: Sink, K: Keeper, C: Clock>(
     alloc: Global,
     table: Table,
     term: Option<Day>,

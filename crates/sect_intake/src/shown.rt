@@ -11,16 +11,17 @@ ghost use Rattle.sect_intake.specs.Asking.{AnswersNumbered};
 ghost use Rattle.sect_intake.specs.Underway.{AsksShown, Shows, TakesEnd, TakesPiece, TellsFault, Through, going, open_without};
 
 use crate::asking::ask_each;
-use sect_asking::{Asker, LineObject};
+use sect_asking::Asker;
 use sect_base::Memory;
 use sect_csv::{CsvFault, Given, Import};
 use sect_edge::{Clock, Keeper, Sink};
 use sect_fit::each_command_of_a_table_has_a_text;
+use sect_object::TextObject;
 use sect_script::RunEnd;
 use std::alloc::Global;
 
 /// Feeds a piece to an import, and asks the commands that it shows. The end is there where the run ends.
-pub(crate) fn take_piece<O: LineObject, K: Keeper, C: Clock, T: Sink>(
+pub(crate) fn take_piece<O: TextObject, K: Keeper, C: Clock, T: Sink>(
     alloc: Global,
     import: &mut Import,
     piece: &[u8],
@@ -46,7 +47,7 @@ pub(crate) fn take_piece<O: LineObject, K: Keeper, C: Clock, T: Sink>(
 }
 
 /// Tells an import that its table is at the end, and asks the commands that are left.
-pub(crate) fn take_end<O: LineObject, K: Keeper, C: Clock, T: Sink>(
+pub(crate) fn take_end<O: TextObject, K: Keeper, C: Clock, T: Sink>(
     alloc: Global,
     import: &mut Import,
     asker: &mut Asker<O, K, C>,
@@ -74,7 +75,7 @@ pub(crate) fn take_end<O: LineObject, K: Keeper, C: Clock, T: Sink>(
 }
 
 // Asks the commands that the bytes of a table show behind those that were asked, before a bad row ends the run.
-fn ask_shown<O: LineObject, K: Keeper, C: Clock, T: Sink>(
+fn ask_shown<O: TextObject, K: Keeper, C: Clock, T: Sink>(
     asker: &mut Asker<O, K, C>,
     sink: &mut T,
     next: &mut Option<u64>,

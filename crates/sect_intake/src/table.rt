@@ -12,10 +12,11 @@ ghost use Rattle.sect_intake.specs.Table.{RanTable, TABLE_LIMIT};
 ghost use Rattle.sect_intake.specs.Underway.{GoesOn, LooksPast, Underway};
 
 use crate::shown::{take_end, take_piece};
-use sect_asking::{Asker, LineObject};
+use sect_asking::Asker;
 use sect_command::Table;
 use sect_csv::Import;
 use sect_edge::{Clock, Failed, Keeper, Sink, Source};
+use sect_object::TextObject;
 use sect_script::RunEnd;
 use sect_time::Day;
 use std::alloc::Global;
@@ -28,7 +29,7 @@ const PIECE: usize = 65_536;
 
 /// Asks the commands of a table as registrar 0, each on the clock's day, by rising numbers from the first on, and writes the
 /// lines of their answers, up to the first row that is bad. Meetings may say their weeks by two days of the term.
-pub fn run_table<O: LineObject, K: Keeper, C: Clock, S: Source, T: Sink>(
+pub fn run_table<O: TextObject, K: Keeper, C: Clock, S: Source, T: Sink>(
     alloc: Global,
     table: Table,
     term: Option<Day>,
@@ -69,7 +70,7 @@ pub fn run_table<O: LineObject, K: Keeper, C: Clock, S: Source, T: Sink>(
 }
 
 // Reads a piece, and asks the commands that it shows. The end is there where the run ends.
-fn turn<O: LineObject, K: Keeper, C: Clock, S: Source, T: Sink>(
+fn turn<O: TextObject, K: Keeper, C: Clock, S: Source, T: Sink>(
     alloc: Global,
     import: &mut Import,
     source: &mut S,
@@ -123,7 +124,7 @@ fn read_piece<S: Source>(source: &mut S, buffer: &mut Vec<u8>, most: u64) -> Res
 }
 
 // Looks for the end behind as many bytes as a table may have.
-fn end_of_bytes<O: LineObject, K: Keeper, C: Clock, S: Source, T: Sink>(
+fn end_of_bytes<O: TextObject, K: Keeper, C: Clock, S: Source, T: Sink>(
     alloc: Global,
     import: &mut Import,
     source: &mut S,
