@@ -1,11 +1,11 @@
 -- The laws of the best whole schedule.
-use Rattle.std.specs.Prelude.{◌≡◌, ℕ, suc, ◌+◌, ◌≤◌, Bool, true, false, not, ◌&&◌, List, [], ◌∷◌, ◌++◌, length, map, Some, refl, count_by, cond}
+use Rattle.std.specs.Prelude.{◌≡◌, ℕ, suc, ◌+◌, ◌≤◌, Bool, true, false, not, List, [], ◌∷◌, ◌++◌, length, map, refl, cond}
 use Rattle.std.specs.List.{list_all}
 use Rattle.std.specs.Option.{is_some}
 use Rattle.std.proofs.Common.{sym, ◌∙◌, ap, subst, arith, append_assoc, append-nil}
-use Rattle.sect_base.specs.Tree.{Tree}
 use Rattle.sect_people.specs.Student.{find_student}
-use Rattle.sect_model.specs.Data.{StudentId, Want, Choice, Outcome}
+use Rattle.sect_model.specs.Data.{StudentId, Want, Choice}
+use Rattle.sect_model.specs.declared.pick.Outcome.{Outcome}
 use Rattle.sect_model.specs.declared.pick.Outcome.TheVariants.{Found, Blocked, Spent as over_budget}
 use Rattle.sect_model.specs.World.{World, enrol, leave_all}
 use Rattle.sect_model.specs.Kept.{KeptWorld}
@@ -16,7 +16,7 @@ use Rattle.sect_model.specs.Batch.{asks_of}
 use Rattle.sect_model.specs.Outcome.{outcome_of}
 use Rattle.sect_model.specs.Settle.{found_in}
 use Rattle.sect_model.specs.Visits.{full_of}
-use Rattle.sect_model.proofs.Members.{both, both-left, both-right, not_both, if_false}
+use Rattle.sect_model.proofs.Members.{both, both-left, both-right, not_both}
 use Rattle.sect_model.proofs.KeptMoves.{found-allowed}
 use Rattle.sect_model.proofs.OutcomeLemmas.{full-not-spent}
 use Rattle.sect_model.proofs.RefutedLemmas.{blocked-refutes}
@@ -81,7 +81,7 @@ allowed-length : (w : World) (student : StudentId) (wants : List Want) (choices 
 allowed-length w student [] [] h = refl
 allowed-length w student [] (c ∷ cs) h = absurd (not_both false h refl)
 allowed-length w student (x ∷ xs) [] h = absurd (not_both false h refl)
-allowed-length w student (x ∷ xs) (c ∷ cs) h = ap (λ n. n + 1) (allowed-length (enrol w student c) student xs cs (both-right (is_allowed w student x c) _ h))
+allowed-length w student (x ∷ xs) (c ∷ cs) h = ap suc (allowed-length (enrol w student c) student xs cs (both-right (is_allowed w student x c) _ h))
 
 -- ---- what is unmet is refuted
 
@@ -124,7 +124,7 @@ module _ (w : World) (student : StudentId) (budget : ℕ) (k : KeptWorld w) (kno
       let mv = plan_move w student (tried_with p want) in
       let front = front-allowed (leave_all w student mv.give) student (tried_with p want) (picked vector wants) choices all in
       absurd (not_both (is_allowed_move w mv front.0) front.1 ((refuted-try (tried_with p want) (fit-more w p.kept want kept fits) (Blocked tree visits) e).1 front.0))
-  with-it want wants vector fits later p kept choices allowed (over_budget spent) e never = absurd (not_both false (both-left false _ never) refl)
+  with-it want wants vector fits later p kept choices allowed (over_budget spent) e never = absurd (not_both false never refl)
 
   -- the request is not in the vector
   without-it : (want : Want) (wants : List Want) (vector : List Bool) → ((q : Planned) → NoneGreater wants vector q) → (p : Planned) → list_all (want_fits w) p.kept ≡ true
@@ -135,7 +135,7 @@ module _ (w : World) (student : StudentId) (budget : ℕ) (k : KeptWorld w) (kno
   without-it want wants vector later p kept choices allowed (Found found visits) never = refl
   without-it want wants vector later p kept choices allowed (Blocked tree visits) never =
       later (planned_by p (tried_with p want) want.rank (Blocked tree visits)) kept never choices allowed
-  without-it want wants vector later p kept choices allowed (over_budget spent) never = absurd (not_both false (both-left false _ never) refl)
+  without-it want wants vector later p kept choices allowed (over_budget spent) never = absurd (not_both false never refl)
 
   none-greater : (wants : List Want) → list_all (want_fits w) wants ≡ true → (vector : List Bool) (p : Planned) → NoneGreater wants vector p
   none-greater [] fit [] p kept never choices allowed = refl

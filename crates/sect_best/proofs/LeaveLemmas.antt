@@ -1,11 +1,12 @@
 -- Giving up all that a student holds leaves the world without the student's enrolments.
-use Rattle.std.specs.Prelude.{◌≡◌, ℕ, Bool, true, false, not, ◌&&◌, ◌||◌, ◌==◌, cond, List, [], ◌∷◌, map, filter, refl}
+use Rattle.std.specs.Prelude.{◌≡◌, Bool, true, false, not, ◌&&◌, ◌||◌, ◌==◌, cond, List, [], ◌∷◌, map, filter, refl}
 use Rattle.std.specs.List.{list_any}
-use Rattle.std.proofs.Common.{sym, ◌∙◌, ap, subst}
+use Rattle.std.proofs.Common.{◌∙◌, ap}
 use Rattle.std.proofs.lemmas.Bool.{eq-eqb}
-use Rattle.sect_model.specs.Data.{StudentId, CourseId, Enrolment}
+use Rattle.sect_model.specs.Data.{StudentId, CourseId}
+use Rattle.sect_model.specs.declared.held.Enrolment.{Enrolment}
 use Rattle.sect_model.specs.World.{World, held_by, is_in, leave, leave_all}
-use Rattle.sect_model.proofs.Members.{Member, any-of, both, both-left, filter-same, member-of_filter, member-of_map, none-of, not_both}
+use Rattle.sect_model.proofs.Members.{Member, any-of, both, filter-same, member-of_filter, member-of_map, none-of}
 use Rattle.sect_best.specs.Laws.{LeavesAll}
 
 module _ (student : StudentId) where

@@ -1,3 +1,4 @@
 pub mod PlanLemmas
+pub mod ToldLemmas
 pub mod LawLemmas
 pub mod LeaveLemmas

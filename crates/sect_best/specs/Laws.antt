@@ -1,5 +1,5 @@
 -- What follows from the definition of the best whole schedule.
-use Rattle.std.specs.Prelude.{◌≡◌, ℕ, ◌≤◌, false, Bool, List, [], ◌∷◌, length, map, filter, not, ◌==◌, IsTrue, ⊤}
+use Rattle.std.specs.Prelude.{◌≡◌, ℕ, ◌≤◌, false, Bool, List, [], ◌∷◌, map, filter, not, ◌==◌, IsTrue, ⊤}
 use Rattle.std.specs.Option.{is_some}
 use Rattle.sect_people.specs.Student.{find_student}
 use Rattle.sect_model.specs.Data.{StudentId, Want, Choice}
@@ -10,11 +10,10 @@ use Rattle.sect_model.specs.Refuted.{Refuted}
 use Rattle.sect_model.specs.Visits.{full_of}
 use Rattle.sect_model.specs.Batch.{asks_of}
 use Rattle.sect_model.specs.Outcome.{outcome_of}
-use Rattle.sect_model.specs.Data.{Outcome}
+use Rattle.sect_model.specs.declared.pick.Outcome.{Outcome}
 use Rattle.sect_model.specs.declared.pick.Outcome.TheVariants.{Found, Blocked, Spent}
 use Rattle.sect_best.specs.Plan.{course_asks, plan_move, plan_ask, planned, plan_lines, tried_with, nothing_planned}
 use Rattle.sect_best.specs.Vector.{picked, is_greater, kept_vector, never_spent}
-use Rattle.sect_best.specs.declared.line.PlanLine.{PlanLine}
 use Rattle.sect_best.specs.declared.planned.Planned.{Planned}
 
 -- the world in which all that the student holds is given up is the world without the student's enrolments

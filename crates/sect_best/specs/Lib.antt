@@ -1,4 +1,5 @@
 pub mod Plan
+pub mod Told
 pub mod Text
 pub mod Vector
 pub mod Laws

@@ -3,7 +3,8 @@ use Rattle.std.specs.Prelude.{ℕ, ◌+◌, List, [], ◌∷◌, ◌++◌, map, 
 use Rattle.std.specs.Option.{option_map}
 use Rattle.sect_people.specs.Student.{find_student}
 use Rattle.sect_people.specs.declared.row.Ask.TheVariants.{Course as asks_course, Free}
-use Rattle.sect_model.specs.Data.{StudentId, Want, Move, Choice, Ask, Outcome}
+use Rattle.sect_model.specs.Data.{StudentId, Want, Move, Choice, Ask}
+use Rattle.sect_model.specs.declared.pick.Outcome.{Outcome}
 use Rattle.sect_model.specs.declared.pick.Outcome.TheVariants.{Found, Blocked, Spent as over_budget}
 use Rattle.sect_model.specs.World.{World, held_by}
 use Rattle.sect_model.specs.Batch.{asks_of, want_of}

@@ -1,6 +1,8 @@
 // What is planned of a student's course requests so far.
 
 ghost use Rattle.std.specs.Prelude.{◌≡◌, IfOk};
+ghost use Rattle.sect_search.specs.Texts.{IsToldIn};
+ghost use Rattle.sect_best.specs.Told.{VerdictIsTold, AreTold, LinesAreTold};
 ghost use Rattle.sect_best.specs.Plan.{nothing_planned, planned_by, judged_also as verdicts_with, lines_of as lines_by};
 
 use crate::line::{PlanLine, PlanResult};
@@ -49,7 +51,10 @@ impl Planned {
     /// What is planned by the outcome of the search for the wants that were tried, the kept ones and that of the
     /// request of this rank.
     pub fn judged(self, tried: Items<Want>, rank: u8, outcome: Outcome) -> Result<Planned, Memory>
-        ensures { IfOk result (λ more. more ≡ planned_by self tried rank outcome) }
+        requires told { AreTold self.verdicts }
+        requires outcome { IsToldIn 180 outcome }
+        ensures planned { IfOk result (λ more. more ≡ planned_by self tried rank outcome) }
+        ensures told { IfOk result (λ more. AreTold more.verdicts) }
     {
         let Planned {
             kept,
@@ -77,7 +82,9 @@ impl Planned {
 
     /// A line for each verdict: the kept requests take the choices of the plan in turn.
     pub fn into_lines(self, alloc: Global) -> Result<Vec<PlanLine>, Memory>
-        ensures { IfOk result (λ lines. lines.items ≡ lines_of self.plan self.verdicts) }
+        requires told { AreTold self.verdicts }
+        ensures lines { IfOk result (λ lines. lines.items ≡ lines_by self.plan self.verdicts) }
+        ensures told { IfOk result (λ lines. LinesAreTold lines.items) }
     {
         let Planned {
             kept: _,
@@ -90,7 +97,10 @@ impl Planned {
 
 // The verdicts with one more.
 fn judged_also(verdicts: Items<Judged>, rank: u8, verdict: Verdict) -> Result<Items<Judged>, Memory>
-    ensures { IfOk result (λ more. more ≡ verdicts_with verdicts rank verdict) }
+    requires told { AreTold verdicts }
+    requires verdict { VerdictIsTold verdict }
+    ensures verdicts { IfOk result (λ more. more ≡ verdicts_with verdicts rank verdict) }
+    ensures told { IfOk result AreTold }
 {
     let mut verdicts = verdicts.into_vec();
     verdicts.push(Judged { rank, verdict })?;

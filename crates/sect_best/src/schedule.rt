@@ -4,15 +4,17 @@ ghost use Rattle.std.specs.Prelude.{◌≡◌, ◌≤◌, ◌<◌, ◌+◌, ◌+
 ghost use Rattle.std.specs.List.{list_all};
 ghost use Rattle.std.specs.Option.{is_some};
 ghost use Rattle.sect_people.specs.Student.{find_student};
-ghost use Rattle.sect_model.specs.Batch.{asks_of as requests_of, want_of as want_at};
+ghost use Rattle.sect_model.specs.Batch.{asks_of as requests_of};
 ghost use Rattle.sect_model.specs.Premises.{want_fits};
-ghost use Rattle.sect_model.specs.World.{held_by};
-ghost use Rattle.sect_best.specs.Plan.{course_asks, plan_move as move_of_plan, plan_ask, plan_asks, nothing_planned, planned as planned_of, plan_lines};
+ghost use Rattle.sect_best.specs.Told.{AreTold, LinesAreTold};
+ghost use Rattle.sect_best.specs.Plan.{plan_move as move_of_plan, plan_ask, plan_asks, nothing_planned, planned as planned_of, plan_lines};
 
 use crate::line::PlanLine;
 use crate::planned::Planned;
+use crate::wants::wants_of;
 use sect_base::{Budget, CourseId, Duplicate, Items, Memory, Move, StudentId, Want};
-use sect_people::{Ask, CourseAsk};
+use sect_model::Enrolment;
+use sect_people::Ask;
 use sect_search::search_in;
 use sect_space::World;
 use sect_steps::Steps;
@@ -32,6 +34,7 @@ pub fn best(
 ) -> Result<Vec<PlanLine>, Memory>
     requires known { IsTrue (is_some (find_student world.old.world.students student)) }
     ensures lines { IfOk result (λ lines. lines.items ≡ plan_lines world.old.world student budget) }
+    ensures told { IfOk result (λ lines. LinesAreTold lines.items) }
     ensures world { world.new ≡ world.old }
 {
     best_in(alloc, world, student, budget)
@@ -46,6 +49,7 @@ pub fn best_in(
 ) -> Result<Vec<PlanLine>, Memory>
     requires known { IsTrue (is_some (find_student world.now.world.students student)) }
     ensures lines { IfOk result (λ lines. lines.items ≡ plan_lines world.now.world student budget) }
+    ensures told { IfOk result (λ lines. LinesAreTold lines.items) }
 {
     counted::<Brand>(alloc, world, student, budget, Blank::new(1))
 }
@@ -63,6 +67,7 @@ fn counted<L: Ledger>(
     requires some { 0 < blank.parts }
     requires known { IsTrue (is_some (find_student world.now.world.students student)) }
     ensures lines { IfOk result (λ lines. lines.items ≡ plan_lines world.now.world student budget) }
+    ensures told { IfOk result (λ lines. LinesAreTold lines.items) }
 {
     let mut steps: Steps<L> = Steps::new(blank);
     plan(alloc, world, student, budget, &mut steps)?.into_lines(alloc)
@@ -78,6 +83,7 @@ fn plan<L: Ledger>(
 ) -> Result<Planned, Memory>
     requires known { IsTrue (is_some (find_student world.now.world.students student)) }
     ensures planned { IfOk result (λ planned. planned ≡ planned_of world.now.world student budget) }
+    ensures told { IfOk result (λ planned. AreTold planned.verdicts) }
 {
     world.is_kept();
     let wants = wants_of(alloc, asks_of(world, student))?;
@@ -94,33 +100,6 @@ fn asks_of(world: &World, student: StudentId) -> &[Ask]
     }
 }
 
-/// The want of each course request, at its position.
-fn wants_of(alloc: Global, asks: &[Ask]) -> Result<Vec<Want>, Memory>
-    requires { length asks.now ≤ 20 }
-    ensures { IfOk result (λ wants. wants.items ≡ course_asks asks.now) }
-{
-    let mut wants = Vec::new(alloc);
-    let mut rank = 1;
-    for ask in asks {
-        if let Ask::Course(ask) = ask {
-            wants.push(want_of(alloc, ask, rank)?)?;
-        }
-        rank += 1;
-    }
-    Ok(wants)
-}
-
-/// The want of a course request of a rank.
-fn want_of(alloc: Global, ask: &CourseAsk, rank: u8) -> Result<Want, Memory>
-    ensures { IfOk result (λ want. want ≡ want_at ask.now rank) }
-{
-    Ok(Want {
-        courses: ask.courses.copy(alloc)?,
-        only: Items::from_vec(Vec::new(alloc)),
-        rank,
-    })
-}
-
 /// What is planned of the wants, one after the other.
 fn plan_wants<L: Ledger>(
     alloc: Global,
@@ -134,6 +113,7 @@ fn plan_wants<L: Ledger>(
     requires fit { IsTrue (list_all (want_fits world.now.world) wants.items) }
     requires few { length wants.items ≤ 20 }
     ensures planned { IfOk result (λ planned. planned ≡ plan_asks world.now.world student budget nothing_planned wants.items) }
+    ensures told { IfOk result (λ planned. AreTold planned.verdicts) }
 {
     let mut planned = Planned::nothing(alloc);
     for want in wants {
@@ -156,7 +136,9 @@ fn plan_want<L: Ledger>(
     requires kept { IsTrue (list_all (want_fits world.now.world) planned.kept) }
     requires fits { IsTrue (want_fits world.now.world want) }
     requires few { length planned.kept < 20 }
+    requires told { AreTold planned.verdicts }
     ensures planned { IfOk result (λ more. more ≡ plan_ask world.now.world student budget planned want) }
+    ensures told { IfOk result (λ more. AreTold more.verdicts) }
 {
     let rank = want.rank;
     let mv = plan_move(alloc, world, student, &planned.kept, want)?;
@@ -183,17 +165,17 @@ fn plan_move(
     take.push(want)?;
     Ok(Move {
         student,
-        give: held_courses(alloc, world, student)?,
+        give: courses_of(alloc, world.enrolments(student))?,
         take: Items::from_vec(take),
     })
 }
 
-/// The courses that the student holds.
-fn held_courses(alloc: Global, world: &World, student: StudentId) -> Result<Items<CourseId>, Memory>
-    ensures { IfOk result (λ courses. courses ≡ map (λ e. e.choice.course) (held_by world.now.world student)) }
+/// The courses of the enrolments.
+fn courses_of(alloc: Global, enrolments: &[Enrolment]) -> Result<Items<CourseId>, Memory>
+    ensures { IfOk result (λ courses. courses ≡ map (λ e. e.choice.course) enrolments.now) }
 {
     let mut courses = Vec::new(alloc);
-    for enrolment in world.enrolments(student) {
+    for enrolment in enrolments {
         courses.push(enrolment.choice.course)?;
     }
     Ok(Items::from_vec(courses))
