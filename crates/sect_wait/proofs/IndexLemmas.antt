@@ -15,11 +15,10 @@ use Rattle.sect_model.specs.Freer.{Among}
 use Rattle.sect_model.specs.Settle.{without}
 use Rattle.sect_model.proofs.Members
 use Rattle.sect_model.proofs.Members.{Member, both, both-left, both-right, or-left, or-right, all-at, all-of, any-at, any-of, none-of, not_true, if_false, not_both, decide, member-of_filter, member-append}
-use Rattle.sect_model.proofs.FreerLemmas.{member}
+use Rattle.sect_model.proofs.FreerLemmas.{among, member}
 use Rattle.sect_wait.specs.declared.index.Index.{Index}
-use Rattle.sect_wait.specs.Marked.{Marked, is_marked, MarksMore}
-use Rattle.sect_wait.specs.Indexed.{tickets_by, has_ticket, KeepsTickets, KeepsOtherTickets, is_indexed, IsIndexOf, is_told, AreTold, MarksTold}
-use Rattle.sect_wait.proofs.MarkLemmas.{among-append, mark-kept, mark-marks}
+use Rattle.sect_wait.specs.Indexed.{tickets_by, has_ticket, KeepsTickets, KeepsOtherTickets, is_indexed, IsIndexOf, is_told, AreTold}
+use Rattle.sect_wait.proofs.MarkLemmas.{among-append}
 
 -- ---- the tickets of a number
 
@@ -63,14 +62,14 @@ module _ (old new : BTreeMap ℕ (Vec ℕ)) (number ticket : ℕ) where
   note-has (Err x) more = tt
 
 -- one course more has the ticket
-pub courses-more : (old new : BTreeMap ℕ (Vec ℕ)) (ticket : ℕ) (cs : List CourseId) (i : ℕ) (c : CourseId) → i < length cs → c ≡ get_or cs i c → KeepsTickets old new
-    → list_all (λ d. has_ticket ticket (tickets_by old d.0)) (take i cs) ≡ true → has_ticket ticket (tickets_by new c.0) ≡ true
+pub courses-more : (old new : BTreeMap ℕ (Vec ℕ)) (ticket : ℕ) (cs : List CourseId) (i : ℕ) (none : CourseId) → i < length cs → KeepsTickets old new
+    → list_all (λ d. has_ticket ticket (tickets_by old d.0)) (take i cs) ≡ true → has_ticket ticket (tickets_by new (get_or cs i none).0) ≡ true
     → list_all (λ d. has_ticket ticket (tickets_by new d.0)) (take (i + 1) cs) ≡ true
-courses-more old new ticket cs i c few at keeps so_far one =
-    ap (list_all (λ d. has_ticket ticket (tickets_by new d.0))) (take_more cs i c few ∙ ap (λ d. take i cs ++ d ∷ []) (sym at))
-    ∙ all-of (λ d. has_ticket ticket (tickets_by new d.0)) (take i cs ++ c ∷ []) (λ d m. by_place d (member-append (take i cs) (c ∷ []) d m))
+courses-more old new ticket cs i none few keeps so_far one =
+    ap (list_all (λ d. has_ticket ticket (tickets_by new d.0))) (take_more cs i none few)
+    ∙ all-of (λ d. has_ticket ticket (tickets_by new d.0)) (take i cs ++ get_or cs i none ∷ []) (λ d m. by_place d (member-append (take i cs) (get_or cs i none ∷ []) d m))
   where
-    by_place : (d : CourseId) → Member (take i cs) d ⊎ Member (c ∷ []) d → has_ticket ticket (tickets_by new d.0) ≡ true
+    by_place : (d : CourseId) → Member (take i cs) d ⊎ Member (get_or cs i none ∷ []) d → has_ticket ticket (tickets_by new d.0) ≡ true
     by_place d (inl m) = keeps d.0 ticket (all-at (λ d. has_ticket ticket (tickets_by old d.0)) (take i cs) so_far d m)
     by_place d (inr (inl is)) = subst (λ (x : CourseId). has_ticket ticket (tickets_by new x.0) ≡ true) is one
     by_place d (inr (inr m)) = absurd m
@@ -117,12 +116,7 @@ module _ (i j : Index) where
       → IsIndexOf i es → IsIndexOf j fs
   index-left es fs ticket is same ss cs k whole f a =
       let m = Members.member-filter (λ (e : Waiting). not (e.ticket == ticket)) es f (member (without es ticket) f (subst (λ gs. Among gs f) is a)) in
-      indexed-other ticket ss cs f (not_true (f.ticket == ticket) m.1) (k (sym same ∙ whole) f (among_of es f m.0))
-    where
-      among_of : (es : List Waiting) (f : Waiting) → Member es f → Among es f
-      among_of [] f m = m
-      among_of (e ∷ es) f (inl is) = inl is
-      among_of (e ∷ es) f (inr m) = inr (among_of es f m)
+      indexed-other ticket ss cs f (not_true (f.ticket == ticket) m.1) (k (sym same ∙ whole) f (among es f m.0))
 
   -- the entry came back
   pub index-back : (es fs : List Waiting) (place : ℕ) (e : Waiting) → fs ≡ insert es place e → (j.whole ≡ true → i.whole ≡ true) → KeepsTickets i.students j.students → KeepsTickets i.courses j.courses
@@ -143,15 +137,14 @@ module _ (i j : Index) where
       by_place (inl is) = subst (λ x. is_indexed j x ≡ true) is (noted whole)
       by_place (inr a) = indexed-kept ss cs f (k (was whole) f a)
 
--- the last entry went
-pub index-front : (i : Index) (es fs : List Waiting) (n : ℕ) → fs ≡ take n es → IsIndexOf i es → IsIndexOf i fs
-index-front i es fs n is k whole f a = k whole f (among-take es n (subst (λ gs. Among gs f) is a))
+-- entries behind the others went
+pub index-front : (i : Index) (es fs gs : List Waiting) → es ≡ fs ++ gs → IsIndexOf i es → IsIndexOf i fs
+index-front i es fs gs is k whole f a = k whole f (subst (λ hs. Among hs f) (sym is) (among-left fs a))
   where
-    among-take : (es : List Waiting) (n : ℕ) → Among (take n es) f → Among es f
-    among-take es zero a = absurd a
-    among-take [] (suc n) a = a
-    among-take (e ∷ es) (suc n) (inl is) = inl is
-    among-take (e ∷ es) (suc n) (inr a) = inr (among-take es n a)
+    among-left : (fs : List Waiting) → Among fs f → Among (fs ++ gs) f
+    among-left [] a = absurd a
+    among-left (e ∷ fs) (inl same) = inl same
+    among-left (e ∷ fs) (inr a) = inr (among-left fs a)
 
 -- ---- what the index tells
 

@@ -164,7 +164,7 @@ enrol-concerns w x e k h =
     by_frees true h = and_none (touches w e.want x.choice.course) true (touches-row w e.want x.choice.course (offering_of w x.choice.course) k refl ∙ h)
     by_frees false h = and_false (touches w e.want x.choice.course)
 
-more-test : (test more : Waiting → Bool) (es : List Waiting) (m n : Marked) → ((e : Waiting) → more e ≡ false → test e ≡ false) → MarksMore more es m n → MarksMore test es m n
+pub more-test : (test more : Waiting → Bool) (es : List Waiting) (m n : Marked) → ((e : Waiting) → more e ≡ false → test e ≡ false) → MarksMore more es m n → MarksMore test es m n
 more-test test more es m n h marks = record { kept = marks.kept; added = λ e a unmarked. h e (marks.added e a unmarked) }
 
 pub on-ok : {A E P Q : Type 0} (r : Result A E) → (P → Q) → OnOk r P → OnOk r Q

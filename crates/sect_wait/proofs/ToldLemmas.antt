@@ -43,12 +43,11 @@ told-all m n is = record {
 }
 
 -- the tickets so far, and one more
-pub told-more : (ts : List ℕ) (i t : ℕ) (m k n : Marked) → i < length ts → t ≡ get_or ts i t → MarksTold (Some (take i ts)) m k → MarksTold (Some (t ∷ [])) k n
-    → MarksTold (Some (take (i + 1) ts)) m n
-told-more ts i t m k n few at so_far one = record {
+pub told-more : (ts : List ℕ) (i d : ℕ) (m k n : Marked) → i < length ts → MarksTold (Some (take i ts)) m k → MarksTold (Some (get_or ts i d ∷ [])) k n → MarksTold (Some (take (i + 1) ts)) m n
+told-more ts i d m k n few so_far one = record {
   kept = λ s u. so_far.kept s (one.kept s u);
-  added = λ s u. ap (has_ticket s) (take_more ts i t few ∙ ap (λ x. take i ts ++ x ∷ []) (sym at)) ∙ any-append (λ x. x == s) (take i ts) (t ∷ [])
-      ∙ neither (has_ticket s (take i ts)) (has_ticket s (t ∷ [])) (so_far.added s (one.kept s u)) (one.added s u);
+  added = λ s u. ap (has_ticket s) (take_more ts i d few) ∙ any-append (λ x. x == s) (take i ts) (get_or ts i d ∷ [])
+      ∙ neither (has_ticket s (take i ts)) (has_ticket s (get_or ts i d ∷ [])) (so_far.added s (one.kept s u)) (one.added s u);
 }
 
 -- ---- entries
@@ -62,12 +61,12 @@ pub nobody-marked : (test : Waiting → Bool) (es : List Waiting) (m : Marked) �
 nobody-marked test es m none = record { kept = λ t u. u; added = λ e a u. none e }
 
 -- those whom one of the things so far concerns, and those whom one more does
-pub each-marked : {X : Type 0} (test : X → Waiting → Bool) (xs : List X) (i : ℕ) (x : X) (es : List Waiting) (m k n : Marked) → i < length xs → x ≡ get_or xs i x
-    → MarksMore (λ e. list_any (λ y. test y e) (take i xs)) es m k → MarksMore (test x) es k n → MarksMore (λ e. list_any (λ y. test y e) (take (i + 1) xs)) es m n
-each-marked test xs i x es m k n few at so_far one = record {
+pub each-marked : {X : Type 0} (test : X → Waiting → Bool) (xs : List X) (i : ℕ) (d : X) (es : List Waiting) (m k n : Marked) → i < length xs
+    → MarksMore (λ e. list_any (λ y. test y e) (take i xs)) es m k → MarksMore (test (get_or xs i d)) es k n → MarksMore (λ e. list_any (λ y. test y e) (take (i + 1) xs)) es m n
+each-marked test xs i d es m k n few so_far one = record {
   kept = λ t u. so_far.kept t (one.kept t u);
-  added = λ e a u. ap (list_any (λ y. test y e)) (take_more xs i x few ∙ ap (λ y. take i xs ++ y ∷ []) (sym at)) ∙ any-append (λ y. test y e) (take i xs) (x ∷ [])
-      ∙ neither (list_any (λ y. test y e) (take i xs)) (test x e || false) (so_far.added e a (one.kept e.ticket u)) (neither (test x e) false (one.added e a u) refl);
+  added = λ e a u. ap (list_any (λ y. test y e)) (take_more xs i d few) ∙ any-append (λ y. test y e) (take i xs) (get_or xs i d ∷ [])
+      ∙ neither (list_any (λ y. test y e) (take i xs)) (test (get_or xs i d) e || false) (so_far.added e a (one.kept e.ticket u)) (neither (test (get_or xs i d) e) false (one.added e a u) refl);
 }
 
 -- who wants one of an offering's courses, wants a course of the offering

@@ -26,7 +26,7 @@ use Rattle.sect_wait.proofs.QueueLemmas.{one-entry}
 
 -- no ticket was tried yet
 pub tried-none : (w : World) (es : List Waiting) (m : Marked) → Tried w es [] None m
-tried-none w es m = record { tried = []; within = λ e a. absurd a; all = λ e a has. absurd (not_both false has refl); best = refl; others = λ e a unmarked. absurd a }
+tried-none w es m = record { tried = []; within = λ e a. absurd a; all = λ e a has. absurd (not_both false has refl); first = refl; others = λ e a unmarked. absurd a }
 
 -- what holds of all holds of one
 pub others-one : (w : World) (es : List Waiting) (m : Marked) (e : Waiting) → Member es e → OthersHaveNoMove w es m → OthersHaveNoMove w (e ∷ []) m
@@ -48,7 +48,7 @@ module _ (w : World) (es : List Waiting) (ticket : ℕ) where
 
   -- no entry has the ticket
   pub tried-unknown : (best : Option Candidate) (m : Marked) → None ≡ find (λ e. e.ticket == ticket) es → (before : List ℕ) → Tried w es before best m → Tried w es (before ++ ticket ∷ []) best m
-  tried-unknown best m none before t = record { tried = t.tried; within = t.within; all = λ f a has. by_place f a (one-of before f has); best = t.best; others = t.others }
+  tried-unknown best m none before t = record { tried = t.tried; within = t.within; all = λ f a has. by_place f a (one-of before f has); first = t.first; others = t.others }
     where
       by_place : (f : Waiting) → Among es f → (has_ticket f.ticket before ≡ true) ⊎ (f.ticket ≡ ticket) → Among t.tried f
       by_place f a (inl h) = t.all f a h
@@ -63,7 +63,7 @@ module _ (w : World) (es : List Waiting) (ticket : ℕ) where
     tried = t.tried ++ e ∷ [];
     within = λ f a. by_list f (among-append t.tried e f a);
     all = λ f a has. by_place f a (one-of before f has);
-    best = better t.tried t.best;
+    first = better t.tried t.first;
     others = λ f a unmarked. by_turn f unmarked (among-append t.tried e f a);
   }
     where
@@ -132,7 +132,7 @@ module _ (w : World) (es : List Waiting) (next : ℕ) (tickets : List ℕ) (best
   each_first e g h k = grind (arith, nat_tests, h, k)
 
   pub tried-best : IsBest w es best
-  tried-best = by_best best t.best
+  tried-best = by_best best t.first
     where
       same-first : (e : Waiting) → first_entry (filter (is_placeable w) t.tried) ≡ Some e → first_entry (filter (is_placeable w) es) ≡ Some e
       same-first e first = by_first (first_entry (filter (is_placeable w) es)) refl

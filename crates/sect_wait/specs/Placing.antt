@@ -36,7 +36,7 @@ pub record Tried (w : World) (es : List Waiting) (tickets : List ℕ) (best : Op
   pub tried : List Waiting
   pub within : (e : Waiting) → Among tried e → Among es e
   pub all : (e : Waiting) → Among es e → has_ticket e.ticket tickets ≡ true → Among tried e
-  pub best : IsBest w tried best
+  pub first : IsBest w tried best
   pub others : OthersHaveNoMove w tried left
 
 -- the candidate is of a smaller class than the entry, or of the same class and no larger ticket

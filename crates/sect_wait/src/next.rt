@@ -116,6 +116,7 @@ fn better_by<L: Ledger>(
     ensures tried { IfOk result (λ new. (before : List ℕ) → Tried world.now.world queue.now.queue.entries before best.now left.old → Tried world.now.world queue.now.queue.entries (before ++ ticket ∷ []) (option_or new best.now) left.new) }
     ensures steps { steps.new ≤ steps.old + 1 }
 {
+    queue.is_kept();
     match queue.entry(ticket) {
         Some(entry) => better(alloc, world, best, entry, marks, left, steps),
         None => Ok(None),
