@@ -88,7 +88,7 @@ module _ (i j : Index) where
       both (has_ticket e.ticket (tickets_by j.students e.student.0)) (list_all (λ c. has_ticket e.ticket (tickets_by j.courses c.0)) e.want.courses)
       (ss e.student.0 e.ticket (both-left (has_ticket e.ticket (tickets_by i.students e.student.0)) _ h))
       (all-of (λ c. has_ticket e.ticket (tickets_by j.courses c.0)) e.want.courses (λ c m.
-        cs c.0 e.ticket (all-at (λ c. has_ticket e.ticket (tickets_by i.courses c.0)) e.want.courses (both-right (has_ticket e.ticket (tickets_by i.students e.student.0)) _ h) c m)))
+      cs c.0 e.ticket (all-at (λ c. has_ticket e.ticket (tickets_by i.courses c.0)) e.want.courses (both-right (has_ticket e.ticket (tickets_by i.students e.student.0)) _ h) c m)))
 
   indexed-other : (ticket : ℕ) → KeepsOtherTickets ticket i.students j.students → KeepsOtherTickets ticket i.courses j.courses → (e : Waiting) → e.ticket == ticket ≡ false
       → is_indexed i e ≡ true → is_indexed j e ≡ true
@@ -96,7 +96,7 @@ module _ (i j : Index) where
       both (has_ticket e.ticket (tickets_by j.students e.student.0)) (list_all (λ c. has_ticket e.ticket (tickets_by j.courses c.0)) e.want.courses)
       (ss e.student.0 e.ticket differs (both-left (has_ticket e.ticket (tickets_by i.students e.student.0)) _ h))
       (all-of (λ c. has_ticket e.ticket (tickets_by j.courses c.0)) e.want.courses (λ c m.
-        cs c.0 e.ticket differs (all-at (λ c. has_ticket e.ticket (tickets_by i.courses c.0)) e.want.courses (both-right (has_ticket e.ticket (tickets_by i.students e.student.0)) _ h) c m)))
+      cs c.0 e.ticket differs (all-at (λ c. has_ticket e.ticket (tickets_by i.courses c.0)) e.want.courses (both-right (has_ticket e.ticket (tickets_by i.students e.student.0)) _ h) c m)))
 
   -- an entry more was noted, and others may stand
   pub index-kept : (es : List Waiting) → j.whole ≡ i.whole → KeepsTickets i.students j.students → KeepsTickets i.courses j.courses → IsIndexOf i es → IsIndexOf j es

@@ -59,7 +59,12 @@ impl Index {
         ensures courses { KeepsTickets self.old.courses self.new.courses }
         ensures whole { self.new.whole ≡ self.old.whole }
     {
-        note(self.alloc, &mut self.students, entry.student.0, entry.ticket)?;
+        note(
+            self.alloc,
+            &mut self.students,
+            entry.student.0,
+            entry.ticket,
+        )?;
         note_courses(
             self.alloc,
             &mut self.courses,

@@ -65,11 +65,7 @@ pub fn mark(
 }
 
 /// Marks the entries of the student.
-fn mark_student(
-    queue: &Queue,
-    student: Option<StudentId>,
-    marks: &mut Marks,
-) -> Result<(), Memory>
+fn mark_student(queue: &Queue, student: Option<StudentId>, marks: &mut Marks) -> Result<(), Memory>
     ensures { OnOk result (MarksMore (is_concerned student Nobody) queue.now.queue.entries marks.old marks.new) }
 {
     match student {

@@ -108,11 +108,7 @@ pub(crate) fn strike(index: &mut BTreeMap<u32, Vec<u64>>, number: u32, ticket: u
 }
 
 /// Takes a ticket away from those of each of the courses. It takes no memory, and the room stays.
-pub(crate) fn strike_courses(
-    index: &mut BTreeMap<u32, Vec<u64>>,
-    courses: &[CourseId],
-    ticket: u64,
-)
+pub(crate) fn strike_courses(index: &mut BTreeMap<u32, Vec<u64>>, courses: &[CourseId], ticket: u64)
     ensures { KeepsOtherTickets ticket index.old index.new }
 {
     for course in courses {

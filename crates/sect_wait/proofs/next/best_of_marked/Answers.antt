@@ -19,7 +19,7 @@ loop-ticket-preserved g c =
     let more = take_more ts i 0 c.loop-ticket-test.true in
     let tried : Tried w es (before ++ get_or ts i 0 ∷ []) (option_or c.in_ok-better_by.field-0 c.loop-ticket.best) c.better_by.new.left = c.in_ok-better_by.ensures.tried before c.loop-ticket.invariant.0 in (
       subst (λ o. Tried w es (take (i + 1) ts) o c.better_by.new.left) (sym c.or-best.ensures)
-      (subst (λ us. Tried w es us (option_or c.in_ok-better_by.field-0 c.loop-ticket.best) c.better_by.new.left) (sym more) tried),
+          (subst (λ us. Tried w es us (option_or c.in_ok-better_by.field-0 c.loop-ticket.best) c.better_by.new.left) (sym more) tried),
       omega (arith, c.in_ok-better_by.ensures.steps, c.loop-ticket.invariant.1),
     )
 
