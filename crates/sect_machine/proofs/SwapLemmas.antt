@@ -1,10 +1,11 @@
 -- The changes of a made swap, one after the other: what each may open is marked.
-use Rattle.std.specs.Prelude.{◌≡◌, Bool, true, false, ◌&&◌, ◌||◌, List, [], ◌∷◌, map, refl}
+use Rattle.std.specs.Prelude.{◌≡◌, Bool, true, false, ◌&&◌, ◌||◌, List, [], ◌∷◌, map, Result, OnOk, refl}
 use Rattle.std.specs.List.{list_any, list_all}
 use Rattle.std.specs.Option.{is_some}
 use Rattle.std.proofs.Common.{sym, ◌∙◌, ap}
 use Rattle.sect_people.specs.Student.{find_student}
 use Rattle.sect_people.specs.Order.{all_differ}
+use Rattle.sect_command.specs.declared.reply.Reply.TheVariants.{Swapped}
 use Rattle.sect_model.specs.Data.{StudentId, CourseId, Want, Choice, Move}
 use Rattle.sect_model.specs.declared.held.Waiting.{Waiting}
 use Rattle.sect_model.specs.declared.change.Change.TheVariants.{Enrol, Leave}
@@ -19,8 +20,8 @@ use Rattle.sect_model.proofs.Members.{both-left, both-right, neither-left, neith
 use Rattle.sect_model.proofs.EnrolLeave.{enrol-keeps, leave-keeps}
 use Rattle.sect_model.proofs.KeptMoves.{move-keeps}
 use Rattle.sect_wait.specs.Marked.{Marked, OthersHaveNoMove, MarksKept, MarksMore}
-use Rattle.sect_wait.proofs.MarkLemmas.{changed-others}
-use Rattle.sect_machine.specs.Opening.{given_opens, taken_opens}
+use Rattle.sect_wait.proofs.MarkLemmas.{changed-others, neither, on-ok}
+use Rattle.sect_machine.specs.Opening.{given_opens, swapped_opens, taken_opens}
 use Rattle.sect_machine.proofs.MoveLemmas.{LeavesOn, leaves-more, leave_all-students}
 
 -- ---- course by course, and choice by choice
@@ -94,3 +95,16 @@ move-others w es mv choices m l k fit fits allowed others marks =
 
     taken : (e : Waiting) → _ → _ → taken_opens u mv.student choices e ≡ false
     taken e a unmarked = sym (ap (λ x. taken_opens x mv.student choices e) moved) ∙ neither-right (given_opens v mv.student mv.give e) _ (marks.added e a unmarked)
+
+-- ---- marks
+
+-- what the leavings may have opened is marked, and then what the enrolments may
+pub swap-marked : {A E : Type 0} (w : World) (es : List Waiting) (student : StudentId) (give : List CourseId) (choices : List Choice) (m k n : Marked) (r : Result A E)
+    → MarksMore (given_opens w student give) es m k → OnOk r (MarksMore (taken_opens w student choices) es k n) → OnOk r (MarksMore (swapped_opens w student give (Swapped choices)) es m n)
+swap-marked w es student give choices m k n r given marks = on-ok r join marks
+  where
+    join : MarksMore (taken_opens w student choices) es k n → MarksMore (swapped_opens w student give (Swapped choices)) es m n
+    join taken = record {
+      kept = λ t unmarked. given.kept t (taken.kept t unmarked);
+      added = λ e a unmarked. neither (given_opens w student give e) (taken_opens w student choices e) (given.added e a (taken.kept e.ticket unmarked)) (taken.added e a unmarked);
+    }
