@@ -1,5 +1,5 @@
 -- The entry that is placed next, and what its placement makes of the world.
-use Rattle.std.specs.Prelude.{◌≡◌, ℕ, Bool, true, ◌&&◌, ◌||◌, ◌==◌, nat_lt, nat_le, List, [], ◌∷◌, filter, Option, Some, None}
+use Rattle.std.specs.Prelude.{◌≡◌, ℕ, Bool, true, ◌&&◌, ◌||◌, ◌==◌, nat_lt, nat_le, List, [], ◌∷◌, ◌++◌, filter, Option, Some, None}
 use Rattle.std.specs.Option.{option_to_list}
 use Rattle.sect_base.specs.declared.ids.CourseId.{CourseId}
 use Rattle.sect_base.specs.declared.choice.Choice.{Choice}
@@ -38,6 +38,10 @@ pub record Tried (w : World) (es : List Waiting) (tickets : List ℕ) (best : Op
   pub all : (e : Waiting) → Among es e → has_ticket e.ticket tickets ≡ true → Among tried e
   pub first : IsBest w tried best
   pub others : OthersHaveNoMove w tried left
+
+-- those of one ticket more were tried
+abbrev pub TriesMore : World → List Waiting → ℕ → Option Candidate → Marked → Option Candidate → Marked → Type 0
+TriesMore w es ticket best left best_now left_now = (before : List ℕ) → Tried w es before best left → Tried w es (before ++ ticket ∷ []) best_now left_now
 
 -- the candidate is of a smaller class than the entry, or of the same class and no larger ticket
 abbrev pub is_before : Candidate → Waiting → Bool

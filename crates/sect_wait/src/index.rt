@@ -9,8 +9,8 @@ use sect_model::Waiting;
 use std::alloc::Global;
 use std::collections::BTreeMap;
 
-/// The tickets of each student's entries, and of those that want each course. It isn't whole once memory ran out as an entry
-/// came back: then it may lack tickets.
+/// The tickets of each student's entries, and of those that want each course. It isn't whole once memory ran out as an
+/// entry came back: then it may lack tickets.
 #[derive(Drop)]
 pub(crate) struct Index {
     pub whole: bool,
@@ -73,7 +73,8 @@ impl Index {
         )
     }
 
-    /// Notes an entry that comes back. Where memory runs out, the index isn't whole; the room that the entry left is enough.
+    /// Notes an entry that comes back. Where memory runs out, the index isn't whole. The room that the entry left is
+    /// enough, so it doesn't.
     pub fn note_again(&mut self, entry: &Waiting)
         ensures noted { self.new.whole ≡ true → is_indexed self.new entry.now ≡ true }
         ensures students { KeepsTickets self.old.students self.new.students }

@@ -19,8 +19,8 @@ use sect_model::Enrolment;
 use sect_reserve::{Place, Reservation, active};
 use sect_space::World;
 
-/// Marks the entries that the enrolment may give a move: those of its student, and where it frees a place by its reservation,
-/// those that want a course of its offering. Where memory runs out, some of them are marked.
+/// Marks the entries that the enrolment may give a move: those of its student, and where it frees a place by its
+/// reservation, those that want a course of its offering. Where memory runs out, some of them are marked.
 pub fn mark_enrolment(
     world: &World,
     queue: &Queue,
@@ -50,8 +50,8 @@ pub fn mark_leaving(
     mark(queue, Some(student), row, marks)
 }
 
-/// Marks the entries of the student, and those that want a course of the offering. They are found by the queue's index. Where
-/// memory runs out, some of them are marked.
+/// Marks the entries of the student, and those that want a course of the offering. They are found by the queue's index.
+/// Where memory runs out, some of them are marked.
 pub fn mark(
     queue: &Queue,
     student: Option<StudentId>,

@@ -7,7 +7,7 @@ ghost use Rattle.sect_model.specs.declared.held.Waiting.{Waiting as Entry};
 ghost use Rattle.sect_model.specs.Kept.{entry_fits};
 ghost use Rattle.sect_wait.specs.Indexed.{has_ticket};
 ghost use Rattle.sect_wait.specs.Marked.{MarksKept, OthersHaveNoMove, is_marked};
-ghost use Rattle.sect_wait.specs.Placing.{IsBest, Tried, candidate_of, is_before as comes_before};
+ghost use Rattle.sect_wait.specs.Placing.{IsBest, TriesMore, candidate_of, is_before as comes_before};
 
 use crate::entry::placement;
 use crate::marks::Marks;
@@ -50,8 +50,8 @@ pub fn next<L: Ledger>(
     Ok(best)
 }
 
-/// The first of the entries that can be placed, and which of them must be tried again. It is found among the marked tickets,
-/// or among the entries where those are fewer.
+/// The first of the entries that can be placed, and which of them must be tried again. It is found among the marked
+/// tickets, or among the entries where those are fewer.
 fn first<L: Ledger>(
     alloc: Global,
     world: &World,
@@ -99,8 +99,8 @@ fn best_of_marked<L: Ledger>(
     Ok(best)
 }
 
-/// The entry of a ticket with the choice that its search finds, where it comes before the best so far, and None where that
-/// stays, or no entry has the ticket.
+/// The entry of a ticket with the choice that its search finds, where it comes before the best so far, and None where
+/// that stays, or no entry has the ticket.
 fn better_by<L: Ledger>(
     alloc: Global,
     world: &World,
@@ -113,7 +113,7 @@ fn better_by<L: Ledger>(
 ) -> Result<Option<Candidate>, Memory>
     requires fit { IsTrue (list_all (entry_fits world.now.world) queue.now.queue.entries) }
     requires others { OthersHaveNoMove world.now.world queue.now.queue.entries marks.now }
-    ensures tried { IfOk result (λ new. (before : List ℕ) → Tried world.now.world queue.now.queue.entries before best.now left.old → Tried world.now.world queue.now.queue.entries (before ++ ticket ∷ []) (option_or new best.now) left.new) }
+    ensures tried { IfOk result (λ new. TriesMore world.now.world queue.now.queue.entries ticket best.now left.old (option_or new best.now) left.new) }
     ensures steps { steps.new ≤ steps.old + 1 }
 {
     queue.is_kept();
