@@ -5,4 +5,5 @@ pub mod MoveLemmas
 pub mod OpeningLemmas
 pub mod PlaceLemmas
 pub mod StepLemmas
+pub mod SwapLemmas
 pub mod TrackLemmas

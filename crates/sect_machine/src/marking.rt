@@ -6,16 +6,16 @@ ghost use Rattle.sect_model.specs.Freer.{flips as is_flipping, may_open};
 ghost use Rattle.sect_model.specs.declared.change.Change.TheVariants.{Day as NextDay};
 ghost use Rattle.sect_model.specs.declared.held.Waiting.{Waiting as Entry};
 ghost use Rattle.sect_wait.specs.Marked.{MarksMore};
-ghost use Rattle.sect_machine.specs.Opening.{enrolled_opens, is_joined as is_new, is_swapped as is_swap, opened, opens, reserved_in as reserved_offering, restricted_in as restricted_offering};
+ghost use Rattle.sect_machine.specs.Opening.{enrolled_opens, given_opens, is_joined as is_new, opened, opens, reserved_in as reserved_offering, restricted_in as restricted_offering, swapped_opens, taken_opens};
 
-use sect_base::{Memory, ReservationId, RestrictionId, StudentId};
+use sect_base::{Choice, CourseId, Memory, ReservationId, RestrictionId, StudentId};
 use sect_catalog::OfferingRow;
 use sect_command::{Command, Reply};
-use sect_model::{Enrolment, Waiting};
+use sect_model::Enrolment;
 use sect_reserve::{Reservation, active};
 use sect_space::World;
 use sect_time::Day;
-use sect_wait::{Marks, mark, mark_enrolment, mark_leaving};
+use sect_wait::{Marks, Queue, mark, mark_enrolment, mark_leaving};
 
 /// Marks all entries where a reservation begins or ends on the way to the later of the two days.
 pub fn mark_day(world: &World, day: Day, marks: &mut Marks)
@@ -64,35 +64,35 @@ fn flips(world: &World, day: Day, row: &Reservation) -> bool
 /// them are marked.
 pub fn mark_before(
     world: &World,
-    entries: &[Waiting],
+    queue: &Queue,
     command: &Command,
     marks: &mut Marks,
 ) -> Result<(), Memory>
-    ensures { OnOk result (MarksMore (opens world.now.world command.now) entries.now marks.old marks.new) }
+    ensures { OnOk result (MarksMore (opens world.now.world command.now) queue.now.queue.entries marks.old marks.new) }
 {
     match command {
-        Command::Student(row) => mark(entries, Some(row.id), None, marks),
-        Command::Requests { student, asks: _ } => mark(entries, Some(*student), None, marks),
+        Command::Student(row) => mark(queue, Some(row.id), None, marks),
+        Command::Requests { student, asks: _ } => mark(queue, Some(*student), None, marks),
         Command::Reserve(row) => {
             let row = world.catalogue().offering(row.offering);
-            mark(entries, None, row, marks)
+            mark(queue, None, row, marks)
         }
-        Command::Unreserve(id) => mark(entries, None, reserved_in(world, *id), marks),
+        Command::Unreserve(id) => mark(queue, None, reserved_in(world, *id), marks),
         Command::Expire {
             reservation,
             expiry: _,
-        } => mark(entries, None, reserved_in(world, *reservation), marks),
+        } => mark(queue, None, reserved_in(world, *reservation), marks),
         Command::Restrict(row) => {
             let row = world.catalogue().offering(row.offering);
-            mark(entries, None, row, marks)
+            mark(queue, None, row, marks)
         }
-        Command::Unrestrict(id) => mark(entries, None, restricted_in(world, *id), marks),
+        Command::Unrestrict(id) => mark(queue, None, restricted_in(world, *id), marks),
         Command::SetLimit { cap: _, limit: _ } => {
             marks.mark_all();
             Ok(())
         }
         Command::Drop { student, course } => {
-            mark_leaving(world, entries, *student, *course, marks)
+            mark_leaving(world, queue, *student, *course, marks)
         }
         _ => Ok(()),
     }
@@ -102,28 +102,25 @@ pub fn mark_before(
 /// of them are marked.
 pub fn mark_after(
     world: &World,
-    entries: &[Waiting],
+    queue: &Queue,
     command: &Command,
     reply: &Reply,
     marks: &mut Marks,
 ) -> Result<(), Memory>
-    ensures { OnOk result (MarksMore (opened world.now.world command.now reply.now) entries.now marks.old marks.new) }
+    ensures { OnOk result (MarksMore (opened world.now.world command.now reply.now) queue.now.queue.entries marks.old marks.new) }
 {
     match command {
         Command::Enrol {
             student,
             want: _,
             budget: _,
-        } => mark_enrolled(world, entries, *student, reply, marks),
+        } => mark_enrolled(world, queue, *student, reply, marks),
         Command::Swap {
-            student: _,
-            give: _,
+            student,
+            give,
             take: _,
             budget: _,
-        } => {
-            mark_swapped(reply, marks);
-            Ok(())
-        }
+        } => mark_swapped(world, queue, *student, give.as_slice(), reply, marks),
         Command::Wait {
             student: _,
             want: _,
@@ -141,30 +138,75 @@ pub fn mark_after(
 /// Marks what an enrolment may have opened, where it was made.
 fn mark_enrolled(
     world: &World,
-    entries: &[Waiting],
+    queue: &Queue,
     student: StudentId,
     reply: &Reply,
     marks: &mut Marks,
 ) -> Result<(), Memory>
-    ensures { OnOk result (MarksMore (enrolled_opens world.now.world student reply.now) entries.now marks.old marks.new) }
+    ensures { OnOk result (MarksMore (enrolled_opens world.now.world student reply.now) queue.now.queue.entries marks.old marks.new) }
 {
     if let Reply::Enrolled(choice) = reply {
         let enrolment = Enrolment {
             student,
             choice: *choice,
         };
-        return mark_enrolment(world, entries, &enrolment, marks);
+        return mark_enrolment(world, queue, &enrolment, marks);
     }
     Ok(())
 }
 
-/// Marks all entries where a swap was made.
-fn mark_swapped(reply: &Reply, marks: &mut Marks)
-    ensures { (entries : List Entry) → MarksMore (λ e. is_swap reply.now) entries marks.old marks.new }
+/// Marks what a swap may have opened, where it was made.
+fn mark_swapped(
+    world: &World,
+    queue: &Queue,
+    student: StudentId,
+    give: &[CourseId],
+    reply: &Reply,
+    marks: &mut Marks,
+) -> Result<(), Memory>
+    ensures { OnOk result (MarksMore (swapped_opens world.now.world student give.now reply.now) queue.now.queue.entries marks.old marks.new) }
 {
-    if let Reply::Swapped(_) = reply {
-        marks.mark_all();
+    if let Reply::Swapped(choices) = reply {
+        mark_given(world, queue, student, give, marks)?;
+        return mark_taken(world, queue, student, choices.as_slice(), marks);
     }
+    Ok(())
+}
+
+/// Marks what the student's leaving the courses may have opened.
+fn mark_given(
+    world: &World,
+    queue: &Queue,
+    student: StudentId,
+    courses: &[CourseId],
+    marks: &mut Marks,
+) -> Result<(), Memory>
+    ensures { OnOk result (MarksMore (given_opens world.now.world student courses.now) queue.now.queue.entries marks.old marks.new) }
+{
+    for course in courses {
+        mark_leaving(world, queue, student, *course, marks)?;
+    }
+    Ok(())
+}
+
+/// Marks what the student's enrolments by the choices may have opened.
+fn mark_taken(
+    world: &World,
+    queue: &Queue,
+    student: StudentId,
+    choices: &[Choice],
+    marks: &mut Marks,
+) -> Result<(), Memory>
+    ensures { OnOk result (MarksMore (taken_opens world.now.world student choices.now) queue.now.queue.entries marks.old marks.new) }
+{
+    for choice in choices {
+        let enrolment = Enrolment {
+            student,
+            choice: *choice,
+        };
+        mark_enrolment(world, queue, &enrolment, marks)?;
+    }
+    Ok(())
 }
 
 /// Marks the entry that joined.

@@ -227,8 +227,8 @@ fn marked_act<L: Ledger>(
     ensures tracked { Tracked world.old undo.old.backs queue.old left.old world.new undo.new.backs queue.new left.new }
     ensures others { OnOk result (OthersHaveNoMove world.new.world queue.new.queue.entries marks.new) }
 {
-    mark_before(world, queue.entries(), command, marks)?;
+    mark_before(world, queue, command, marks)?;
     let reply = act(alloc, world, queue, command, undo, left, steps)?;
-    mark_after(world, queue.entries(), command, &reply, marks)?;
+    mark_after(world, queue, command, &reply, marks)?;
     Ok(reply)
 }

@@ -1,6 +1,9 @@
+pub mod IndexLemmas
 pub mod MarkLemmas
 pub mod NextLemmas
 pub mod PlacingLemmas
 pub mod QueueLemmas
 pub mod SettlingLemmas
+pub mod ToldLemmas
+pub mod TriedLemmas
 pub mod UndoLemmas

@@ -37,7 +37,7 @@ use Rattle.sect_wait.specs.Queued.{Queued, left, state_of}
 use Rattle.std.specs.Prelude.{is_err}
 use Rattle.sect_wait.specs.Marked.{Marked, no_marks, is_marked, OthersHaveNoMove, MarksKept, MarksMore, concerns, IsSetOf}
 
-neither : (a b : Bool) → a ≡ false → b ≡ false → a || b ≡ false
+pub neither : (a b : Bool) → a ≡ false → b ≡ false → a || b ≡ false
 neither true b h i = h
 neither false b h i = i
 
@@ -164,7 +164,7 @@ enrol-concerns w x e k h =
     by_frees true h = and_none (touches w e.want x.choice.course) true (touches-row w e.want x.choice.course (offering_of w x.choice.course) k refl ∙ h)
     by_frees false h = and_false (touches w e.want x.choice.course)
 
-more-test : (test more : Waiting → Bool) (es : List Waiting) (m n : Marked) → ((e : Waiting) → more e ≡ false → test e ≡ false) → MarksMore more es m n → MarksMore test es m n
+pub more-test : (test more : Waiting → Bool) (es : List Waiting) (m n : Marked) → ((e : Waiting) → more e ≡ false → test e ≡ false) → MarksMore more es m n → MarksMore test es m n
 more-test test more es m n h marks = record { kept = marks.kept; added = λ e a unmarked. h e (marks.added e a unmarked) }
 
 pub on-ok : {A E P Q : Type 0} (r : Result A E) → (P → Q) → OnOk r P → OnOk r Q
@@ -199,7 +199,7 @@ made-others w v es m n change (Err x) k fits fit is others marks = tt
 
 -- ---- settling
 
-none-left : (w : World) (es : List Waiting) → ((e : Waiting) → Among es e → is_placeable w e ≡ false) → filter (is_placeable w) es ≡ []
+pub none-left : (w : World) (es : List Waiting) → ((e : Waiting) → Among es e → is_placeable w e ≡ false) → filter (is_placeable w) es ≡ []
 none-left w [] h = refl
 none-left w (e ∷ es) h = (λ i. cond (h e (inl refl) i) (e ∷ filter (is_placeable w) es) (filter (is_placeable w) es)) ∙ none-left w es (λ f a. h f (inr a))
 
@@ -222,18 +222,12 @@ all-others w es m n is e a h = absurd (differ (ap (λ x. is_marked x e.ticket) (
     differ : true ≡ false → ⊥
     differ d = cc
 
-pub others-of : (w : World) (es fs : List Waiting) (m : Marked) → fs ≡ es → OthersHaveNoMove w fs m → OthersHaveNoMove w es m
-others-of w es fs m same others = subst (λ gs. OthersHaveNoMove w gs m) same others
-
 pub ok-of : {A E P : Type 0} (r : Result A E) → is_err r ≡ false → OnOk r P → P
 ok-of (Ok x) h p = p
 ok-of (Err x) h p = cc
 
-pub marks-of : (test : Waiting → Bool) (es fs : List Waiting) (m n : Marked) → fs ≡ es → MarksMore test fs m n → MarksMore test es m n
-marks-of test es fs m n same marks = subst (λ gs. MarksMore test gs m n) same marks
-
-pub left-others : (w : World) (q p : Queued) (es : List Waiting) (m : Marked) (ticket : ℕ) → p ≡ left q ticket → es ≡ q.entries → OthersHaveNoMove w es m → OthersHaveNoMove w p.entries m
-left-others w q p es m ticket is same others = subst (λ (x : Queued). OthersHaveNoMove w x.entries m) (sym is) (others-without w q.entries m ticket (others-of w q.entries es m same others))
+pub left-others : (w : World) (q p : Queued) (m : Marked) (ticket : ℕ) → p ≡ left q ticket → OthersHaveNoMove w q.entries m → OthersHaveNoMove w p.entries m
+left-others w q p m ticket is others = subst (λ (x : Queued). OthersHaveNoMove w x.entries m) (sym is) (others-without w q.entries m ticket others)
 
 -- the entries fit where a student left
 pub left-fit : {A E : Type 0} (w v : World) (es : List Waiting) (student : StudentId) (course : CourseId) (r : Result A E) → OnOk r (v ≡ leave w student course) → IsTrue (list_all (entry_fits w) es)

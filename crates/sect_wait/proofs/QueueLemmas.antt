@@ -52,6 +52,20 @@ pub one-ticket : (es : List Waiting) (next ticket : ℕ) → tickets_rise es nex
     → length (filter (λ e. e.ticket == ticket) es) ≡ 1
 one-ticket es next ticket h found = once (λ e. e.ticket) ticket es (tickets-differ es next h) found
 
+-- two entries of one ticket are one
+pub one-entry : (es : List Waiting) (next : ℕ) → tickets_rise es next ≡ true → (e f : Waiting) → Member es e → Member es f → e.ticket ≡ f.ticket → e ≡ f
+one-entry [] next h e f m n same = absurd m
+one-entry (d ∷ es) next h e f (inl is) (inl also) same = sym is ∙ also
+one-entry (d ∷ es) next h e f (inr m) (inr n) same = one-entry es next (behind d es next h) e f m n same
+one-entry (d ∷ es) next h e f (inl is) (inr n) same = absurd (larger d.ticket f.ticket (all-at (λ g. nat_lt d.ticket g.ticket) es (above d es next h) f n) (ap (λ (g : Waiting). g.ticket) is ∙ same))
+  where
+    larger : (a b : ℕ) → nat_lt a b ≡ true → a ≡ b → ⊥
+    larger a b l e = grind (arith, nat_tests, l, e)
+one-entry (d ∷ es) next h e f (inr m) (inl is) same = absurd (larger d.ticket e.ticket (all-at (λ g. nat_lt d.ticket g.ticket) es (above d es next h) e m) (ap (λ (g : Waiting). g.ticket) is ∙ sym same))
+  where
+    larger : (a b : ℕ) → nat_lt a b ≡ true → a ≡ b → ⊥
+    larger a b l e = grind (arith, nat_tests, l, e)
+
 -- where no entry has the ticket, none leaves
 pub without-none : (es : List Waiting) (ticket : ℕ) → list_any (λ e. e.ticket == ticket) es ≡ false → without es ticket ≡ es
 without-none [] ticket h = refl

@@ -77,15 +77,9 @@ module _ (w_old : World) (q_old : Queued) (n_old : ℕ) (w : World) (q : Queued)
   pub settling-counted : m ≤ n + length q.entries → m ≤ n_old + (length placed + 1) * length q_old.entries
   settling-counted steps = one_more n_old n m (length placed) (length q_old.entries) (length q.entries) s.counted s.fewer steps
 
--- what one pass over the queue's entries found
-pub best-of : (w : World) (es fs : List Waiting) (o : Option Candidate) (c : Candidate) → fs ≡ es → o ≡ Some c → IsBest w fs o → IsBest w es (Some c)
-best-of w es fs o c same is best = subst (λ p. IsBest w es p) is (subst (λ gs. IsBest w gs o) same best)
-
-pub none-of : (w : World) (es fs : List Waiting) (o : Option Candidate) → fs ≡ es → o ≡ None → IsBest w fs o → IsBest w es None
-none-of w es fs o same is best = subst (λ p. IsBest w es p) is (subst (λ gs. IsBest w gs o) same best)
-
-pub passed : (m n : ℕ) (es fs : List Waiting) → fs ≡ es → m ≤ n + length fs → m ≤ n + length es
-passed m n es fs same h = subst (λ gs. m ≤ n + length gs) same h
+-- what a round found
+pub best-of : (w : World) (es : List Waiting) (o p : Option Candidate) → o ≡ p → IsBest w es o → IsBest w es p
+best-of w es o p is best = subst (IsBest w es) is best
 
 -- ---- the end
 

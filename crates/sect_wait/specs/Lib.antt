@@ -1,3 +1,4 @@
+pub mod Indexed
 pub mod Marked
 pub mod Placing
 pub mod Queued

@@ -5,6 +5,7 @@ use Rattle.std.specs.Option.{option_map_or}
 use Rattle.std.specs.Ordering.{nat_cmp}
 use Rattle.std.specs.BTreeSet.{BTreeSet, contains}
 use Rattle.sect_base.specs.declared.ids.StudentId.{StudentId}
+use Rattle.sect_catalog.specs.declared.row.CourseRow.{CourseRow}
 use Rattle.sect_catalog.specs.declared.row.OfferingRow.{OfferingRow}
 use Rattle.sect_catalog.specs.Catalogue.{has_course}
 use Rattle.sect_model.specs.declared.held.Waiting.{Waiting}
@@ -44,3 +45,7 @@ pub record MarksMore (test : Waiting → Bool) (entries : List Waiting) (before 
 -- the entry is of this student, or wants a course of this offering
 abbrev pub concerns : Option StudentId → Option OfferingRow → Waiting → Bool
 concerns student row e = option_map_or (λ s. s.0 == e.student.0) student false || option_map_or (λ o. list_any (has_course o) e.want.courses) row false
+
+-- the entry wants one of these courses
+abbrev pub wants_some : List CourseRow → Waiting → Bool
+wants_some courses e = list_any (λ d. list_any (λ c. d.id.0 == c.0) e.want.courses) courses

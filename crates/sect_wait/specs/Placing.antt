@@ -1,5 +1,5 @@
 -- The entry that is placed next, and what its placement makes of the world.
-use Rattle.std.specs.Prelude.{◌≡◌, Bool, ◌&&◌, ◌||◌, ◌==◌, nat_lt, nat_le, List, [], ◌∷◌, filter, Option, Some, None}
+use Rattle.std.specs.Prelude.{◌≡◌, ℕ, Bool, true, ◌&&◌, ◌||◌, ◌==◌, nat_lt, nat_le, List, [], ◌∷◌, ◌++◌, filter, Option, Some, None}
 use Rattle.std.specs.Option.{option_to_list}
 use Rattle.sect_base.specs.declared.ids.CourseId.{CourseId}
 use Rattle.sect_base.specs.declared.choice.Choice.{Choice}
@@ -8,7 +8,10 @@ use Rattle.sect_model.specs.declared.held.Placed.{Placed}
 use Rattle.sect_model.specs.declared.held.Enrolment.{Enrolment}
 use Rattle.sect_model.specs.World.{World, enrol, leave_all, holds}
 use Rattle.sect_model.specs.Settle.{first_entry, is_placeable, placement_of}
+use Rattle.sect_model.specs.Freer.{Among}
 use Rattle.sect_wait.specs.declared.next.Candidate.{Candidate}
+use Rattle.sect_wait.specs.Indexed.{has_ticket}
+use Rattle.sect_wait.specs.Marked.{Marked, OthersHaveNoMove}
 
 -- the candidate of an entry that a choice places
 abbrev pub candidate_of : Waiting → Choice → Candidate
@@ -26,6 +29,19 @@ pub record IsOf (w : World) (e : Waiting) (c : Candidate) : Type 0 where
 abbrev pub IsBest : World → List Waiting → Option Candidate → Type 0
 IsBest w es None = first_entry (filter (is_placeable w) es) ≡ None
 IsBest w es (Some c) = (e : Waiting) × (first_entry (filter (is_placeable w) es) ≡ Some e) × IsOf w e c
+
+-- of the entries those were tried that have one of these tickets: this is the first of them that can be placed, and the others
+-- of them that aren't marked have no move
+pub record Tried (w : World) (es : List Waiting) (tickets : List ℕ) (best : Option Candidate) (left : Marked) : Type 0 where
+  pub tried : List Waiting
+  pub within : (e : Waiting) → Among tried e → Among es e
+  pub all : (e : Waiting) → Among es e → has_ticket e.ticket tickets ≡ true → Among tried e
+  pub first : IsBest w tried best
+  pub others : OthersHaveNoMove w tried left
+
+-- those of one ticket more were tried
+abbrev pub TriesMore : World → List Waiting → ℕ → Option Candidate → Marked → Option Candidate → Marked → Type 0
+TriesMore w es ticket best left best_now left_now = (before : List ℕ) → Tried w es before best left → Tried w es (before ++ ticket ∷ []) best_now left_now
 
 -- the candidate is of a smaller class than the entry, or of the same class and no larger ticket
 abbrev pub is_before : Candidate → Waiting → Bool

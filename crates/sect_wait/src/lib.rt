@@ -3,6 +3,7 @@
 
 mod back;
 mod entry;
+mod index;
 pub mod laws;
 mod marking;
 mod marks;
@@ -10,6 +11,7 @@ mod next;
 mod place;
 mod queue;
 mod settling;
+mod tickets;
 mod undo;
 
 pub use back::QueueBack;

@@ -1,115 +1,129 @@
 // Which entries a change marks: those that it may give a move.
 
-ghost use Rattle.std.specs.Prelude.{◌≡◌, ◌==◌, [], ◌∷◌, cond, None as Nobody, OnOk, option_copied};
-ghost use Rattle.std.specs.List.{list_all, list_any};
+ghost use Rattle.std.specs.Prelude.{◌≡◌, ◌==◌, [], ◌∷◌, cond, None as Nobody, Some as Told, OnOk, option_copied};
+ghost use Rattle.std.specs.List.{list_all};
 ghost use Rattle.std.specs.Option.{is_some};
-ghost use Rattle.sect_catalog.specs.Catalogue.{has_course as is_course_of, places as places_of};
+ghost use Rattle.sect_catalog.specs.Catalogue.{places as places_of};
 ghost use Rattle.sect_model.specs.Choice.{lists_section as is_among};
 ghost use Rattle.sect_model.specs.World.{offering_of as row_of};
 ghost use Rattle.sect_model.specs.Freer.{frees_some, lists_only as is_listing_only, may_open};
 ghost use Rattle.sect_model.specs.declared.change.Change.TheVariants.{Enrol, Leave};
-ghost use Rattle.sect_wait.specs.Marked.{MarksMore, concerns as is_concerned};
+ghost use Rattle.sect_wait.specs.Marked.{MarksMore, concerns as is_concerned, wants_some};
+ghost use Rattle.sect_wait.specs.Indexed.{MarksTold};
 
 use crate::marks::Marks;
+use crate::queue::Queue;
 use sect_base::{Choice, ConfigId, CourseId, Limit, Memory, SectionId, StudentId};
-use sect_catalog::OfferingRow;
-use sect_model::{Enrolment, Waiting};
+use sect_catalog::{CourseRow, OfferingRow};
+use sect_model::Enrolment;
 use sect_reserve::{Place, Reservation, active};
 use sect_space::World;
 
-/// Marks the entries that the enrolment may give a move: those of its student, and where it frees a place by its reservation,
-/// those that want a course of its offering. Where memory runs out, some of them are marked.
+/// Marks the entries that the enrolment may give a move: those of its student, and where it frees a place by its
+/// reservation, those that want a course of its offering. Where memory runs out, some of them are marked.
 pub fn mark_enrolment(
     world: &World,
-    entries: &[Waiting],
+    queue: &Queue,
     enrolment: &Enrolment,
     marks: &mut Marks,
 ) -> Result<(), Memory>
-    ensures { OnOk result (MarksMore (λ e. may_open world.now.world e (Enrol enrolment.now)) entries.now marks.old marks.new) }
+    ensures { OnOk result (MarksMore (λ e. may_open world.now.world e (Enrol enrolment.now)) queue.now.queue.entries marks.old marks.new) }
 {
     world.is_kept();
     let row = freed(world, &enrolment.choice);
-    mark(entries, Some(enrolment.student), row, marks)
+    mark(queue, Some(enrolment.student), row, marks)
 }
 
 /// Marks the entries that the student's leaving the course may give a move: those of the student, and those that want a
 /// course of its offering. Where memory runs out, some of them are marked.
 pub fn mark_leaving(
     world: &World,
-    entries: &[Waiting],
+    queue: &Queue,
     student: StudentId,
     course: CourseId,
     marks: &mut Marks,
 ) -> Result<(), Memory>
-    ensures { OnOk result (MarksMore (λ e. may_open world.now.world e (Leave student course)) entries.now marks.old marks.new) }
+    ensures { OnOk result (MarksMore (λ e. may_open world.now.world e (Leave student course)) queue.now.queue.entries marks.old marks.new) }
 {
     world.is_kept();
     let row = offering_of(world, course);
-    mark(entries, Some(student), row, marks)
+    mark(queue, Some(student), row, marks)
 }
 
-/// Marks the entries of the student, and those that want a course of the offering. Where memory runs out, some of them are
-/// marked.
+/// Marks the entries of the student, and those that want a course of the offering. They are found by the queue's index.
+/// Where memory runs out, some of them are marked.
 pub fn mark(
-    entries: &[Waiting],
+    queue: &Queue,
     student: Option<StudentId>,
     row: Option<&OfferingRow>,
     marks: &mut Marks,
 ) -> Result<(), Memory>
-    ensures { OnOk result (MarksMore (is_concerned student (option_copied row.entry)) entries.now marks.old marks.new) }
+    ensures { OnOk result (MarksMore (is_concerned student (option_copied row.entry)) queue.now.queue.entries marks.old marks.new) }
 {
-    for entry in entries {
-        mark_entry(entry, student, row, marks)?;
-    }
-    Ok(())
+    mark_student(queue, student, marks)?;
+    mark_row(queue, row, marks)
 }
 
-/// Marks the entry where it is of the student, or wants a course of the offering.
-fn mark_entry(
-    entry: &Waiting,
-    student: Option<StudentId>,
-    row: Option<&OfferingRow>,
-    marks: &mut Marks,
-) -> Result<(), Memory>
-    ensures { OnOk result (MarksMore (is_concerned student (option_copied row.entry)) (entry.now ∷ []) marks.old marks.new) }
-{
-    if concerns(entry, student, row) && !marks.has(entry.ticket) {
-        marks.mark(entry.ticket)?;
-    }
-    Ok(())
-}
-
-fn concerns(entry: &Waiting, student: Option<StudentId>, row: Option<&OfferingRow>) -> bool
-    ensures { result ≡ is_concerned student (option_copied row.entry) entry.now }
-{
-    is_of(entry, student) || row.is_some_and(|row| wants(entry, row))
-}
-
-fn is_of(entry: &Waiting, student: Option<StudentId>) -> bool
-    ensures { result ≡ is_concerned student Nobody entry.now }
+/// Marks the entries of the student.
+fn mark_student(queue: &Queue, student: Option<StudentId>, marks: &mut Marks) -> Result<(), Memory>
+    ensures { OnOk result (MarksMore (is_concerned student Nobody) queue.now.queue.entries marks.old marks.new) }
 {
     match student {
-        Some(student) => student == entry.student,
-        None => false,
+        Some(student) => mark_tickets(queue.of_student(student), marks),
+        None => Ok(()),
     }
 }
 
-/// Whether the entry wants a course of the offering.
-fn wants(entry: &Waiting, row: &OfferingRow) -> bool
-    ensures { result ≡ list_any (is_course_of row.now) entry.now.want.courses }
+/// Marks the entries that want a course of the offering.
+fn mark_row(queue: &Queue, row: Option<&OfferingRow>, marks: &mut Marks) -> Result<(), Memory>
+    ensures { OnOk result (MarksMore (is_concerned Nobody (option_copied row.entry)) queue.now.queue.entries marks.old marks.new) }
 {
-    entry
-        .want
-        .courses
-        .as_slice()
-        .iter()
-        .any(|course| has_course(row, *course))
+    match row {
+        Some(row) => mark_courses(queue, row.courses.as_slice(), marks),
+        None => Ok(()),
+    }
 }
 
-fn has_course(row: &OfferingRow, id: CourseId) -> bool
-    ensures { result ≡ is_course_of row.now id }
+/// Marks the entries that want one of the courses.
+fn mark_courses(queue: &Queue, courses: &[CourseRow], marks: &mut Marks) -> Result<(), Memory>
+    ensures { OnOk result (MarksMore (wants_some courses.now) queue.now.queue.entries marks.old marks.new) }
 {
-    row.courses.as_slice().iter().any(|course| course.id == id)
+    for course in courses {
+        mark_tickets(queue.of_course(course.id), marks)?;
+    }
+    Ok(())
+}
+
+/// Marks the tickets, all where they aren't known.
+fn mark_tickets(tickets: Option<&[u64]>, marks: &mut Marks) -> Result<(), Memory>
+    ensures { OnOk result (MarksTold (option_copied tickets.entry) marks.old marks.new) }
+{
+    match tickets {
+        Some(tickets) => mark_each(tickets, marks),
+        None => {
+            marks.mark_all();
+            Ok(())
+        }
+    }
+}
+
+fn mark_each(tickets: &[u64], marks: &mut Marks) -> Result<(), Memory>
+    ensures { OnOk result (MarksTold (Told tickets.now) marks.old marks.new) }
+{
+    for ticket in tickets {
+        mark_ticket(*ticket, marks)?;
+    }
+    Ok(())
+}
+
+/// Marks the ticket where it isn't marked yet.
+fn mark_ticket(ticket: u64, marks: &mut Marks) -> Result<(), Memory>
+    ensures { OnOk result (MarksTold (Told (ticket ∷ [])) marks.old marks.new) }
+{
+    if !marks.has(ticket) {
+        marks.mark(ticket)?;
+    }
+    Ok(())
 }
 
 /// The offering of a course.

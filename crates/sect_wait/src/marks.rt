@@ -1,6 +1,6 @@
 // Which waiting entries must be tried.
 
-ghost use Rattle.std.specs.Prelude.{◌≡◌, ◌++◌, [], ◌∷◌, true, OnErr, OnOk, IsTrue};
+ghost use Rattle.std.specs.Prelude.{◌≡◌, ◌++◌, [], ◌∷◌, true, cond, None as Nothing, Some as Told, OnErr, OnOk, IsTrue, option_copied};
 ghost use Rattle.sect_wait.specs.Marked.{no_marks, is_marked};
 
 use sect_base::Memory;
@@ -51,6 +51,17 @@ impl Marks {
         ensures { result ≡ is_marked self.now ticket }
     {
         self.all || self.set.contains(&ticket)
+    }
+
+    /// The marked tickets, None where all are marked. It takes no memory.
+    pub fn tickets(&self) -> Option<&[u64]>
+        ensures { option_copied result ≡ cond self.now.all Nothing (Told self.now.tickets) }
+    {
+        if self.all {
+            None
+        } else {
+            Some(self.tickets.as_slice())
+        }
     }
 
     /// Marks a ticket.

@@ -1,15 +1,17 @@
 // The entry to be placed next: of the smallest class among those that can be placed, and in it the smallest ticket.
 
-ghost use Rattle.std.specs.Prelude.{◌≡◌, ◌≤◌, ◌+◌, ◌++◌, [], ◌∷◌, List, length, false, IfOk, IsTrue, OnOk};
+ghost use Rattle.std.specs.Prelude.{◌≡◌, ℕ, ◌≤◌, ◌+◌, ◌++◌, [], ◌∷◌, List, length, false, IfOk, IsTrue, OnOk};
 ghost use Rattle.std.specs.List.{list_all};
 ghost use Rattle.std.specs.Option.{option_map_or, option_or};
 ghost use Rattle.sect_model.specs.declared.held.Waiting.{Waiting as Entry};
 ghost use Rattle.sect_model.specs.Kept.{entry_fits};
-ghost use Rattle.sect_wait.specs.Marked.{MarksKept, OthersHaveNoMove};
-ghost use Rattle.sect_wait.specs.Placing.{IsBest, candidate_of, is_before as comes_before};
+ghost use Rattle.sect_wait.specs.Indexed.{has_ticket};
+ghost use Rattle.sect_wait.specs.Marked.{MarksKept, OthersHaveNoMove, is_marked};
+ghost use Rattle.sect_wait.specs.Placing.{IsBest, TriesMore, candidate_of, is_before as comes_before};
 
 use crate::entry::placement;
 use crate::marks::Marks;
+use crate::queue::Queue;
 use sect_base::{Choice, CourseId, Memory, StudentId};
 use sect_model::Waiting;
 use sect_space::World;
@@ -32,21 +34,95 @@ pub struct Candidate {
 pub fn next<L: Ledger>(
     alloc: Global,
     world: &World,
-    entries: &[Waiting],
+    queue: &Queue,
     marks: &mut Marks,
     steps: &mut Steps<L>,
 ) -> Result<Option<Candidate>, Memory>
-    requires fit { IsTrue (list_all (entry_fits world.now.world) entries.now) }
-    requires others { OthersHaveNoMove world.now.world entries.now marks.old }
-    ensures best { IfOk result (λ best. IsBest world.now.world entries.now best) }
-    ensures others { OnOk result (OthersHaveNoMove world.now.world entries.now marks.new) }
-    ensures steps { steps.new ≤ steps.old + length entries.now }
+    requires fit { IsTrue (list_all (entry_fits world.now.world) queue.now.queue.entries) }
+    requires others { OthersHaveNoMove world.now.world queue.now.queue.entries marks.old }
+    ensures best { IfOk result (λ best. IsBest world.now.world queue.now.queue.entries best) }
+    ensures others { OnOk result (OthersHaveNoMove world.now.world queue.now.queue.entries marks.new) }
+    ensures steps { steps.new ≤ steps.old + length queue.now.queue.entries }
 {
     let mut left = Marks::none(alloc);
-    let best = best_of(alloc, world, entries, marks, &mut left, steps)?;
+    let best = first(alloc, world, queue, marks, &mut left, steps)?;
     *marks = left;
     Ok(best)
 }
+
+/// The first of the entries that can be placed, and which of them must be tried again. It is found among the marked
+/// tickets, or among the entries where those are fewer.
+fn first<L: Ledger>(
+    alloc: Global,
+    world: &World,
+    queue: &Queue,
+    marks: &Marks,
+    left: &mut Marks,
+    steps: &mut Steps<L>,
+) -> Result<Option<Candidate>, Memory>
+    requires fit { IsTrue (list_all (entry_fits world.now.world) queue.now.queue.entries) }
+    requires others { OthersHaveNoMove world.now.world queue.now.queue.entries marks.now }
+    ensures best { IfOk result (λ best. IsBest world.now.world queue.now.queue.entries best) }
+    ensures others { OnOk result (OthersHaveNoMove world.now.world queue.now.queue.entries left.new) }
+    ensures steps { steps.new ≤ steps.old + length queue.now.queue.entries }
+{
+    if let Some(tickets) = marks.tickets() {
+        if tickets.len() < queue.entries().len() {
+            return best_of_marked(alloc, world, queue, tickets, marks, left, steps);
+        }
+    }
+    best_of(alloc, world, queue.entries(), marks, left, steps)
+}
+
+/// The first of the entries that can be placed, where these tickets are marked, and which must be tried again.
+fn best_of_marked<L: Ledger>(
+    alloc: Global,
+    world: &World,
+    queue: &Queue,
+    tickets: &[u64],
+    marks: &Marks,
+    left: &mut Marks,
+    steps: &mut Steps<L>,
+) -> Result<Option<Candidate>, Memory>
+    requires fit { IsTrue (list_all (entry_fits world.now.world) queue.now.queue.entries) }
+    requires others { OthersHaveNoMove world.now.world queue.now.queue.entries marks.now }
+    requires all { (ticket : ℕ) → has_ticket ticket tickets.now ≡ false → is_marked marks.now ticket ≡ false }
+    ensures best { IfOk result (λ best. IsBest world.now.world queue.now.queue.entries best) }
+    ensures others { OnOk result (OthersHaveNoMove world.now.world queue.now.queue.entries left.new) }
+    ensures steps { steps.new ≤ steps.old + length tickets.now }
+{
+    queue.is_kept();
+    let mut best = None;
+    for ticket in tickets {
+        best = better_by(alloc, world, &best, queue, *ticket, marks, left, steps)?.or(best);
+    }
+    Ok(best)
+}
+
+/// The entry of a ticket with the choice that its search finds, where it comes before the best so far, and None where
+/// that stays, or no entry has the ticket.
+fn better_by<L: Ledger>(
+    alloc: Global,
+    world: &World,
+    best: &Option<Candidate>,
+    queue: &Queue,
+    ticket: u64,
+    marks: &Marks,
+    left: &mut Marks,
+    steps: &mut Steps<L>,
+) -> Result<Option<Candidate>, Memory>
+    requires fit { IsTrue (list_all (entry_fits world.now.world) queue.now.queue.entries) }
+    requires others { OthersHaveNoMove world.now.world queue.now.queue.entries marks.now }
+    ensures tried { IfOk result (λ new. TriesMore world.now.world queue.now.queue.entries ticket best.now left.old (option_or new best.now) left.new) }
+    ensures steps { steps.new ≤ steps.old + 1 }
+{
+    queue.is_kept();
+    match queue.entry(ticket) {
+        Some(entry) => better(alloc, world, best, entry, marks, left, steps),
+        None => Ok(None),
+    }
+}
+
 /// The first of the entries that can be placed, and which of them must be tried again.
 fn best_of<L: Ledger>(
     alloc: Global,

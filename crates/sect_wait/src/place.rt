@@ -17,7 +17,7 @@ use crate::next::Candidate;
 use crate::queue::Queue;
 use crate::undo::QueueUndo;
 use sect_base::{CourseId, Memory, StudentId};
-use sect_model::{Change, Enrolment, Waiting};
+use sect_model::{Change, Enrolment};
 use sect_space::{Undo, World};
 
 /// Makes the candidate's move, and takes its entry out of the queue. Where memory runs out, some of the changes are made.
@@ -42,7 +42,7 @@ pub fn place(
     ensures undoable { Undoable world.new undo.new.backs }
     ensures queue_undoable { QueueUndoable queue.new left.new }
 {
-    place_in_world(world, queue.entries(), candidate, marks, undo)?;
+    place_in_world(world, queue, candidate, marks, undo)?;
     let _ = queue.leave(candidate.ticket, left)?;
     Ok(())
 }
@@ -50,43 +50,43 @@ pub fn place(
 /// Makes the candidate's move.
 fn place_in_world(
     world: &mut World,
-    entries: &[Waiting],
+    queue: &Queue,
     candidate: &Candidate,
     marks: &mut Marks,
     undo: &mut Undo,
 ) -> Result<(), Memory>
     requires fits { Fits (given_up world.old.world candidate.now) (Change.Enrol (enrolment_of candidate.now)) }
-    requires fit { IsTrue (list_all (entry_fits world.old.world) entries.now) }
-    requires others { OthersHaveNoMove world.old.world entries.now marks.old }
+    requires fit { IsTrue (list_all (entry_fits world.old.world) queue.now.queue.entries) }
+    requires others { OthersHaveNoMove world.old.world queue.now.queue.entries marks.old }
     requires undoable { Undoable world.old undo.old.backs }
     ensures ok { OnOk result (world.new.world ≡ moved world.old.world candidate.now) }
-    ensures others { OnOk result (OthersHaveNoMove world.new.world entries.now marks.new) }
+    ensures others { OnOk result (OthersHaveNoMove world.new.world queue.now.queue.entries marks.new) }
     ensures since { Since world.old.world undo.old.backs world.new.world undo.new.backs }
     ensures undoable { Undoable world.new undo.new.backs }
 {
-    give_up(world, entries, candidate, marks, undo)?;
-    enrol(world, entries, candidate, marks, undo)
+    give_up(world, queue, candidate, marks, undo)?;
+    enrol(world, queue, candidate, marks, undo)
 }
 
 /// Takes the student out of the course to give up, where the student holds it.
 fn give_up(
     world: &mut World,
-    entries: &[Waiting],
+    queue: &Queue,
     candidate: &Candidate,
     marks: &mut Marks,
     undo: &mut Undo,
 ) -> Result<(), Memory>
-    requires fit { IsTrue (list_all (entry_fits world.old.world) entries.now) }
-    requires others { OthersHaveNoMove world.old.world entries.now marks.old }
+    requires fit { IsTrue (list_all (entry_fits world.old.world) queue.now.queue.entries) }
+    requires others { OthersHaveNoMove world.old.world queue.now.queue.entries marks.old }
     requires undoable { Undoable world.old undo.old.backs }
     ensures ok { OnOk result (world.new.world ≡ given_up world.old.world candidate.now) }
-    ensures fit { OnOk result (IsTrue (list_all (entry_fits world.new.world) entries.now)) }
-    ensures others { OnOk result (OthersHaveNoMove world.new.world entries.now marks.new) }
+    ensures fit { OnOk result (IsTrue (list_all (entry_fits world.new.world) queue.now.queue.entries)) }
+    ensures others { OnOk result (OthersHaveNoMove world.new.world queue.now.queue.entries marks.new) }
     ensures since { Since world.old.world undo.old.backs world.new.world undo.new.backs }
     ensures undoable { Undoable world.new undo.new.backs }
 {
     match candidate.give {
-        Some(course) => leave(world, entries, candidate.student, course, marks, undo),
+        Some(course) => leave(world, queue, candidate.student, course, marks, undo),
         None => Ok(()),
     }
 }
@@ -94,24 +94,24 @@ fn give_up(
 /// Takes the student out of the course, where the student holds it.
 fn leave(
     world: &mut World,
-    entries: &[Waiting],
+    queue: &Queue,
     student: StudentId,
     course: CourseId,
     marks: &mut Marks,
     undo: &mut Undo,
 ) -> Result<(), Memory>
-    requires fit { IsTrue (list_all (entry_fits world.old.world) entries.now) }
-    requires others { OthersHaveNoMove world.old.world entries.now marks.old }
+    requires fit { IsTrue (list_all (entry_fits world.old.world) queue.now.queue.entries) }
+    requires others { OthersHaveNoMove world.old.world queue.now.queue.entries marks.old }
     requires undoable { Undoable world.old undo.old.backs }
     ensures ok { OnOk result (world.new.world ≡ leave_all world.old.world student (filter (is_held world.old.world student) (course ∷ []))) }
-    ensures fit { OnOk result (IsTrue (list_all (entry_fits world.new.world) entries.now)) }
-    ensures others { OnOk result (OthersHaveNoMove world.new.world entries.now marks.new) }
+    ensures fit { OnOk result (IsTrue (list_all (entry_fits world.new.world) queue.now.queue.entries)) }
+    ensures others { OnOk result (OthersHaveNoMove world.new.world queue.now.queue.entries marks.new) }
     ensures since { Since world.old.world undo.old.backs world.new.world undo.new.backs }
     ensures undoable { Undoable world.new undo.new.backs }
 {
     if world.holds(student, course) {
         world.is_kept();
-        mark_leaving(world, entries, student, course, marks)?;
+        mark_leaving(world, queue, student, course, marks)?;
         make(world, Change::Leave(student, course), undo)
     } else {
         Ok(())
@@ -121,17 +121,17 @@ fn leave(
 /// Enrols the candidate's student by the choice.
 fn enrol(
     world: &mut World,
-    entries: &[Waiting],
+    queue: &Queue,
     candidate: &Candidate,
     marks: &mut Marks,
     undo: &mut Undo,
 ) -> Result<(), Memory>
     requires fits { Fits world.old.world (Change.Enrol (enrolment_of candidate.now)) }
-    requires fit { IsTrue (list_all (entry_fits world.old.world) entries.now) }
-    requires others { OthersHaveNoMove world.old.world entries.now marks.old }
+    requires fit { IsTrue (list_all (entry_fits world.old.world) queue.now.queue.entries) }
+    requires others { OthersHaveNoMove world.old.world queue.now.queue.entries marks.old }
     requires undoable { Undoable world.old undo.old.backs }
     ensures ok { OnOk result (world.new.world ≡ changed world.old.world (Change.Enrol (enrolment_of candidate.now))) }
-    ensures others { OnOk result (OthersHaveNoMove world.new.world entries.now marks.new) }
+    ensures others { OnOk result (OthersHaveNoMove world.new.world queue.now.queue.entries marks.new) }
     ensures since { Since world.old.world undo.old.backs world.new.world undo.new.backs }
     ensures undoable { Undoable world.new undo.new.backs }
 {
@@ -140,7 +140,7 @@ fn enrol(
         choice: candidate.choice,
     };
     world.is_kept();
-    mark_enrolment(world, entries, &enrolment, marks)?;
+    mark_enrolment(world, queue, &enrolment, marks)?;
     make(world, Change::Enrol(enrolment), undo)
 }
 

@@ -1,37 +1,42 @@
 // The queue: entries join behind the others, leave by their tickets, and changes are taken back.
 
-ghost use Rattle.std.specs.Prelude.{◌≡◌, ◌<◌, ◌≤◌, ◌==◌, ◌++◌, [], ◌∷◌, length, take, drop, insert, position, Some, IfOk, OnOk, OnErr, IsTrue};
+ghost use Rattle.std.specs.Prelude.{◌≡◌, ◌<◌, ◌≤◌, ◌==◌, ◌++◌, [], ◌∷◌, length, take, drop, insert, find, position, option_copied, Some, IfOk, OnOk, OnErr, IsTrue};
 ghost use Rattle.std.specs.Vec.{vec_len, vec_capacity};
 ghost use Rattle.std.specs.List.{list_any};
 ghost use Rattle.sect_people.specs.Index.{rank as rank_of};
 ghost use Rattle.sect_model.specs.Kept.{is_ordered_by};
 ghost use Rattle.sect_wait.specs.Queued.{empty_queue, joined, left, IsQueue};
+ghost use Rattle.sect_wait.specs.Indexed.{AreTold};
 ghost use Rattle.sect_wait.specs.Undo.{left_back, taken_back, undone, Ready, Since, Undoable};
 ghost use Rattle.sect_wait.specs.declared.back.QueueBack.TheVariants.{Joined};
 
 use crate::back::QueueBack;
+use crate::index::Index;
 use crate::undo::QueueUndo;
 use sect_base::{CourseId, Memory, StudentId, Want};
 use sect_model::Waiting;
 use std::alloc::Global;
 use std::marker::Model;
 
-/// Who waits, in order of ticket, and the next ticket, at first 1. Contracts see both, with the room of the list.
+/// Who waits, in order of ticket, and the next ticket, at first 1. Contracts see both, with the room of the list. An index
+/// tells the tickets of a student and of those who want a course.
 #[derive(Drop)]
 pub struct Queue {
     entries: Vec<Waiting>,
     next: u64,
+    index: Index,
 }
 
 impl Model for Queue {
     ghost use Rattle.std.specs.Vec.{vec_capacity};
-    ghost use Rattle.sect_wait.specs.Queued.{Queued, RoomedQueue, IsQueue};
+    ghost use Rattle.sect_wait.specs.Queued.{Queued, RoomedQueue};
+    ghost use Rattle.sect_wait.specs.Indexed.{IsIndexed};
 
     ghost Value = { RoomedQueue };
 
     ghost view = { λ q. record { queue = record { entries = q.entries.items; next = q.next }; room = vec_capacity q.entries } };
 
-    ghost invariant = { λ q. IsQueue (record { entries = q.entries.items; next = q.next }) };
+    ghost invariant = { λ q. IsIndexed (record { entries = q.entries.items; next = q.next }) q.index };
 }
 
 impl Queue {
@@ -42,6 +47,7 @@ impl Queue {
         Queue {
             entries: Vec::new(alloc),
             next: 1,
+            index: Index::empty(alloc),
         }
     }
 
@@ -83,13 +89,15 @@ impl Queue {
         }
         undo.backs.reserve(1)?;
         let ticket = self.next;
-        self.entries.push(Waiting {
+        let entry = Waiting {
             ticket,
             student,
             want,
             give,
             class,
-        })?;
+        };
+        self.index.note(&entry)?;
+        self.entries.push(entry)?;
         self.next += 1;
         undo.backs.push(QueueBack::Joined)?;
         Ok(ticket)
@@ -126,6 +134,7 @@ impl Queue {
     {
         undo.backs.reserve(1)?;
         let entry = self.entries.remove(place);
+        self.index.strike(&entry);
         undo.backs.push(QueueBack::Left(place, entry))?;
         Ok(())
     }
@@ -141,6 +150,28 @@ impl Queue {
         } else {
             None
         }
+    }
+
+    /// The entry of a ticket, None exactly where no entry has it. It takes no memory.
+    pub(crate) fn entry(&self, ticket: u64) -> Option<&Waiting>
+        ensures { option_copied result ≡ find (λ e. e.ticket == ticket) self.now.queue.entries }
+    {
+        let place = self.place(ticket)?;
+        self.entries.get(place)
+    }
+
+    /// The tickets of a student's entries, and maybe others. None where they aren't known. It takes no memory.
+    pub(crate) fn of_student(&self, student: StudentId) -> Option<&[u64]>
+        ensures { AreTold (λ e. student.0 == e.student.0) self.now.queue.entries (option_copied result) }
+    {
+        self.index.of_student(student)
+    }
+
+    /// The tickets of the entries that want a course, and maybe others. None where they aren't known. It takes no memory.
+    pub(crate) fn of_course(&self, course: CourseId) -> Option<&[u64]>
+        ensures { AreTold (λ e. list_any (λ c. course.0 == c.0) e.want.courses) self.now.queue.entries (option_copied result) }
+    {
+        self.index.of_course(course)
     }
 
     /// Takes all recorded changes back. It takes no memory.
@@ -175,7 +206,10 @@ impl Queue {
                 self.next -= 1;
                 let _ = self.entries.pop();
             }
-            QueueBack::Left(place, entry) => put_at(&mut self.entries, place, entry),
+            QueueBack::Left(place, entry) => {
+                self.index.note_again(&entry);
+                put_at(&mut self.entries, place, entry);
+            }
         }
     }
 }

@@ -93,7 +93,7 @@ fn place_all<L: Ledger>(
     queue.is_kept();
     let mut placed = Vec::new(alloc);
     'rounds: loop {
-        match next(alloc, world, queue.entries(), marks, steps)? {
+        match next(alloc, world, queue, marks, steps)? {
             Some(candidate) => {
                 place(world, queue, &candidate, marks, undo, left)?;
                 placed.push(placed_of(&candidate))?;

@@ -1,7 +1,4 @@
 -- What the command opens is marked.
-use Rattle.std.proofs.Common.{sym}
-use Rattle.sect_wait.proofs.MarkLemmas.{marks-of}
-use Rattle.sect_machine.specs.Opening.{opens, opened}
 use Rattle.sect_machine.proofs.OpeningLemmas.{acted-others}
 use Rattle.sect_machine.proofs.stepping.marked_act.Goals as goal
 
@@ -14,5 +11,4 @@ returns-clause-others g c =
     let command = c.args.command.now in
     let reply = c.in_ok-reply.reply in
     acted-others w v q p command reply c.args.marks.now c.mark_before.new.marks c.mark_after.new.marks c.requires.kept c.requires.fits c.in_ok-reply.ensures.acted c.requires.others
-    (marks-of (opens w command) q.entries c.entries.result.now c.args.marks.now c.mark_before.new.marks c.entries.ensures c.in_ok-mark_before.ensures)
-    (marks-of (opened v command reply) p.entries c.entries-2.result.now c.mark_before.new.marks c.mark_after.new.marks c.entries-2.ensures c.in_ok-mark_after.ensures)
+    c.in_ok-mark_before.ensures c.in_ok-mark_after.ensures

@@ -1,10 +1,9 @@
--- Each turn marks one entry more.
+-- The student's entries are marked, and then those of the offering.
 use Rattle.std.specs.Prelude.{option_copied}
-use Rattle.sect_wait.specs.Marked.{concerns}
-use Rattle.sect_wait.proofs.MarkLemmas.{marks-more}
+use Rattle.sect_wait.proofs.ToldLemmas.{both-marked}
 use Rattle.sect_wait.proofs.marking.mark.Goals as goal
 
-pub loop-entry-preserved : goal.loop-entry-preserved
-loop-entry-preserved c =
-    marks-more (concerns c.args.student (option_copied c.args.row)) c.args.entries.now c.loop-entry.entry-index c.entry-item.result c.args.marks.now c.loop-entry.marks c.mark_entry.new.marks
-    c.loop-entry-test.true c.entry-item.is c.loop-entry.invariant c.in_ok-mark_entry.ensures
+pub returns : goal.returns
+returns c =
+    both-marked c.args.student (option_copied c.args.row) c.args.queue.now.queue.entries c.args.marks.now c.mark_student.new.marks c.mark_row.new.marks c.mark_row.result
+    c.in_ok-mark_student.ensures c.mark_row.ensures

@@ -5,4 +5,4 @@ use Rattle.sect_wait.proofs.marking.mark_enrolment.Goals as goal
 
 pub returns : goal.returns
 returns c =
-    enrol-marks c.args.world.now.world c.args.entries.now c.args.enrolment.now (option_copied c.freed-row.result) c.args.marks.now c.mark.new.marks c.mark.result c.is_kept.ensures c.freed-row.ensures c.mark.ensures
+    enrol-marks c.args.world.now.world c.args.queue.now.queue.entries c.args.enrolment.now (option_copied c.freed-row.result) c.args.marks.now c.mark.new.marks c.mark.result c.is_kept.ensures c.freed-row.ensures c.mark.ensures

@@ -5,4 +5,4 @@ use Rattle.sect_wait.proofs.marking.mark_leaving.Goals as goal
 
 pub returns : goal.returns
 returns c =
-    leave-marks c.args.world.now.world c.args.entries.now c.args.student c.args.course (option_copied c.offering_of-row.result) c.args.marks.now c.mark.new.marks c.mark.result c.is_kept.ensures c.offering_of-row.ensures c.mark.ensures
+    leave-marks c.args.world.now.world c.args.queue.now.queue.entries c.args.student c.args.course (option_copied c.offering_of-row.result) c.args.marks.now c.mark.new.marks c.mark.result c.is_kept.ensures c.offering_of-row.ensures c.mark.ensures

@@ -6,5 +6,5 @@ use Rattle.sect_wait.proofs.place.enrol.Goals as goal
 
 pub returns-clause-others : goal.returns-clause-others
 returns-clause-others c =
-    made-others c.args.world.now.world c.make.new.world.world c.args.entries.now c.args.marks.now c.mark_enrolment.new.marks (Enrol (enrolment_of c.args.candidate.now)) c.make.result c.is_kept.ensures
+    made-others c.args.world.now.world c.make.new.world.world c.args.queue.now.queue.entries c.args.marks.now c.mark_enrolment.new.marks (Enrol (enrolment_of c.args.candidate.now)) c.make.result c.is_kept.ensures
     c.requires.fits c.requires.fit c.make.ensures.ok c.requires.others c.in_ok-mark_enrolment.ensures

@@ -1,31 +1,18 @@
 -- Each round places the first entry that can be placed.
-use Rattle.std.proofs.Common.{◌+◌, ◌*◌, ◌≡◌, ◌∙◌, ◌++◌, [], ◌∷◌, ◌≤◌, suc, ap, sym, subst, length}
+use Rattle.std.proofs.Common.{Some, None, ◌+◌, ◌*◌, ◌≡◌, ◌∙◌, ◌++◌, [], ◌∷◌, ◌≤◌, suc, ap, sym, subst, length}
 use Rattle.sect_space.proofs.Steps.{since-both}
 use Rattle.sect_wait.specs.Placing.{placed_of}
 use Rattle.sect_wait.specs.Queued.{state_of}
 use Rattle.sect_wait.proofs.PlacingLemmas.{best-fits}
-use Rattle.sect_wait.proofs.MarkLemmas.{others-of}
-use Rattle.sect_wait.proofs.SettlingLemmas.{best-of, none-of, passed, shorter, settling-more, settling-done, settling-counted}
+use Rattle.sect_wait.proofs.SettlingLemmas.{best-of, shorter, settling-more, settling-done, settling-counted}
 use Rattle.sect_wait.proofs.UndoLemmas.{since-joins}
 use Rattle.sect_wait.proofs.settling.place_all.Goals as goal
-
-pub next-requires-clause-others : goal.next-requires-clause-others
-next-requires-clause-others g c =
-    others-of c.rounds.world.world c.entries.result.now c.rounds.queue.queue.entries c.rounds.marks (sym c.entries.ensures) c.rounds.invariant.5
-
-pub place-requires-clause-others : goal.place-requires-clause-others
-place-requires-clause-others g c =
-    others-of c.rounds.world.world c.rounds.queue.queue.entries c.entries.result.now c.next.new.marks c.entries.ensures c.in_ok-candidate.ensures.others
-
-pub returns-in-None-clause-others : goal.returns-in-None-clause-others
-returns-in-None-clause-others g c =
-    others-of c.rounds.world.world c.rounds.queue.queue.entries c.entries.result.now c.next.new.marks c.entries.ensures c.in_ok-candidate.ensures.others
 
 pub place-requires-clause-fits : goal.place-requires-clause-fits
 place-requires-clause-fits g c =
     let w = c.rounds.world.world in
     let es = c.rounds.queue.queue.entries in
-    best-fits w es c.in-Some.candidate c.rounds.invariant.0.kept.entries_fit (best-of w es c.entries.result.now c.in_ok-candidate.field-0 c.in-Some.candidate c.entries.ensures c.in-Some.is c.in_ok-candidate.ensures.best)
+    best-fits w es c.in-Some.candidate c.rounds.invariant.0.kept.entries_fit (best-of w es c.in_ok-candidate.field-0 (Some c.in-Some.candidate) c.in-Some.is c.in_ok-candidate.ensures.best)
 
 pub returns-in_err-place-in-Some-clause-since : goal.returns-in_err-place-in-Some-clause-since
 returns-in_err-place-in-Some-clause-since g c =
@@ -48,7 +35,7 @@ rounds-smaller g c =
     let w = c.rounds.world.world in
     let q = c.rounds.queue.queue in
     subst (λ p. suc (length p.entries) ≤ length q.entries) (sym c.in_ok-place-in-Some.ensures.queue)
-    (shorter w q c.in-Some.candidate c.rounds.invariant.0.kept (best-of w q.entries c.entries.result.now c.in_ok-candidate.field-0 c.in-Some.candidate c.entries.ensures c.in-Some.is c.in_ok-candidate.ensures.best))
+    (shorter w q c.in-Some.candidate c.rounds.invariant.0.kept (best-of w q.entries c.in_ok-candidate.field-0 (Some c.in-Some.candidate) c.in-Some.is c.in_ok-candidate.ensures.best))
 
 pub rounds-preserved : goal.rounds-preserved
 rounds-preserved g c =
@@ -57,9 +44,9 @@ rounds-preserved g c =
     let d = c.in-Some.candidate in
     let more : c.push.new.self.items ≡ c.rounds.placed.items ++ placed_of d ∷ [] = c.in_ok-push-in-Some.ensures.items ∙ ap (λ p. c.rounds.placed.items ++ p ∷ []) c.placed_of.ensures in (
       settling-more c.args.world.now.world c.args.queue.now.queue c.args.steps.now w q c.rounds.placed.items c.rounds.steps d c.place.new.world.world c.place.new.queue.queue c.push.new.self.items c.next.new.steps
-          c.rounds.invariant.0 (best-of w q.entries c.entries.result.now c.in_ok-candidate.field-0 d c.entries.ensures c.in-Some.is c.in_ok-candidate.ensures.best)
+          c.rounds.invariant.0 (best-of w q.entries c.in_ok-candidate.field-0 (Some d) c.in-Some.is c.in_ok-candidate.ensures.best)
           c.in_ok-place-in-Some.ensures.world c.in_ok-place-in-Some.ensures.queue more
-          (passed c.next.new.steps c.rounds.steps q.entries c.entries.result.now c.entries.ensures c.in_ok-candidate.ensures.steps),
+          c.in_ok-candidate.ensures.steps,
       since-both c.args.world.now.world w c.place.new.world.world c.args.undo.now.backs c.rounds.undo.backs c.place.new.undo.backs c.rounds.invariant.1 c.place.ensures.since,
       since-joins c.args.queue.now.queue q c.place.new.queue.queue c.args.left.now c.rounds.left c.place.new.left c.rounds.invariant.2 c.place.ensures.queue_since,
       c.place.ensures.undoable,
@@ -72,7 +59,7 @@ returns-in-None-clause-settled g c =
     let w = c.rounds.world.world in
     let q = c.rounds.queue.queue in
     settling-done c.args.world.now.world c.args.queue.now.queue c.args.steps.now w q c.rounds.placed.items c.rounds.steps c.next.new.steps c.rounds.invariant.0
-    (none-of w q.entries c.entries.result.now c.in_ok-candidate.field-0 c.entries.ensures c.in-None.is c.in_ok-candidate.ensures.best)
+    (best-of w q.entries c.in_ok-candidate.field-0 None c.in-None.is c.in_ok-candidate.ensures.best)
     ∙ ap (λ ps. record { state = state_of w q; placed = ps }) (sym c.from_vec.ensures)
 
 pub returns-in-None-clause-steps : goal.returns-in-None-clause-steps
@@ -81,5 +68,5 @@ returns-in-None-clause-steps g c =
     let q = c.rounds.queue.queue in
     subst (λ ps. c.next.new.steps ≤ c.args.steps.now + (length ps + 1) * length c.args.queue.now.queue.entries) (sym c.from_vec.ensures)
     (settling-counted c.args.world.now.world c.args.queue.now.queue c.args.steps.now w q c.rounds.placed.items c.rounds.steps c.next.new.steps c.rounds.invariant.0
-    (none-of w q.entries c.entries.result.now c.in_ok-candidate.field-0 c.entries.ensures c.in-None.is c.in_ok-candidate.ensures.best)
-    (passed c.next.new.steps c.rounds.steps q.entries c.entries.result.now c.entries.ensures c.in_ok-candidate.ensures.steps))
+    (best-of w q.entries c.in_ok-candidate.field-0 None c.in-None.is c.in_ok-candidate.ensures.best)
+    c.in_ok-candidate.ensures.steps)

@@ -1,0 +1,55 @@
+-- Which tickets an index has: those of each student, and those that want each course.
+use Rattle.std.specs.Prelude.{◌≡◌, ℕ, Bool, true, false, ◌&&◌, ◌==◌, List, [], Option}
+use Rattle.std.specs.List.{list_any, list_all}
+use Rattle.std.specs.Option.{option_map_or}
+use Rattle.std.specs.Ordering.{nat_cmp}
+use Rattle.std.specs.BTreeMap.{BTreeMap, get}
+use Rattle.std.specs.Global.{Vec}
+use Rattle.sect_model.specs.declared.held.Waiting.{Waiting}
+use Rattle.sect_model.specs.Freer.{Among}
+use Rattle.sect_wait.specs.declared.index.Index.{Index}
+use Rattle.sect_wait.specs.Queued.{Queued, IsQueue}
+use Rattle.sect_wait.specs.Marked.{Marked, MarksKept, is_marked}
+
+-- the tickets that stand by a number
+abbrev pub tickets_by : BTreeMap ℕ (Vec ℕ) → ℕ → List ℕ
+tickets_by index number = option_map_or (λ tickets. tickets.items) (get nat_cmp index number) []
+
+-- whether the ticket is one of these
+abbrev pub has_ticket : ℕ → List ℕ → Bool
+has_ticket ticket tickets = list_any (λ t. t == ticket) tickets
+
+-- each ticket stands where it stood, and maybe elsewhere
+abbrev pub KeepsTickets : BTreeMap ℕ (Vec ℕ) → BTreeMap ℕ (Vec ℕ) → Type 0
+KeepsTickets before after = (number ticket : ℕ) → has_ticket ticket (tickets_by before number) ≡ true → has_ticket ticket (tickets_by after number) ≡ true
+
+-- each other ticket stands where it stood
+abbrev pub KeepsOtherTickets : ℕ → BTreeMap ℕ (Vec ℕ) → BTreeMap ℕ (Vec ℕ) → Type 0
+KeepsOtherTickets ticket before after =
+    (number other : ℕ) → other == ticket ≡ false → has_ticket other (tickets_by before number) ≡ true → has_ticket other (tickets_by after number) ≡ true
+
+-- the entry's ticket stands by its student, and by each course of its want
+abbrev pub is_indexed : Index → Waiting → Bool
+is_indexed i e = has_ticket e.ticket (tickets_by i.students e.student.0) && list_all (λ c. has_ticket e.ticket (tickets_by i.courses c.0)) e.want.courses
+
+-- the index, where it is whole, has each of the entries
+abbrev pub IsIndexOf : Index → List Waiting → Type 0
+IsIndexOf i entries = i.whole ≡ true → (e : Waiting) → Among entries e → is_indexed i e ≡ true
+
+-- the entries and the next ticket are those of a queue, and the index is theirs
+pub record IsIndexed (q : Queued) (i : Index) : Type 0 where
+  pub queue : IsQueue q
+  pub index : IsIndexOf i q.entries
+
+-- the ticket is one of those that are told; where none are told, all tickets are meant
+abbrev pub is_told : Option (List ℕ) → ℕ → Bool
+is_told tickets ticket = option_map_or (has_ticket ticket) tickets true
+
+-- the tickets of the entries that pass the test are told
+abbrev pub AreTold : (Waiting → Bool) → List Waiting → Option (List ℕ) → Type 0
+AreTold test entries tickets = (e : Waiting) → Among entries e → is_told tickets e.ticket ≡ false → test e ≡ false
+
+-- no mark is taken off, and the tickets that are told are marked
+pub record MarksTold (tickets : Option (List ℕ)) (before after : Marked) : Type 0 where
+  pub kept : MarksKept before after
+  pub added : (ticket : ℕ) → is_marked after ticket ≡ false → is_told tickets ticket ≡ false
