@@ -1,5 +1,5 @@
 -- Talks one after another.
-use Rattle.std.proofs.Common.{◌≡◌, ◌≤◌, ◌<◌, ◌⊎◌, ℕ, ◌+◌, ◌-◌, List, [], ◌∷◌, ◌++◌, length, map, Option, Some, None, refl, sym, ap, ◌∙◌, subst, append_assoc, append-nil, length-append, arith}
+use Rattle.std.proofs.Common.{◌≡◌, ◌≤◌, ◌<◌, ◌⊎◌, ℕ, ◌+◌, ◌-◌, List, [], ◌∷◌, ◌++◌, length, map, Option, Some, None, refl, sym, inr, ap, ◌∙◌, subst, append_assoc, append-nil, length-append, arith}
 use Rattle.std.specs.List.{concat}
 use Rattle.std.proofs.lemmas.List.{map-append}
 use Rattle.sect_answer.specs.Answering.{Sitting}
@@ -15,7 +15,7 @@ use Rattle.sect_talk.specs.Talk.{Talked}
 use Rattle.sect_talk.specs.declared.end.End.{End}
 use Rattle.sect_talk.specs.declared.end.End.TheVariants.{ReadFault, WriteFault}
 use Rattle.sect_serve.specs.Talks.{Talk, Follow, HandsBack}
-use Rattle.sect_serve.specs.Working.{IsWorkerEnd, NoneToCome, Underway, WorkerDid, Works, at_first}
+use Rattle.sect_serve.specs.Working.{Attends, IsWorkerEnd, NoneToCome, Underway, WorkerDid, Works, at_first}
 use Rattle.sect_serve.specs.declared.server.WorkerEnd.{WorkerEnd}
 use Rattle.sect_serve.specs.declared.server.WorkerEnd.TheVariants.{Done, Failed, Memory}
 
@@ -36,6 +36,13 @@ end_is_same (Some old) new (none, is) = is
 pub none_comes : {C : Type 0} (old new : Option (Connections C)) → Ends old new → NoneToCome new
 none_comes None new is = subst NoneToCome (sym is) tt
 none_comes (Some old) new (none, is) = subst NoneToCome (sym is) none
+
+-- what ended a worker since its last talk ended it since its first
+ended_since : {C : Type 0} (end : WorkerEnd) (told : Option (Connections C)) (count count_mid count' talks sessions : ℕ) → count ≤ count_mid
+    → IsWorkerEnd end told count_mid count' talks sessions → IsWorkerEnd end told count count' talks sessions
+ended_since Done told count count_mid count' talks sessions more ended = ended
+ended_since Failed told count count_mid count' talks sessions more ended = omega (arith, more, ended)
+ended_since Memory told count count_mid count' talks sessions more ended = tt
 
 module _ {I T : Type 0} (answers : Sitting → Asked → Said → Sitting → Type 0)
     (left : I → Option (List ℕ)) (taken : T → Option (List ℕ)) (in_faults : I → ℕ) (out_faults : T → ℕ) where
@@ -130,6 +137,25 @@ module _ {I T : Type 0} (answers : Sitting → Asked → Said → Sitting → Ty
         many = refl;
         later = omega (arith, more, more');
       }
+
+  -- a worker that ended behind some talks
+  pub worked : (told mid told' : Option (Connections (I × T))) (count count_mid count' : ℕ) (a b c : Sitting) (i j k n sessions : ℕ) (end : WorkerEnd)
+      → Underway answers left taken in_faults out_faults told mid count count_mid a b i j n → n ≤ sessions
+      → Attends answers left taken in_faults out_faults mid told' count_mid count' b c j k (Some end)
+      → Works answers left taken in_faults out_faults told told' count count' a c i k sessions end
+  worked told mid told' count count_mid count' a b c i j k n sessions end h few (kept, more, same, at, ended) =
+      let follow = subst (λ m. Follow answers left taken in_faults out_faults a i h.talks c m) (sym at) (subst (λ s. Follow answers left taken in_faults out_faults a i h.talks s j) (sym same) h.follow) in (
+        n,
+        record { talks = h.talks; follow = follow; back = subst (λ w. HandsBack answers left taken in_faults out_faults told w h.talks) (sym kept) h.back; many = h.many; later = omega (arith, h.later, more) },
+        few,
+        ended_since end told' count count_mid count' n sessions h.later (ended n sessions),
+      )
+
+  -- a worker that has talked as often as it may
+  pub worked_through : (told told' : Option (Connections (I × T))) (count count' : ℕ) (a b : Sitting) (i j sessions : ℕ)
+      → Underway answers left taken in_faults out_faults told told' count count' a b i j sessions
+      → Works answers left taken in_faults out_faults told told' count count' a b i j sessions Done
+  worked_through told told' count count' a b i j sessions h = (sessions, h, omega arith, inr refl)
 
   -- a worker that ended
   pub did_work : (told told' : Option (Connections (I × T))) (count count' : ℕ) (days : Option (List ℕ)) (own : List ℕ) (front : List (Note Command Reply)) (new : Sitting)

@@ -112,7 +112,7 @@ fn work<O: RequestObject, K: Keeper, L: Link, C: Clock, G: Gate, R: Wait>(
         (sitting pass.old (C.days clock.old)) (sitting pass.new (C.days clock.new)) 0 next sessions result }
 {
     let mut step = 0;
-    for _count in 0..sessions {
+    for count in 0..sessions {
         let end = attend(
             rt, office, pass, link, clock, gate, worker, &mut step, bench,
         );
