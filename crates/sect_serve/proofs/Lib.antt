@@ -1,0 +1,4 @@
+mod Attending
+mod Closing
+mod Fronts
+mod Workers

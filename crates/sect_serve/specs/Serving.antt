@@ -41,10 +41,6 @@ SomeRose faults [] backs = ⊥
 SomeRose faults (link ∷ links) [] = ⊥
 SomeRose faults (link ∷ links) (back ∷ backs) = Rose (faults link) (faults back) ⊎ SomeRose faults links backs
 
--- each entry has one row at most
-abbrev pub HasOneRow : {C R : Type 0} → (Entry C R → List ℕ → Type 0) → Type 0
-HasOneRow {C} {R} is_row = (e : Entry C R) (a b : List ℕ) → is_row e a → is_row e b → a ≡ b
-
 module _ {I T L : Type 0} (answers : Sitting → Asked → Said → Sitting → Type 0)
     (left : I → Option (List ℕ)) (taken : T → Option (List ℕ)) (in_faults : I → ℕ) (out_faults : T → ℕ)
     (connections : L → Option (Connections (I × T))) (faults : L → ℕ) where
@@ -85,6 +81,6 @@ module _ {I T L S K : Type 0} (start : S) (stepped : S → ℕ → Caller → Co
     pub base : last.base ≡ opened.base
     pub back_is : back ≡ last.keeper
     -- the rows with which it was opened stand before those that were won
-    pub begins : HasOneRow is_row → (old new : List (List ℕ)) → rows opened.keeper ≡ Some old → rows back ≡ Some new → IsPrefix old new
+    pub begins : (old new : List (List ℕ)) → rows opened.keeper ≡ Some old → rows back ≡ Some new → IsPrefix old new
     -- a request is faulted only where the keeper's count rose
     pub quiet : (Rose opened.base (keeper_faults back) → ⊥) → faulted last.log ≡ 0

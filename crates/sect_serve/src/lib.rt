@@ -1,6 +1,7 @@
 //! Many links, each served by a worker of its own, at one desk.
 #![tactic(auto)]
 
+mod collect;
 mod server;
 mod serving;
 

@@ -8,7 +8,6 @@ ghost use Rattle.sect_office.specs.Calls.{AddsCalls};
 ghost use Rattle.sect_turn.specs.Passes.{front, opening, own_calls, share, IsIdle, IsPassOf};
 ghost use Rattle.sect_serve.specs.Working.{Attends, Underway, WorkerDid, Works};
 
-use sect_base::Memory;
 use sect_command::{Command, Query, Reply, View};
 use sect_edge::{Clock, Gate, Keeper, Link, LinkFault};
 use sect_http::{Bench, talk};
@@ -78,12 +77,15 @@ impl<'a, O: RequestObject, K: Keeper, L: Link + Send + Drop, C: Clock + Drop, G:
             worker,
             sessions,
         } = self;
-        let end = match Bench::new(alloc) {
-            Ok(mut bench) => work(
-                rt, office, pass, &mut link, &mut clock, gate, worker, sessions, &mut bench,
-            ),
-            Err(_) => WorkerEnd::Memory,
+        let Ok(mut bench) = Bench::new(alloc) else {
+            return Back {
+                link,
+                end: WorkerEnd::Memory,
+            };
         };
+        let end = work(
+            rt, office, pass, &mut link, &mut clock, gate, worker, sessions, &mut bench,
+        );
         Back { link, end }
     }
 }
@@ -110,7 +112,7 @@ fn work<O: RequestObject, K: Keeper, L: Link, C: Clock, G: Gate, R: Wait>(
         (sitting pass.old (C.days clock.old)) (sitting pass.new (C.days clock.new)) 0 next sessions result }
 {
     let mut step = 0;
-    for _count in 0..sessions {
+    for count in 0..sessions {
         let end = attend(
             rt, office, pass, link, clock, gate, worker, &mut step, bench,
         );

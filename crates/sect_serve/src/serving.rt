@@ -1,10 +1,17 @@
 // Many links at one desk.
-ghost use Rattle.std.specs.Prelude.{◌≡◌, ◌≢◌, ◌≤◌, ◌<◌, IfSome, IsSome, length, map, take, vec_len};
+ghost use Rattle.std.specs.Prelude.{◌≡◌, ◌≢◌, ◌≤◌, ◌<◌, ℕ, List, [], All, IfSome, IsSome, length, map, take, vec_capacity, vec_len};
+ghost use mathlib.Core.List.{IsPrefix};
+ghost use Rattle.sect_command.specs.declared.command.Command.{Command};
+ghost use Rattle.sect_command.specs.declared.reply.Reply.{Reply};
 ghost use Rattle.sect_http.specs.Answers.{Answers};
-ghost use Rattle.sect_serve.specs.Serving.{Serves};
+ghost use Rattle.sect_once.specs.declared.entry.Note.{Note};
+ghost use Rattle.sect_once.specs.Desks.{IsSound, Standing};
+ghost use Rattle.sect_turn.specs.Passes.{front, opening, own_calls, share, IsIdle, IsPassOf};
+ghost use Rattle.sect_turn.specs.Rule.{whole_share};
+ghost use Rattle.sect_serve.specs.Serving.{HaveServed, Serves};
 
-use crate::server::{Back, RequestObject, Server, WorkerEnd};
-use sect_base::Memory;
+use crate::collect::{collect, links_of, rooms, servers};
+use crate::server::{RequestObject, Server};
 use sect_edge::{Clock, Gate, Keeper, Link};
 use sect_office::{Office, run_all};
 use sect_once::{Desk, Object};
@@ -47,6 +54,8 @@ pub fn serve<
 where
     O: Drop,
     O::Undo: Send,
+    L::In: Send,
+    L::Out: Send,
     requires links { (0 < vec_len links) × (vec_len links ≤ 64) }
     requires clocks { vec_len links ≤ vec_len clocks }
     ensures serves { IfSome result.1 (λ back. Serves O.start O.stepped O.is_row K.rows K.faults (Answers O.start O.stepped O.is_row O.looked)
@@ -54,5 +63,103 @@ where
         desk back links.items result.2.items (take (length links.items) (map C.days clocks.items)) sessions result.0) }
     ensures keeper { result.0 ≢ ServeEnd.Memory → IsSome result.1 }
 {
-    loop {}
+    desk.is_sound();
+    let Ok((works, backs)) = rooms(alloc, links.len()) else {
+        return (ServeEnd::Memory, Some(desk.close()), links);
+    };
+    match Office::open(alloc, desk) {
+        Ok((office, pass)) => {
+            let works = servers(alloc, links, clocks, sessions, gate, works);
+            serve_at(rt, alloc, office, pass, works, backs, sessions)
+        }
+        Err((_, desk)) => (ServeEnd::Memory, Some(desk.close()), links),
+    }
+}
+
+// Lets the workers serve at an office, and closes it.
+fn serve_at<
+    'a,
+    O: RequestObject + Send,
+    K: Keeper + Send,
+    L: Link + Send + Drop,
+    C: Clock + Send + Drop,
+    G: Gate + Sync,
+    R: Threads + Wait + Sync,
+>(
+    rt: &R,
+    alloc: Global,
+    office: Office<O, K>,
+    pass: Pass<Desk<O, K>>,
+    works: Vec<Server<'a, L, C, G>>,
+    backs: Vec<L>,
+    sessions: u32,
+) -> (ServeEnd, Option<K>, Vec<L>)
+where
+    O: Drop,
+    O::Undo: Send,
+    L::In: Send,
+    L::Out: Send,
+    requires turn { IsPassOf (λ d. d.log) (λ d. d.base) office.turn pass × IsIdle pass }
+    requires fresh { (own_calls pass ≡ []) × (share pass ≡ whole_share) }
+    requires works { (0 < vec_len works) × (vec_len works ≤ 64) × All (λ s. s.sessions ≡ sessions) works.items }
+    requires room { (backs.items ≡ []) × (vec_len works ≤ vec_capacity backs) }
+    ensures serves { (opened : Standing O.State Command Reply K) → IsSound O.stepped O.is_row K.rows K.faults O.start opened
+        → front pass ≡ opened.log → opening pass ≡ (length opened.log, opened.base)
+        → IfSome result.1 (λ back. Serves O.start O.stepped O.is_row K.rows K.faults (Answers O.start O.stepped O.is_row O.looked)
+        L.In.left L.Out.taken L.In.faults L.Out.faults L.connections L.faults
+        opened back (map (λ s. s.link) works.entry.items) result.2.items (map (λ s. C.days s.clock) works.entry.items) sessions result.0) }
+    ensures keeper { result.0 ≢ ServeEnd.Memory → IsSome result.1 }
+{
+    let (pass, end, backs) = work_all(rt, alloc, &office, pass, works, backs, sessions);
+    match office.close(pass) {
+        Ok(desk) => {
+            desk.is_sound();
+            (end, Some(desk.close()), backs)
+        }
+        Err(_) => (ServeEnd::Memory, None, backs),
+    }
+}
+
+// Lets the workers serve at an office, and puts their links into `backs`, in order.
+fn work_all<
+    'a,
+    O: RequestObject + Send,
+    K: Keeper + Send,
+    L: Link + Send + Drop,
+    C: Clock + Send + Drop,
+    G: Gate + Sync,
+    R: Threads + Wait + Sync,
+>(
+    rt: &R,
+    alloc: Global,
+    office: &Office<O, K>,
+    pass: Pass<Desk<O, K>>,
+    works: Vec<Server<'a, L, C, G>>,
+    backs: Vec<L>,
+    sessions: u32,
+) -> (Pass<Desk<O, K>>, ServeEnd, Vec<L>)
+where
+    O::Undo: Send,
+    L::In: Send,
+    L::Out: Send,
+    requires turn { IsPassOf (λ d. d.log) (λ d. d.base) office.now.turn pass × IsIdle pass }
+    requires fresh { (own_calls pass ≡ []) × (share pass ≡ whole_share) }
+    requires works { (0 < vec_len works) × (vec_len works ≤ 64) × All (λ s. s.sessions ≡ sessions) works.items }
+    requires room { (backs.items ≡ []) × (vec_len works ≤ vec_capacity backs) }
+    ensures turn { IsPassOf (λ d. d.log) (λ d. d.base) office.now.turn result.0 × IsIdle result.0 }
+    ensures same { (share result.0 ≡ share pass) × (opening result.0 ≡ opening pass) }
+    ensures grown { IsPrefix (front pass) (front result.0) }
+    ensures served { (log : List (Note Command Reply)) → IsPrefix (front result.0) log
+        → HaveServed (Answers O.start O.stepped O.is_row O.looked) L.In.left L.Out.taken L.In.faults L.Out.faults L.connections L.faults
+        (map (λ s. s.link) works.entry.items) result.2.items (map (λ s. C.days s.clock) works.entry.items) sessions result.1
+        (front pass) log (own_calls result.0) }
+{
+    let (pass, ran) = run_all(rt, alloc, office, pass, works);
+    match ran {
+        Ok(given) => {
+            let (end, backs) = collect(given, backs);
+            (pass, end, backs)
+        }
+        Err((_, works)) => (pass, ServeEnd::Memory, links_of(works, backs)),
+    }
 }
