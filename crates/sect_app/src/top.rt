@@ -75,25 +75,25 @@ pub fn desk<
     ensures back { result.0 ≢ Status.Memory → IsSome result.1 }
 {
     what_is_asked_is_in_range();
-    let Some(asked) = read_words(words) else {
-        return (Status::BadWords, Some(keeper), links);
-    };
-    match sessions_in(asked) {
-        Some(sessions) => serve_desk(rt, rt.alloc(), keeper, links, clocks, sessions, gate),
-        None => {
-            let clock = first_of(clocks);
-            let (status, keeper) = do_asked(rt.alloc(), asked, source, sink, keeper, clock);
-            (status, Some(keeper), links)
-        }
+    match read_words(words) {
+        None => (Status::BadWords, Some(keeper), links),
+        Some(asked) => match sessions_in(&asked) {
+            Some(sessions) => serve_desk(rt, rt.alloc(), keeper, links, clocks, sessions, gate),
+            None => {
+                let clock = first_of(clocks);
+                let (status, keeper) = do_asked(rt.alloc(), asked, source, sink, keeper, clock);
+                (status, Some(keeper), links)
+            }
+        },
     }
 }
 
 // How many connections each worker serves at most, where connections are served.
-fn sessions_in(asked: Words) -> Option<u32>
-    ensures { result ≡ sessions_of asked }
+fn sessions_in(asked: &Words) -> Option<u32>
+    ensures { result ≡ sessions_of asked.now }
 {
     match asked {
-        Words::Serve { sessions, .. } => Some(sessions),
+        Words::Serve { sessions, .. } => Some(*sessions),
         _ => None,
     }
 }

@@ -5,5 +5,4 @@ pub mod MoveLemmas
 pub mod OpeningLemmas
 pub mod PlaceLemmas
 pub mod StepLemmas
-pub mod SwapLemmas
 pub mod TrackLemmas

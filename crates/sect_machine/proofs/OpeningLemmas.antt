@@ -28,7 +28,6 @@ use Rattle.sect_model.specs.Settle.{found_in, make_move, without}
 use Rattle.sect_model.specs.Fits.{Fits, changed}
 use Rattle.sect_model.specs.Kept.{KeptWorld, KeptState, entry_fits}
 use Rattle.sect_model.specs.Accepted.{CommandFits}
-use Rattle.sect_model.specs.Premises.{MoveFits}
 use Rattle.sect_model.specs.Step.{Acted, act, moved, enrolled, enrol_move}
 use Rattle.sect_model.specs.Freer.{Among, NoMove, may_open, flips, wants}
 use Rattle.sect_model.proofs.Members
@@ -38,8 +37,7 @@ use Rattle.sect_model.proofs.FreerIndex.{wants-listed}
 use Rattle.sect_wait.specs.Queued.{Queued, new_entry, state_of}
 use Rattle.sect_wait.specs.Marked.{Marked, is_marked, OthersHaveNoMove, MarksKept, MarksMore, concerns}
 use Rattle.sect_wait.proofs.MarkLemmas.{changed-others, among-append, others-without}
-use Rattle.sect_machine.proofs.SwapLemmas.{move-others}
-use Rattle.sect_machine.specs.Opening.{opens, opened, enrolled_opens, swapped_opens, is_joined, reserved_in, restricted_in}
+use Rattle.sect_machine.specs.Opening.{opens, opened, enrolled_opens, is_swapped, is_joined, reserved_in, restricted_in}
 
 no : {P : Type 0} → true ≡ false → P
 no h = absurd (differ h)
@@ -115,14 +113,11 @@ module _ (s : State) (k : KeptState s) (m n l : Marked) (others : OthersHaveNoMo
   by-enrolment student want budget (blocked tree visits) e known before after = same-world before after.kept
   by-enrolment student want budget (spent b) e known before after = same-world before after.kept
 
-  by-swap : (mv : Move) (budget : ℕ) (o : Outcome) → outcome_of s.world mv budget ≡ o → MoveFits s.world mv → MarksKept m n
-      → MarksMore (swapped_opens (moved s mv Swapped o).state.world mv.student mv.give (moved s mv Swapped o).reply) (moved s mv Swapped o).state.entries n l
+  by-swap : (mv : Move) (o : Outcome) → MarksKept m n → MarksMore (λ e. is_swapped (moved s mv Swapped o).reply) (moved s mv Swapped o).state.entries n l
       → OthersHaveNoMove (moved s mv Swapped o).state.world (moved s mv Swapped o).state.entries l
-  by-swap mv budget (Found choices visits) is fits before after =
-      move-others s.world s.entries mv choices m l k.world k.entries_fit fits (found-allowed s.world mv budget choices (ap found_in is)) others
-      (record { kept = λ t unmarked. before t (after.kept t unmarked); added = after.added })
-  by-swap mv budget (blocked tree visits) is fits before after = same-world before after.kept
-  by-swap mv budget (spent b) is fits before after = same-world before after.kept
+  by-swap mv (Found choices visits) before after = λ e a unmarked. no (after.added e a unmarked)
+  by-swap mv (blocked tree visits) before after = same-world before after.kept
+  by-swap mv (spent b) before after = same-world before after.kept
 
   by-cancel : (id : SectionId) (b : Bool) → is_cancelled s.world.catalogue id ≡ b → (is_cancelled s.world.catalogue id ≡ false → Fits s.world (Cancelled id)) → MarksMore (λ e. false) s.entries m n → MarksKept n l
       → OthersHaveNoMove (cancel s.world id) s.entries l
@@ -162,7 +157,7 @@ module _ (s : State) (k : KeptState s) (m n l : Marked) (others : OthersHaveNoMo
       one-change (Leave student course) (λ e. may_open s.world e (Leave student course)) fits (λ e h. h) before after.kept
   act-others (Swap student give take budget) fits before after =
       let mv : Move = record { student = student; give = give; take = take } in
-      by-swap mv budget (outcome_of s.world mv budget) refl fits before.kept after
+      by-swap mv (outcome_of s.world mv budget) before.kept after
   act-others (Wait student want give class) fits before after = by-join (new_entry s.next student want give class) before.kept after
   act-others (Unwait student ticket) fits before after = others-without s.world s.entries l ticket (same-world before.kept after.kept)
   act-others (Batch students) fits before after = λ e a unmarked. no (after.added e a unmarked)

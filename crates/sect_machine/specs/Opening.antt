@@ -1,13 +1,12 @@
 -- The entries that a command may give a move: what marks them before it acts, and after it.
-use Rattle.std.specs.Prelude.{◌==◌, ◌||◌, Bool, true, false, List, Option, None, Some}
-use Rattle.std.specs.List.{list_any}
+use Rattle.std.specs.Prelude.{◌==◌, Bool, true, false, Option, None, Some}
 use Rattle.std.specs.Option.{option_and_then}
 use Rattle.sect_catalog.specs.Catalogue.{find_offering}
 use Rattle.sect_command.specs.declared.command.Command.{Command}
 use Rattle.sect_command.specs.declared.command.Command.TheVariants.{Offering, Student as student_row, Requests, Reserve, Unreserve, Expire, Restrict, Unrestrict, SetLimit, Cancel, Enrol, Drop, Swap, Wait, Unwait, Batch}
 use Rattle.sect_command.specs.declared.reply.Reply.{Reply}
 use Rattle.sect_command.specs.declared.reply.Reply.TheVariants.{Amended, Enrolled, Dropped, Swapped, Waiting as waits, Placed, Batched, Blocked, Spent, Refused}
-use Rattle.sect_model.specs.Data.{StudentId, CourseId, ReservationId, RestrictionId, OfferingRow, Choice}
+use Rattle.sect_model.specs.Data.{StudentId, ReservationId, RestrictionId, OfferingRow}
 use Rattle.sect_model.specs.declared.held.Waiting.{Waiting}
 use Rattle.sect_model.specs.declared.change.Change.TheVariants.{Enrol as new_enrolment, Leave}
 use Rattle.sect_model.specs.World.{World, reservation_of}
@@ -55,26 +54,18 @@ enrolled_opens w student (Blocked visits tree) e = false
 enrolled_opens w student (Spent budget) e = false
 enrolled_opens w student (Refused refusal) e = false
 
--- what the student's leaving the courses may open
-abbrev pub given_opens : World → StudentId → List CourseId → Waiting → Bool
-given_opens w student courses e = list_any (λ c. may_open w e (Leave student c)) courses
-
--- what the student's enrolments by the choices may open
-abbrev pub taken_opens : World → StudentId → List Choice → Waiting → Bool
-taken_opens w student choices e = list_any (λ c. may_open w e (new_enrolment (record { student = student; choice = c }))) choices
-
--- a swap that was made may open what its leavings and enrolments may
-abbrev pub swapped_opens : World → StudentId → List CourseId → Reply → Waiting → Bool
-swapped_opens w student give Amended e = false
-swapped_opens w student give (Enrolled choice) e = false
-swapped_opens w student give (Dropped course) e = false
-swapped_opens w student give (Swapped choices) e = given_opens w student give e || taken_opens w student choices e
-swapped_opens w student give (waits ticket) e = false
-swapped_opens w student give (Placed ticket choice) e = false
-swapped_opens w student give (Batched lines) e = false
-swapped_opens w student give (Blocked visits tree) e = false
-swapped_opens w student give (Spent budget) e = false
-swapped_opens w student give (Refused refusal) e = false
+-- a swap that was made may open everything
+abbrev pub is_swapped : Reply → Bool
+is_swapped Amended = false
+is_swapped (Enrolled choice) = false
+is_swapped (Dropped course) = false
+is_swapped (Swapped choices) = true
+is_swapped (waits ticket) = false
+is_swapped (Placed ticket choice) = false
+is_swapped (Batched lines) = false
+is_swapped (Blocked visits tree) = false
+is_swapped (Spent budget) = false
+is_swapped (Refused refusal) = false
 
 -- the entry is the one that joined
 abbrev pub is_joined : Reply → Waiting → Bool
@@ -103,7 +94,7 @@ opened w (SetLimit cap limit) reply e = false
 opened w (Cancel id) reply e = false
 opened w (Enrol student want budget) reply e = enrolled_opens w student reply e
 opened w (Drop student course) reply e = false
-opened w (Swap student give take budget) reply e = swapped_opens w student give reply e
+opened w (Swap student give take budget) reply e = is_swapped reply
 opened w (Wait student want give class) reply e = is_joined reply e
 opened w (Unwait student ticket) reply e = false
 opened w (Batch students) reply e = true

@@ -6,9 +6,9 @@ ghost use Rattle.sect_model.specs.Freer.{flips as is_flipping, may_open};
 ghost use Rattle.sect_model.specs.declared.change.Change.TheVariants.{Day as NextDay};
 ghost use Rattle.sect_model.specs.declared.held.Waiting.{Waiting as Entry};
 ghost use Rattle.sect_wait.specs.Marked.{MarksMore};
-ghost use Rattle.sect_machine.specs.Opening.{enrolled_opens, given_opens, is_joined as is_new, opened, opens, reserved_in as reserved_offering, restricted_in as restricted_offering, swapped_opens, taken_opens};
+ghost use Rattle.sect_machine.specs.Opening.{enrolled_opens, is_joined as is_new, is_swapped as is_swap, opened, opens, reserved_in as reserved_offering, restricted_in as restricted_offering};
 
-use sect_base::{Choice, CourseId, Memory, ReservationId, RestrictionId, StudentId};
+use sect_base::{Memory, ReservationId, RestrictionId, StudentId};
 use sect_catalog::OfferingRow;
 use sect_command::{Command, Reply};
 use sect_model::Enrolment;
@@ -116,11 +116,14 @@ pub fn mark_after(
             budget: _,
         } => mark_enrolled(world, queue, *student, reply, marks),
         Command::Swap {
-            student,
-            give,
+            student: _,
+            give: _,
             take: _,
             budget: _,
-        } => mark_swapped(world, queue, *student, give.as_slice(), reply, marks),
+        } => {
+            mark_swapped(reply, marks);
+            Ok(())
+        }
         Command::Wait {
             student: _,
             want: _,
@@ -155,58 +158,13 @@ fn mark_enrolled(
     Ok(())
 }
 
-/// Marks what a swap may have opened, where it was made.
-fn mark_swapped(
-    world: &World,
-    queue: &Queue,
-    student: StudentId,
-    give: &[CourseId],
-    reply: &Reply,
-    marks: &mut Marks,
-) -> Result<(), Memory>
-    ensures { OnOk result (MarksMore (swapped_opens world.now.world student give.now reply.now) queue.now.queue.entries marks.old marks.new) }
+/// Marks all entries where a swap was made.
+fn mark_swapped(reply: &Reply, marks: &mut Marks)
+    ensures { (entries : List Entry) → MarksMore (λ e. is_swap reply.now) entries marks.old marks.new }
 {
-    if let Reply::Swapped(choices) = reply {
-        mark_given(world, queue, student, give, marks)?;
-        return mark_taken(world, queue, student, choices.as_slice(), marks);
+    if let Reply::Swapped(_) = reply {
+        marks.mark_all();
     }
-    Ok(())
-}
-
-/// Marks what the student's leaving the courses may have opened.
-fn mark_given(
-    world: &World,
-    queue: &Queue,
-    student: StudentId,
-    courses: &[CourseId],
-    marks: &mut Marks,
-) -> Result<(), Memory>
-    ensures { OnOk result (MarksMore (given_opens world.now.world student courses.now) queue.now.queue.entries marks.old marks.new) }
-{
-    for course in courses {
-        mark_leaving(world, queue, student, *course, marks)?;
-    }
-    Ok(())
-}
-
-/// Marks what the student's enrolments by the choices may have opened.
-fn mark_taken(
-    world: &World,
-    queue: &Queue,
-    student: StudentId,
-    choices: &[Choice],
-    marks: &mut Marks,
-) -> Result<(), Memory>
-    ensures { OnOk result (MarksMore (taken_opens world.now.world student choices.now) queue.now.queue.entries marks.old marks.new) }
-{
-    for choice in choices {
-        let enrolment = Enrolment {
-            student,
-            choice: *choice,
-        };
-        mark_enrolment(world, queue, &enrolment, marks)?;
-    }
-    Ok(())
 }
 
 /// Marks the entry that joined.

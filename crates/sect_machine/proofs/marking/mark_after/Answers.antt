@@ -1,10 +1,15 @@
--- What a wait marks, of these entries.
+-- What a swap and a wait mark, of these entries.
 use Rattle.std.proofs.Common.{OnOk, subst, sym}
 use Rattle.sect_command.specs.declared.command.Command.{Command}
 use Rattle.sect_wait.specs.Marked.{MarksMore}
 use Rattle.sect_wait.proofs.MarkLemmas.{on-ok}
 use Rattle.sect_machine.specs.Opening.{opened}
 use Rattle.sect_machine.proofs.marking.mark_after.Goals as goal
+
+pub returns-in-Swap : goal.returns-in-Swap
+returns-in-Swap c =
+    subst (λ (x : Command). MarksMore (opened c.args.world.now.world x c.args.reply.now) c.args.queue.now.queue.entries c.args.marks.now c.mark_swapped.new.marks) (sym c.in-Swap.is)
+    (c.mark_swapped.ensures c.args.queue.now.queue.entries)
 
 pub returns-in-Wait : goal.returns-in-Wait
 returns-in-Wait c =
