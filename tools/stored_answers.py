@@ -1,14 +1,13 @@
 #!/usr/bin/env python3
-"""What a second computation of the desk in Python answers to the input of test_machine, test_plan, test_tables, test_usage
-and test_bodies.
+"""What a second computation of the desk in Python answers to the input of test_machine, test_tables, test_usage and
+test_bodies.
 
   stored_answers.py --oracle FOLDER                      compares the stored answers with the second computation's
   stored_answers.py --oracle FOLDER --write              writes them
   stored_answers.py --oracle FOLDER --add CRATE A..B     adds inputs of the oracle's fuzzer with these seeds to the crate's
 
 test_machine: a line that begins with `#` begins a new machine, one with `= ` asks for a report, one with `? ` has a tree
-that is held against the request before it; each other line is a request. test_plan has `= plan STUDENT BUDGET` beside
-these.
+that is held against the request before it; each other line is a request.
 test_tables: a line `# NAME` begins a new machine, `< TABLE` begins a text of that table, whose lines follow, `> TABLE` asks
 for an export.
 test_usage: each line is a list of words with bars between them, and `(none)` is the list without words.
@@ -63,7 +62,7 @@ def report(machine, words):
     import reports
     kind, *ids = words.split(" ")
     known = {"roll": reports.roll, "open": reports.open_, "schedule": reports.schedule,
-             "waiting": reports.waiting, "unmet": reports.unmet, "plan": reports.plan}
+             "waiting": reports.waiting, "unmet": reports.unmet}
     if kind not in known:
         return "no report\n"
     return known[kind](machine, *map(int, ids))
@@ -305,7 +304,7 @@ def body_answers(lines):
             yield answer_told(line) + "\n"
 
 
-ANSWERS = {"test_machine": machine_answers, "test_plan": machine_answers, "test_tables": table_answers, "test_usage": usage_answers,
+ANSWERS = {"test_machine": machine_answers, "test_tables": table_answers, "test_usage": usage_answers,
            "test_bodies": body_answers}
 
 

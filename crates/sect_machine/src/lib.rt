@@ -12,7 +12,6 @@ mod marking;
 mod moves;
 mod object;
 mod place;
-mod plan;
 mod recheck;
 mod replies;
 mod reserved;

@@ -1,8 +1,5 @@
--- What a view or a plan tells of a history.
+-- What a view tells of a history.
 use Rattle.std.specs.Prelude.{◌≡◌, ℕ, List}
-use Rattle.sect_base.specs.declared.ids.StudentId.{StudentId}
-use Rattle.sect_best.specs.Plan.{plan_of}
-use Rattle.sect_best.specs.Text.{student_plan_text}
 use Rattle.sect_command.specs.declared.command.Command.{Command}
 use Rattle.sect_command.specs.declared.reply.Reply.{Reply}
 use Rattle.sect_command.specs.declared.view.Query.{Query}
@@ -21,7 +18,3 @@ IsReport query es text = text ≡ report_text query (look (state_of es) query)
 -- the rows of a table, of the state after the history
 abbrev pub IsExport : Table → List (Entry Command Reply) → List ℕ → Type 0
 IsExport table es text = text ≡ table_text table (look (state_of es) (Rows table))
-
--- the best whole schedule of a student, in the world after the history
-abbrev pub IsPlan : StudentId → ℕ → List (Entry Command Reply) → List ℕ → Type 0
-IsPlan student budget es text = text ≡ student_plan_text student (plan_of (state_of es).world student budget)
