@@ -22,8 +22,8 @@ pub fn a_full_budget_is_not_spent()
     ensures { FullIsEnough }
 {}
 
-/// Where no request has passed the budget, no list of course requests that has a plan is lexicographically greater, as truth
-/// values by position, than the list of those kept.
+/// Where no request has passed the budget, no list of course requests that has a plan is lexicographically greater, as
+/// truth values by position, than the list of those kept.
 pub fn no_plan_is_greater()
     ensures { NoPlanIsGreater }
 {}

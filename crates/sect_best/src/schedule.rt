@@ -1,4 +1,5 @@
-// The best whole schedule: the course requests are taken one after the other, and each is kept where there is a plan with it.
+// The best whole schedule: the course requests are taken one after the other, and each is kept where there is a plan
+// with it.
 
 ghost use Rattle.std.specs.Prelude.{◌≡◌, ◌≤◌, ◌<◌, ◌+◌, ◌++◌, ◌∷◌, [], length, map, IfOk, IsTrue};
 ghost use Rattle.std.specs.List.{list_all};
@@ -24,8 +25,8 @@ use std::sync::ledger::{Blank, Ledger};
 
 /// A line for each course request of a known student, by position, planned as if the student held nothing: a request is
 /// kept where the requests kept before it and it have a plan, and the search for the first one visits at most
-/// `budget` decisions. The kept requests have the choices of the last plan. The one error is want of memory, and the world
-/// is as before after every answer.
+/// `budget` decisions. The kept requests have the choices of the last plan. The trees of the others nest at most 180
+/// deep. The one error is want of memory, and the world is as before after every answer.
 pub fn best(
     alloc: Global,
     world: &mut World,
