@@ -33,6 +33,9 @@ pub(crate) fn serve_desk<
     sessions: u32,
     gate: &G,
 ) -> (Status, Option<K>, Vec<L>)
+where
+    L::In: Send,
+    L::Out: Send,
     requires links { (0 < length links.items) × (length links.items ≤ 64) }
     requires clocks { length links.items ≤ length clocks.items }
     ensures serves { (read wrote : Option (List ℕ)) → IfSome result.1 (λ back. ServesOver K.rows K.faults

@@ -42,6 +42,9 @@ pub fn desk<
     clocks: Vec<C>,
     gate: &G,
 ) -> (Status, Option<K>, Vec<L>)
+where
+    L::In: Send,
+    L::Out: Send,
     requires clocks { (0 < length clocks.items) × (length links.items ≤ length clocks.items) }
     requires links { (length links.items ≤ 64) × ((port workers sessions : ℕ) → words_of (map string_bytes words.now) ≡ Some (Words.Serve port workers sessions) → 0 < length links.items) }
 
