@@ -190,14 +190,14 @@ CHAPTERS = [
      'Words cut into options and words that stand alone, what they ask for, and the laws of it.',
      ['sect_usage/specs/' + n + '.antt' for n in ('Items', 'Grammar', 'Needs', 'Help', 'Laws', 'Spelling')]),
     ('The program',
-     'The lines of an input, how the desk answers them, the audit, the import of a table, and what is done for the words.',
-     ['sect_script/specs/' + n + '.antt' for n in ('Lines', 'Reading', 'Run', 'Statuses')]
+     'The lines of an input, how the desk answers them, the audit, and the import of a table.',
+     ['sect_object/specs/Objects.antt']
+     + ['sect_script/specs/' + n + '.antt' for n in ('Lines', 'Reading', 'Run', 'Statuses')]
      + ['sect_asking/specs/' + n + '.antt' for n in ('AnswerLines', 'Asks', 'Desk')]
      + ['sect_tell/specs/' + n + '.antt' for n in ('Told', 'Audit', 'Views')]
      + ['sect_fit/specs/Fitting.antt']
      + ['sect_intake/specs/' + n + '.antt' for n in ('Numbers', 'Asking', 'Table', 'Opened', 'Machine')]
-     + ['sect_making/specs/' + n + '.antt' for n in ('Generated', 'Made', 'Stages')]
-     + ['sect_app/specs/' + n + '.antt' for n in ('Top', 'Machine')]),
+     + ['sect_making/specs/' + n + '.antt' for n in ('Generated', 'Made', 'Stages')]),
     ('Requests and answers over HTTP',
      'What a head says of its body and its connection, what a path asks for, the commands of bodies, and the texts of '
      'answers.',
@@ -216,6 +216,12 @@ CHAPTERS = [
      'One value under a turn, and the passes that share it.',
      ['sect_turn/specs/' + n + '.antt' for n in ('Seats', 'Rule', 'Steps', 'Passes')]
      + ['sect_office/specs/Offices.antt', 'sect_office/specs/Calls.antt', 'sect_office/specs/Works.antt']),
+    ('Many connections',
+     'What a worker does with its link, and what it is to serve many links at one desk.',
+     ['sect_serve/specs/' + n + '.antt' for n in ('Talks', 'Working', 'Serving')]),
+    ('What the desk does',
+     'What is done for the words of the command line.',
+     ['sect_app/specs/' + n + '.antt' for n in ('Top', 'Machine', 'Serving')]),
     ('The journal',
      'What a crash may leave of a disk, the text of a journal and its rows.',
      ['sect_journal/specs/' + n + '.antt' for n in ('Disk', 'Text', 'Standing', 'Opening', 'Runs')]),
