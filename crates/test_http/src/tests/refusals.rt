@@ -149,8 +149,8 @@ fn a_number_reused(rt: HostRuntime) -> Result<(), Fail> {
 fn a_keeper_that_fails_and_the_same_again(rt: HostRuntime) -> Result<(), Fail> {
     let alloc = rt.alloc();
     let cases = [
-        Case(&[ASK], &[FAULT], End::Closed),
-        Case(&[ASK, ASK], &[ENROLLED, ENROLLED], End::Closed),
+        Case(&[ASK, ASK], &[FAULT, ENROLLED], End::Closed),
+        Case(&[ASK], &[ENROLLED], End::Closed),
     ];
     check_over(&rt, alloc, keeper(alloc, DESK, 1)?, 1_000, &cases)
 }
