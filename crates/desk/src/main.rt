@@ -79,8 +79,7 @@ fn start<R: AllocGlobal + Threads + Wait + Sync>(
     match port {
         Some(port) => {
             let listener = listen(rt, port)?;
-            let links =
-                links(rt, &listener, workers).map_err(|_| End::Told(Status::Memory))?;
+            let links = links(rt, &listener, workers).map_err(|_| End::Told(Status::Memory))?;
             let keeper = keeper_of(rt, db, journal)?;
             Ok(run(rt, threads, &words, keeper, links, workers))
         }

@@ -107,20 +107,30 @@ pub fn keeper_of(alloc: Global, case: &Case<'_>) -> Result<MemKeeper, Memory> {
 }
 
 /// Runs the desk over these bytes and a keeper with the case's rows.
-pub fn run_desk<R: AllocGlobal + Threads + Wait + Sync>(rt: &R, case: &Case<'_>, input: Vec<u8>) -> Result<Ended, Memory> {
+pub fn run_desk<R: AllocGlobal + Threads + Wait + Sync>(
+    rt: &R,
+    case: &Case<'_>,
+    input: Vec<u8>,
+) -> Result<Ended, Memory> {
     let keeper = keeper_of(rt.alloc(), case)?;
     run_over(rt, case, input, keeper)
 }
 
 /// Whether the desk ends and answers as the case says.
-pub fn ends<R: AllocGlobal + Threads + Wait + Sync>(rt: &R, case: &Case<'_>) -> Result<bool, Memory> {
+pub fn ends<R: AllocGlobal + Threads + Wait + Sync>(
+    rt: &R,
+    case: &Case<'_>,
+) -> Result<bool, Memory> {
     let script = script_of(rt.alloc(), case.script)?;
     let ended = run_desk(rt, case, script.input)?;
     Ok(ended.status == case.status && ended.sink.bytes() == script.output.as_slice())
 }
 
 /// Whether `run` over a keeper with no rows answers each line of the parts as it stands there, and ends Done.
-pub fn answers<R: AllocGlobal + Threads + Wait + Sync>(rt: &R, script: &[&str]) -> Result<bool, Memory> {
+pub fn answers<R: AllocGlobal + Threads + Wait + Sync>(
+    rt: &R,
+    script: &[&str],
+) -> Result<bool, Memory> {
     ends(rt, &Case { script, ..RUN })
 }
 

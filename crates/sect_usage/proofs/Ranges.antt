@@ -90,9 +90,9 @@ served_in_range items =
     (λ port port_is. bind_in_range (usual_or 4 1 64 workers_word) (with_workers port)
     (λ workers workers_is. bind_in_range (usual_or 1000000 1 1000000 sessions_word) (asks port workers)
     (λ sessions sessions_is. (
-        bind_found port_word (between_of 1 65535) port port_is (λ word one read. between_in_range 1 65535 (omega arith) word port read),
-        usual_in_range 4 1 64 (omega arith) (omega arith) (omega arith) workers_word workers workers_is,
-        usual_in_range 1000000 1 1000000 (omega arith) (omega arith) (omega arith) sessions_word sessions sessions_is,
+      bind_found port_word (between_of 1 65535) port port_is (λ word one read. between_in_range 1 65535 (omega arith) word port read),
+      usual_in_range 4 1 64 (omega arith) (omega arith) (omega arith) workers_word workers workers_is,
+      usual_in_range 1000000 1 1000000 (omega arith) (omega arith) (omega arith) sessions_word sessions sessions_is,
     ))))
 
 planned_in_range : (items : List Item) → InRange (plan_of items)

@@ -116,10 +116,15 @@ serve_words port workers sessions may =
     let workers_low : nat_le 1 workers ≡ true = grind (arith, nat_tests, may.1.0) in
     let sessions_low : nat_le 1 sessions ≡ true = grind (arith, nat_tests, may.2.0) in
     rw (
-        number_value (codes "port") port 65535 (omega arith) may.0.1, number_value (codes "workers") workers 64 (omega arith) may.1.1,
-        number_value (codes "sessions") sessions 1000000 (omega arith) may.2.1,
-        read_number 65535 port (omega arith) may.0.1, read_number 64 workers (omega arith) may.1.1, read_number 1000000 sessions (omega arith) may.2.1,
-        port_low, workers_low, sessions_low,
+      number_value (codes "port") port 65535 (omega arith) may.0.1,
+      number_value (codes "workers") workers 64 (omega arith) may.1.1,
+      number_value (codes "sessions") sessions 1000000 (omega arith) may.2.1,
+      read_number 65535 port (omega arith) may.0.1,
+      read_number 64 workers (omega arith) may.1.1,
+      read_number 1000000 sessions (omega arith) may.2.1,
+      port_low,
+      workers_low,
+      sessions_low,
     ) refl
 
 plan_words : (student budget : ℕ) → student < 2 ^ 32 → 1 ≤ budget → budget ≤ 20000
@@ -129,8 +134,11 @@ plan_words student budget fits low high =
     let budget_low : nat_le 1 budget ≡ true = grind (arith, nat_tests, low) in
     let plain = number_plain student (omega (arith, fits)) in
     rw (
-        positional_word (decimal student) (codes "--budget" ∷ (decimal budget ∷ [])) plain, number_value (codes "budget") budget 20000 (omega arith) high,
-        read_id student fits, read_number 20000 budget (omega arith) high, budget_low,
+      positional_word (decimal student) (codes "--budget" ∷ (decimal budget ∷ [])) plain,
+      number_value (codes "budget") budget 20000 (omega arith) high,
+      read_id student fits,
+      read_number 20000 budget (omega arith) high,
+      budget_low,
     ) refl
 
 pub plain_words : PlainWords

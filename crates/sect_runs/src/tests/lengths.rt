@@ -22,12 +22,18 @@ fn ends_so<R: AllocGlobal + Threads + Wait + Sync>(
 }
 
 /// Whether the comment is passed over, and the request behind it answered.
-fn is_read<R: AllocGlobal + Threads + Wait + Sync>(rt: &R, line: (usize, &str, usize)) -> Result<bool, Memory> {
+fn is_read<R: AllocGlobal + Threads + Wait + Sync>(
+    rt: &R,
+    line: (usize, &str, usize),
+) -> Result<bool, Memory> {
     ends_so(rt, line, Status::Done, "0 amended\n")
 }
 
 /// Whether the comment is too long.
-fn is_too_long<R: AllocGlobal + Threads + Wait + Sync>(rt: &R, line: (usize, &str, usize)) -> Result<bool, Memory> {
+fn is_too_long<R: AllocGlobal + Threads + Wait + Sync>(
+    rt: &R,
+    line: (usize, &str, usize),
+) -> Result<bool, Memory> {
     ends_so(rt, line, Status::BadLine { line: 1, field: 0 }, "")
 }
 
