@@ -1,9 +1,10 @@
 // Many links at one desk.
-ghost use Rattle.std.specs.Prelude.{◌≡◌, ◌≢◌, ◌≤◌, ◌<◌, ℕ, List, [], All, IfSome, IsSome, length, map, take, vec_capacity, vec_len};
+ghost use Rattle.std.specs.Prelude.{◌≡◌, ◌≢◌, ◌≤◌, ◌<◌, ℕ, List, [], All, IfErr, IfOk, IfSome, IsSome, length, map, take, vec_capacity, vec_len};
 ghost use mathlib.Core.List.{IsPrefix};
 ghost use Rattle.sect_command.specs.declared.command.Command.{Command};
 ghost use Rattle.sect_command.specs.declared.reply.Reply.{Reply};
 ghost use Rattle.sect_http.specs.Answers.{Answers};
+ghost use Rattle.sect_office.specs.Works.{AddsRuns};
 ghost use Rattle.sect_once.specs.declared.entry.Note.{Note};
 ghost use Rattle.sect_once.specs.Desks.{IsSound, Standing};
 ghost use Rattle.sect_turn.specs.Passes.{front, opening, own_calls, share, IsIdle, IsPassOf};
@@ -12,8 +13,9 @@ ghost use Rattle.sect_serve.specs.Serving.{HaveServed, Serves};
 
 use crate::collect::{collect, links_of, rooms, servers};
 use crate::server::{RequestObject, Server};
+use sect_base::Memory;
 use sect_edge::{Clock, Gate, Keeper, Link};
-use sect_office::{Office, run_all};
+use sect_office::{Office, Work, run_all};
 use sect_once::{Desk, Object};
 use sect_turn::Pass;
 use std::alloc::Global;
@@ -154,7 +156,7 @@ where
         (map (λ s. s.link) works.entry.items) result.2.items (map (λ s. C.days s.clock) works.entry.items) sessions result.1
         (front pass) log (own_calls result.0) }
 {
-    let (pass, ran) = run_all(rt, alloc, office, pass, works);
+    let (pass, ran) = run_requests(rt, alloc, office, pass, works);
     match ran {
         Ok(given) => {
             let (end, backs) = collect(given, backs);
@@ -162,4 +164,58 @@ where
         }
         Err((_, works)) => (pass, ServeEnd::Memory, links_of(works, backs)),
     }
+}
+
+// Runs each work at the office of a desk that requests ask.
+fn run_requests<
+    O: RequestObject + Send,
+    K: Keeper + Send,
+    W: Work<Desk<O, K>> + Send + Drop,
+    R: Threads + Wait + Sync,
+>(
+    rt: &R,
+    alloc: Global,
+    office: &Office<O, K>,
+    pass: Pass<Desk<O, K>>,
+    works: Vec<W>,
+) -> (Pass<Desk<O, K>>, Result<Vec<W::Given>, (Memory, Vec<W>)>)
+where
+    O::Undo: Send,
+    requires turn { IsPassOf (λ d. d.log) (λ d. d.base) office.now.turn pass × IsIdle pass }
+    requires share { vec_len works < share pass }
+    ensures turn { IsPassOf (λ d. d.log) (λ d. d.base) office.now.turn result.0 × IsIdle result.0 }
+    ensures same { (share result.0 ≡ share pass) × (opening result.0 ≡ opening pass) }
+    ensures grown { IsPrefix (front pass) (front result.0) }
+    ensures runs { IfOk result.1 (λ given. AddsRuns W.did (front pass) (front result.0) works.items given.items (own_calls pass) (own_calls result.0)) }
+    ensures err { IfErr result.1 (λ back. (result.0 ≡ pass) × (back.1 ≡ works)) }
+{
+    run_desk(rt, alloc, office, pass, works)
+}
+
+// Runs each work at the office of a desk. That the desk may be sent to a thread rests on its parts alone.
+fn run_desk<
+    O: Object + Send,
+    K: Keeper + Send,
+    W: Work<Desk<O, K>> + Send + Drop,
+    R: Threads + Wait + Sync,
+>(
+    rt: &R,
+    alloc: Global,
+    office: &Office<O, K>,
+    pass: Pass<Desk<O, K>>,
+    works: Vec<W>,
+) -> (Pass<Desk<O, K>>, Result<Vec<W::Given>, (Memory, Vec<W>)>)
+where
+    O::Command: Send,
+    O::Reply: Send,
+    O::Undo: Send,
+    requires turn { IsPassOf (λ d. d.log) (λ d. d.base) office.now.turn pass × IsIdle pass }
+    requires share { vec_len works < share pass }
+    ensures turn { IsPassOf (λ d. d.log) (λ d. d.base) office.now.turn result.0 × IsIdle result.0 }
+    ensures same { (share result.0 ≡ share pass) × (opening result.0 ≡ opening pass) }
+    ensures grown { IsPrefix (front pass) (front result.0) }
+    ensures runs { IfOk result.1 (λ given. AddsRuns W.did (front pass) (front result.0) works.items given.items (own_calls pass) (own_calls result.0)) }
+    ensures err { IfErr result.1 (λ back. (result.0 ≡ pass) × (back.1 ≡ works)) }
+{
+    run_all(rt, alloc, office, pass, works)
 }
