@@ -1,7 +1,9 @@
 // Many links at one desk.
 ghost use Rattle.std.specs.Prelude.{◌≡◌, ◌≢◌, ◌≤◌, ◌<◌, ℕ, List, [], All, IfErr, IfOk, IfSome, IsSome, length, map, take, vec_capacity, vec_len};
+ghost use denote.Param.Send.{IsSend};
 ghost use mathlib.Core.List.{IsPrefix};
 ghost use Rattle.sect_command.specs.declared.command.Command.{Command};
+ghost use Rattle.sect_command.specs.contracts.reply.Reply.{the_row as reply_row};
 ghost use Rattle.sect_command.specs.declared.reply.Reply.{Reply};
 ghost use Rattle.sect_http.specs.Answers.{Answers};
 ghost use Rattle.sect_office.specs.Works.{AddsRuns};
@@ -14,6 +16,7 @@ ghost use Rattle.sect_serve.specs.Serving.{HaveServed, Serves};
 use crate::collect::{collect, links_of, rooms, servers};
 use crate::server::{RequestObject, Server};
 use sect_base::Memory;
+use sect_command::Reply;
 use sect_edge::{Clock, Gate, Keeper, Link};
 use sect_office::{Office, Work, run_all};
 use sect_once::{Desk, Object};
@@ -166,6 +169,18 @@ where
     }
 }
 
+// A value of the type may be sent to another thread.
+fn may_be_sent<T: Send>()
+    ensures { IsSend T.row }
+{}
+
+// A reply may be sent to another thread.
+fn reply_may_be_sent()
+    ensures { IsSend reply_row }
+{
+    may_be_sent::<Reply>();
+}
+
 // Runs each work at the office of a desk that requests ask.
 fn run_requests<
     O: RequestObject + Send,
@@ -189,6 +204,7 @@ where
     ensures runs { IfOk result.1 (λ given. AddsRuns W.did (front pass) (front result.0) works.items given.items (own_calls pass) (own_calls result.0)) }
     ensures err { IfErr result.1 (λ back. (result.0 ≡ pass) × (back.1 ≡ works)) }
 {
+    reply_may_be_sent();
     run_desk(rt, alloc, office, pass, works)
 }
 
