@@ -7,6 +7,7 @@ ghost use Rattle.sect_command.specs.contracts.reply.Reply.{the_row as reply_row}
 ghost use Rattle.sect_command.specs.declared.reply.Reply.{Reply};
 ghost use Rattle.sect_http.specs.Answers.{Answers};
 ghost use Rattle.sect_office.specs.Works.{AddsRuns};
+ghost use Rattle.sect_once.specs.declared.entry.Entry.{Entry};
 ghost use Rattle.sect_once.specs.declared.entry.Note.{Note};
 ghost use Rattle.sect_once.specs.Desks.{IsSound, Standing};
 ghost use Rattle.sect_turn.specs.Passes.{front, opening, own_calls, share, IsIdle, IsPassOf};
@@ -69,6 +70,7 @@ where
     ensures keeper { result.0 ≢ ServeEnd.Memory → IsSome result.1 }
 {
     desk.is_sound();
+    an_entry_has_one_row::<O>();
     let Ok((works, backs)) = rooms(alloc, links.len()) else {
         return (ServeEnd::Memory, Some(desk.close()), links);
     };
@@ -80,6 +82,11 @@ where
         Err((_, desk)) => (ServeEnd::Memory, Some(desk.close()), links),
     }
 }
+
+// An entry of an object has one row at most.
+fn an_entry_has_one_row<O: Object>()
+    ensures { (e : Entry O.Command O.Reply) (a b : List ℕ) → O.is_row e a → O.is_row e b → a ≡ b }
+{}
 
 // Lets the workers serve at an office, and closes it.
 fn serve_at<
@@ -115,6 +122,7 @@ where
         opened back (map (λ s. s.link) works.entry.items) result.2.items (map (λ s. C.days s.clock) works.entry.items) sessions result.0) }
     ensures keeper { result.0 ≢ ServeEnd.Memory → IsSome result.1 }
 {
+    an_entry_has_one_row::<O>();
     let (pass, end, backs) = work_all(rt, alloc, &office, pass, works, backs, sessions);
     match office.close(pass) {
         Ok(desk) => {
