@@ -144,7 +144,7 @@ module _ {I T L : Type 0} (answers : Sitting → Asked → Said → Sitting → 
     through f h (x ∷ xs) = ap (λ l. f (h x) ∷ l) (through f h xs)
 
     -- what runs of workers' works say of their links
-    pub have_served : (works : List W) (given : List X) (own own' : List ℕ) → own ≡ [] → All (λ w. count w ≡ sessions) works → AddsRuns did first last works given own own'
+    have_served : (works : List W) (given : List X) (own own' : List ℕ) → own ≡ [] → All (λ w. count w ≡ sessions) works → AddsRuns did first last works given own own'
         → HaveServed answers left taken in_faults out_faults connections faults (map link works) (map given_link given) (map days works) sessions (worst Done (map given_end given)) first log own'
     unfolding worker_of
     have_served works given own own' fresh many (calls, added, h) =
@@ -156,6 +156,15 @@ module _ {I T L : Type 0} (answers : Sitting → Asked → Said → Sitting → 
         (along days_of (λ (r : OneRun). days r.work) (λ r ran n. refl) h.runs h.each alike ∙ (through days work_of h.runs ∙ ap (map days) h.works_are))
         (ap concat (along calls_of (λ (r : OneRun). r.calls) (λ r ran n. refl) h.runs h.each alike) ∙ (h.calls_are ∙ (ap (λ l. l ++ calls) (sym fresh) ∙ sym added)))
         (ap (worst Done) (sym (along end_of (λ (r : OneRun). given_end r.given) (λ r ran n. refl) h.runs h.each alike ∙ (through given_end (λ (r : OneRun). r.given) h.runs ∙ ap (map given_end) h.given_are))))
+
+    -- the same, of the links that were handed back and the end
+    pub links_served : (works : List W) (given : List X) (own own' : List ℕ) (backs : List L) (end : ServeEnd) → own ≡ [] → All (λ w. count w ≡ sessions) works
+        → AddsRuns did first last works given own own' → backs ≡ map given_link given → end ≡ worst Done (map given_end given)
+        → HaveServed answers left taken in_faults out_faults connections faults (map link works) backs (map days works) sessions end first log own'
+    links_served works given own own' backs end fresh many ran backs_are end_is =
+        subst (λ l. HaveServed answers left taken in_faults out_faults connections faults (map link works) l (map days works) sessions end first log own') (sym backs_are)
+        (subst (λ e. HaveServed answers left taken in_faults out_faults connections faults (map link works) (map given_link given) (map days works) sessions e first log own') (sym end_is)
+        (have_served works given own own' fresh many ran))
 
 module _ {I T L : Type 0} (answers : Sitting → Asked → Said → Sitting → Type 0)
     (left : I → Option (List ℕ)) (taken : T → Option (List ℕ)) (in_faults : I → ℕ) (out_faults : T → ℕ)
@@ -220,11 +229,18 @@ module _ {I T L : Type 0} (answers : Sitting → Asked → Said → Sitting → 
   idle_end (link ∷ links) (d ∷ days) same some = idle_ends links days
 
   -- no worker could begin, for want of memory
-  pub none_served : (links : List L) (days : List (Option (List ℕ))) → length links ≡ length days → 0 < length links
+  none_served : (links : List L) (days : List (Option (List ℕ))) → length links ≡ length days → 0 < length links
       → HaveServed answers left taken in_faults out_faults connections faults links links days sessions Memory first log []
   none_served links days same some =
       served answers left taken in_faults out_faults connections faults sessions first log links links days Memory [] (idle links days)
       (idle_links links days same) (idle_backs links days same) (idle_days links days same) (idle_calls links days) (sym (idle_end links days same some))
+
+  -- the same, of the links that were handed back
+  pub no_link_served : (links backs : List L) (days : List (Option (List ℕ))) (calls : List ℕ) → length links ≡ length days → 0 < length links → backs ≡ links → calls ≡ []
+      → HaveServed answers left taken in_faults out_faults connections faults links backs days sessions Memory first log calls
+  no_link_served links backs days calls same some backs_are none =
+      subst (λ l. HaveServed answers left taken in_faults out_faults connections faults links l days sessions Memory first log calls) (sym backs_are)
+      (subst (λ l. HaveServed answers left taken in_faults out_faults connections faults links links days sessions Memory first log l) (sym none) (none_served links days same some))
 
 module _ {W N X : Type 0} (did : W → List N → List N → List ℕ → X → Type 0) where
   -- as many were given as there were works

@@ -5,5 +5,5 @@ mod collect;
 mod server;
 mod serving;
 
-pub use server::{Back, RequestObject, Server, WorkerEnd};
+pub use server::{Back, Server, WorkerEnd};
 pub use serving::{ServeEnd, serve};

@@ -2,28 +2,20 @@
 ghost use Rattle.std.specs.Prelude.{◌≡◌, ◌≤◌, ◌*◌, ◌+◌, ◌^◌, ℕ, List, [], None};
 ghost use mathlib.Core.List.{IsPrefix};
 ghost use Rattle.sect_answer.specs.Answering.{sitting};
-ghost use Rattle.sect_answer.specs.Errands.{TakesTexts};
 ghost use Rattle.sect_http.specs.Answers.{Answers};
 ghost use Rattle.sect_office.specs.Calls.{AddsCalls};
 ghost use Rattle.sect_turn.specs.Passes.{front, opening, own_calls, share, IsIdle, IsPassOf};
 ghost use Rattle.sect_serve.specs.Working.{Attends, Underway, WorkerDid, Works};
 
-use sect_command::{Command, Query, Reply, View};
+use sect_command::{Query, View};
 use sect_edge::{Clock, Gate, Keeper, Link, LinkFault};
 use sect_http::{Bench, talk};
+use sect_object::TextObject;
 use sect_office::{Office, Work};
-use sect_once::{Desk, Object};
+use sect_once::Desk;
 use sect_turn::Pass;
 use std::alloc::Global;
 use std::sync::Wait;
-
-/// An object that requests over HTTP ask: each request whose id, day and command have texts may be asked of it.
-pub trait RequestObject:
-    Object<Command = Command, Reply = Reply, Query = Query, View = View>
-{
-    /// A request that was read may be asked.
-    ghost takes_texts: { TakesTexts Self.may_ask };
-}
 
 /// A worker: its link, its clock, the gate that it passes at its steps, its number, and how many connections it serves
 /// at most.
@@ -55,7 +47,7 @@ pub struct Back<L> {
     pub end: WorkerEnd,
 }
 
-impl<'a, O: RequestObject, K: Keeper, L: Link + Send + Drop, C: Clock + Drop, G: Gate> Work<Desk<O, K>>
+impl<'a, O: TextObject<Query = Query, View = View>, K: Keeper, L: Link + Send + Drop, C: Clock + Drop, G: Gate> Work<Desk<O, K>>
     for Server<'a, L, C, G>
 {
     type Given = Back<L>;
@@ -91,7 +83,7 @@ impl<'a, O: RequestObject, K: Keeper, L: Link + Send + Drop, C: Clock + Drop, G:
 }
 
 // Talks over at most so many connections, one after another, until none is to come or the link fails.
-fn work<O: RequestObject, K: Keeper, L: Link, C: Clock, G: Gate, R: Wait>(
+fn work<O: TextObject<Query = Query, View = View>, K: Keeper, L: Link, C: Clock, G: Gate, R: Wait>(
     rt: &R,
     office: &Office<O, K>,
     pass: &mut Pass<Desk<O, K>>,
@@ -124,7 +116,7 @@ fn work<O: RequestObject, K: Keeper, L: Link, C: Clock, G: Gate, R: Wait>(
 }
 
 // Talks over the next connection and hands it back.
-fn attend<O: RequestObject, K: Keeper, L: Link, C: Clock, G: Gate, R: Wait>(
+fn attend<O: TextObject<Query = Query, View = View>, K: Keeper, L: Link, C: Clock, G: Gate, R: Wait>(
     rt: &R,
     office: &Office<O, K>,
     pass: &mut Pass<Desk<O, K>>,
