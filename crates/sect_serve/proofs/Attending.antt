@@ -74,11 +74,11 @@ module _ {I T : Type 0} (answers : Sitting → Asked → Said → Sitting → Ty
       let then = subst (λ w. HandsBack answers left taken in_faults out_faults w z us) is more in (
         then.0,
         come ∙ (ap (λ l. map (λ (t : One). t.came) ts ++ l) then.1
-        ∙ (sym (append_assoc (map (λ (t : One). t.came) ts) (map (λ (t : One). t.came) us) then.0)
-        ∙ ap (λ l. l ++ then.0) (sym (map-append (λ (t : One). t.came) ts us)))),
+            ∙ (sym (append_assoc (map (λ (t : One). t.came) ts) (map (λ (t : One). t.came) us) then.0)
+            ∙ ap (λ l. l ++ then.0) (sym (map-append (λ (t : One). t.came) ts us)))),
         then.2 ∙ ap (λ l. Some (record { to_come = then.0; out = old.out; handed_back = l }))
-        (append_assoc old.handed_back (map (λ (t : One). t.back) ts) (map (λ (t : One). t.back) us)
-        ∙ ap (λ l. old.handed_back ++ l) (sym (map-append (λ (t : One). t.back) ts us))),
+            (append_assoc old.handed_back (map (λ (t : One). t.back) ts) (map (λ (t : One). t.back) us)
+            ∙ ap (λ l. old.handed_back ++ l) (sym (map-append (λ (t : One). t.back) ts us))),
       )
 
   hands_one : (told mid told' : Option (Connections (I × T))) (t : One) → GivesConnection told mid t.came → TakesBack mid told' t.back
@@ -164,7 +164,7 @@ module _ {I T : Type 0} (answers : Sitting → Asked → Said → Sitting → Ty
       → WorkerDid answers left taken in_faults out_faults told told' count count' days sessions end front new.front new.own
   did_work told told' count count' days own front new next sessions end fresh (n, h, few, ended) =
       let follow : Follow answers left taken in_faults out_faults (at_first front days) 0 h.talks new next =
-          subst (λ l. Follow answers left taken in_faults out_faults (record { front = front; own = l; days = days }) 0 h.talks new next) fresh h.follow in
+      subst (λ l. Follow answers left taken in_faults out_faults (record { front = front; own = l; days = days }) 0 h.talks new next) fresh h.follow in
       record {
         talks = h.talks;
         last = new;

@@ -47,20 +47,20 @@ pub struct Back<L> {
     pub end: WorkerEnd,
 }
 
-impl<'a, O: TextObject<Query = Query, View = View>, K: Keeper, L: Link + Send + Drop, C: Clock + Drop, G: Gate> Work<Desk<O, K>>
-    for Server<'a, L, C, G>
-{
+impl<
+    'a,
+    O: TextObject<Query = Query, View = View>,
+    K: Keeper,
+    L: Link + Send + Drop,
+    C: Clock + Drop,
+    G: Gate,
+> Work<Desk<O, K>> for Server<'a, L, C, G> {
     type Given = Back<L>;
 
     ghost did = { λ w first seen calls given. WorkerDid (Answers O.start O.stepped O.is_row O.looked) L.In.left L.Out.taken L.In.faults L.Out.faults
         (L.connections w.link) (L.connections given.link) (L.faults w.link) (L.faults given.link) (C.days w.clock) w.sessions given.end first seen calls };
 
-    fn run<R: Wait>(
-        self,
-        rt: &R,
-        office: &Office<O, K>,
-        pass: &mut Pass<Desk<O, K>>,
-    ) -> Back<L> {
+    fn run<R: Wait>(self, rt: &R, office: &Office<O, K>, pass: &mut Pass<Desk<O, K>>) -> Back<L> {
         let Server {
             alloc,
             mut link,
@@ -116,7 +116,14 @@ fn work<O: TextObject<Query = Query, View = View>, K: Keeper, L: Link, C: Clock,
 }
 
 // Talks over the next connection and hands it back.
-fn attend<O: TextObject<Query = Query, View = View>, K: Keeper, L: Link, C: Clock, G: Gate, R: Wait>(
+fn attend<
+    O: TextObject<Query = Query, View = View>,
+    K: Keeper,
+    L: Link,
+    C: Clock,
+    G: Gate,
+    R: Wait,
+>(
     rt: &R,
     office: &Office<O, K>,
     pass: &mut Pass<Desk<O, K>>,
@@ -141,7 +148,16 @@ fn attend<O: TextObject<Query = Query, View = View>, K: Keeper, L: Link, C: Cloc
     match link.accept() {
         Ok(Some((mut source, mut sink))) => {
             talk(
-                rt, office, pass, &mut source, &mut sink, clock, gate, worker, step, bench,
+                rt,
+                office,
+                pass,
+                &mut source,
+                &mut sink,
+                clock,
+                gate,
+                worker,
+                step,
+                bench,
             );
             link.finish(source, sink);
             None

@@ -24,10 +24,10 @@ returns-in-Some-clause-works g c =
     let test = c.loop-count-test.true in (
       now.step,
       worked (Answers g.O.Object.start g.O.Object.stepped g.O.Object.is_row g.O.Object.looked) g.L.In.Source.left g.L.Out.Sink.taken g.L.In.Source.faults g.L.Out.Sink.faults
-      (g.L.Link.connections c.args.link.now) (g.L.Link.connections c.loop-count.link) (g.L.Link.connections now.link)
-      (g.L.Link.faults c.args.link.now) (g.L.Link.faults c.loop-count.link) (g.L.Link.faults now.link)
-      (sitting c.args.pass.now (g.C.Clock.days c.args.clock.now)) (sitting c.loop-count.pass (g.C.Clock.days c.loop-count.clock)) (sitting now.pass (g.C.Clock.days now.clock))
-      0 c.loop-count.step now.step c.loop-count.count c.args.sessions c.in-Some.end h.underway (omega (arith, test)) c.in-Some.ensures.attends,
+          (g.L.Link.connections c.args.link.now) (g.L.Link.connections c.loop-count.link) (g.L.Link.connections now.link)
+          (g.L.Link.faults c.args.link.now) (g.L.Link.faults c.loop-count.link) (g.L.Link.faults now.link)
+          (sitting c.args.pass.now (g.C.Clock.days c.args.clock.now)) (sitting c.loop-count.pass (g.C.Clock.days c.loop-count.clock)) (sitting now.pass (g.C.Clock.days now.clock))
+          0 c.loop-count.step now.step c.loop-count.count c.args.sessions c.in-Some.end h.underway (omega (arith, test)) c.in-Some.ensures.attends,
     )
 
 pub loop-count-preserved : goal.loop-count-preserved

@@ -32,9 +32,9 @@ returns-in-Ok-open-clause-serves g c =
     let made = c.servers-works.ensures in
     let begun = c.in-Ok-open.ensures.pass in
     subst (λ links. IfSome c.serve_at.result.1 (λ back. Serves g.O.Object.start g.O.Object.stepped g.O.Object.is_row g.K.Keeper.rows g.K.Keeper.faults
-        (Answers g.O.Object.start g.O.Object.stepped g.O.Object.is_row g.O.Object.looked) g.L.In.Source.left g.L.Out.Sink.taken g.L.In.Source.faults g.L.Out.Sink.faults g.L.Link.connections g.L.Link.faults
-        c.args.desk back links c.serve_at.result.2.items (take (length c.args.links.items) (map g.C.Clock.days c.args.clocks.items)) c.args.sessions c.serve_at.result.0)) made.links
+    (Answers g.O.Object.start g.O.Object.stepped g.O.Object.is_row g.O.Object.looked) g.L.In.Source.left g.L.Out.Sink.taken g.L.In.Source.faults g.L.Out.Sink.faults g.L.Link.connections g.L.Link.faults
+    c.args.desk back links c.serve_at.result.2.items (take (length c.args.links.items) (map g.C.Clock.days c.args.clocks.items)) c.args.sessions c.serve_at.result.0)) made.links
     (subst (λ days. IfSome c.serve_at.result.1 (λ back. Serves g.O.Object.start g.O.Object.stepped g.O.Object.is_row g.K.Keeper.rows g.K.Keeper.faults
-        (Answers g.O.Object.start g.O.Object.stepped g.O.Object.is_row g.O.Object.looked) g.L.In.Source.left g.L.Out.Sink.taken g.L.In.Source.faults g.L.Out.Sink.faults g.L.Link.connections g.L.Link.faults
-        c.args.desk back (map (λ s. s.link) c.servers-works.result.items) c.serve_at.result.2.items days c.args.sessions c.serve_at.result.0)) made.days
+    (Answers g.O.Object.start g.O.Object.stepped g.O.Object.is_row g.O.Object.looked) g.L.In.Source.left g.L.Out.Sink.taken g.L.In.Source.faults g.L.Out.Sink.faults g.L.Link.connections g.L.Link.faults
+    c.args.desk back (map (λ s. s.link) c.servers-works.result.items) c.serve_at.result.2.items days c.args.sessions c.serve_at.result.0)) made.days
     (c.serve_at.ensures.serves c.args.desk c.is_sound.ensures begun.0 begun.3))

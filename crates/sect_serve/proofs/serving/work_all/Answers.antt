@@ -14,9 +14,9 @@ pub returns-in-Ok-clause-served : goal.returns-in-Ok-clause-served
 returns-in-Ok-clause-served g c = λ log longer.
     let now = c.run_requests-pass.result.0 in
     let runs = subst (λ r. IfOk r (λ given. AddsRuns (λ w first seen calls x. WorkerDid (Answers g.O.Object.start g.O.Object.stepped g.O.Object.is_row g.O.Object.looked)
-        g.L.In.Source.left g.L.Out.Sink.taken g.L.In.Source.faults g.L.Out.Sink.faults (g.L.Link.connections w.link) (g.L.Link.connections x.link) (g.L.Link.faults w.link) (g.L.Link.faults x.link)
-        (g.C.Clock.days w.clock) w.sessions x.end first seen calls) (front c.args.pass) (front now) c.args.works.items given.items (own_calls c.args.pass) (own_calls now))) c.in-Ok.is
-        c.run_requests-pass.ensures.runs in
+    g.L.In.Source.left g.L.Out.Sink.taken g.L.In.Source.faults g.L.Out.Sink.faults (g.L.Link.connections w.link) (g.L.Link.connections x.link) (g.L.Link.faults w.link) (g.L.Link.faults x.link)
+    (g.C.Clock.days w.clock) w.sessions x.end first seen calls) (front c.args.pass) (front now) c.args.works.items given.items (own_calls c.args.pass) (own_calls now))) c.in-Ok.is
+    c.run_requests-pass.ensures.runs in
     links_served (Answers g.O.Object.start g.O.Object.stepped g.O.Object.is_row g.O.Object.looked) g.L.In.Source.left g.L.Out.Sink.taken g.L.In.Source.faults g.L.Out.Sink.faults
     g.L.Link.connections g.L.Link.faults c.args.sessions (front c.args.pass) log
     (λ w first seen calls x. WorkerDid (Answers g.O.Object.start g.O.Object.stepped g.O.Object.is_row g.O.Object.looked)
