@@ -10,8 +10,7 @@ use std::test::Fail;
 use std::thread::Threads;
 
 /// A section of one place, and the students 11 and 12.
-const THREE: &str =
-    "r1 1 offering 1 course 1 - 3 config 1 - subpart 1 section 7 1 - - => 0 amended
+const THREE: &str = "r1 1 offering 1 course 1 - 3 config 1 - subpart 1 section 7 1 - - => 0 amended
 r1 2 student 11 max 18 => 1 amended
 r1 3 student 12 max 18 => 2 amended";
 
@@ -31,7 +30,10 @@ fn calls_before<R: AllocGlobal + Threads + Wait + Sync>(rt: &R) -> Option<u64> {
 }
 
 // The fourth request is asked again, and once more. Then there are four rows.
-fn check_acts_once<R: AllocGlobal + Abort + Threads + Wait + Sync>(rt: &R, journal: Journal<MemDisk>) -> Result<(), Fail> {
+fn check_acts_once<R: AllocGlobal + Abort + Threads + Wait + Sync>(
+    rt: &R,
+    journal: Journal<MemDisk>,
+) -> Result<(), Fail> {
     let journal = answered(rt, journal, &[ENROLLED, ENROLLED]).ok_or("it doesn't act")?;
     let mut journal = answered(rt, journal, &[ENROLLED]).ok_or("it doesn't act once")?;
     assert_eq!(rt; journal.len(), Ok(4));
@@ -61,7 +63,11 @@ fn the_next_call_is_of_the_fifth_append(rt: HostRuntime) -> Result<(), Fail> {
 }
 
 // Begins again with what a crash leaves behind the fault.
-fn check_crash<R: AllocGlobal + Abort + Threads + Wait + Sync>(rt: &R, failing_call: u64, pick: u64) -> Result<(), Fail> {
+fn check_crash<R: AllocGlobal + Abort + Threads + Wait + Sync>(
+    rt: &R,
+    failing_call: u64,
+    pick: u64,
+) -> Result<(), Fail> {
     let journal = started(rt.alloc(), failing_call).ok_or("no journal")?;
     let journal = answered(rt, journal, &[THREE, FAULT]).ok_or("no fault")?;
     let image = journal.close().image(pick)?;
