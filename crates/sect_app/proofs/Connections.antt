@@ -1,5 +1,5 @@
 -- What is done where connections are served.
-use Rattle.std.proofs.Common.{◌≡◌, ◌≢◌, ℕ, List, Option, Some, None, refl, inl}
+use Rattle.std.proofs.Common.{◌≡◌, ◌≢◌, ℕ, true, false, List, Option, Some, None, refl, inl}
 use Rattle.std.specs.Prelude.{IfSome, IsSome}
 use Rattle.sect_command.specs.declared.command.Command.{Command}
 use Rattle.sect_command.specs.declared.reply.Reply.{Reply}
@@ -47,5 +47,5 @@ module _ {I T L K : Type 0} (rows : K → Option (List (List ℕ))) (keeper_faul
       → serve_status end ≡ statuses.LinkFault → SomeRose faults links backs
   link_rose opened links backs days sessions ends.Done back some served is = absurd cc
   link_rose opened links backs days sessions ends.Memory back some served is = absurd cc
-  link_rose opened links backs days sessions ends.LinkFault None some served is = absurd (some (λ e. absurd cc))
+  link_rose opened links backs days sessions ends.LinkFault None some served is = absurd (let no : false ≡ true = some (λ e. absurd cc) in cc)
   link_rose opened links backs days sessions ends.LinkFault (Some back) some served is = served.served.cause refl
