@@ -81,7 +81,8 @@ fn start<R: AllocGlobal + Threads + Wait + Sync>(
             let listener = listen(rt, port)?;
             let links = links(rt, &listener, workers).map_err(|_| End::Told(Status::Memory))?;
             let keeper = keeper_of(rt, db, journal)?;
-            Ok(run(rt, threads, &words, keeper, links, workers))
+            let clocks = if workers == 0 { 1 } else { workers };
+            Ok(run(rt, threads, &words, keeper, links, clocks))
         }
         None => {
             let keeper = keeper_of(rt, db, journal)?;
@@ -156,7 +157,7 @@ fn clocks_of(rt: HostRuntime, count: u32) -> Option<Vec<RealClock>>
     ensures { IfSome result (λ clocks. length clocks.items ≡ count) }
 {
     let mut clocks = Vec::new(rt.alloc());
-    for _made in 0..count {
+    for made in 0..count {
         clocks.push(RealClock::new(rt)).ok()?;
     }
     Some(clocks)
