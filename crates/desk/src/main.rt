@@ -3,6 +3,9 @@
 
 ghost use Rattle.std.specs.Prelude.{◌≡◌, ◌<◌, ◌≤◌, ℕ, Some, IfSome, length, map};
 ghost use Rattle.std.specs.String.{string_bytes};
+ghost use denote.Param.Send.{IsSend};
+ghost use Rattle.sect_real.specs.contracts.any.AnyKeeper.{the_row as keeper_row};
+ghost use Rattle.sect_real.specs.contracts.database.SqliteKeeper.{the_row as database_row};
 ghost use Rattle.sect_usage.specs.declared.words.Words.{Words};
 ghost use Rattle.sect_usage.specs.Grammar.{words_of};
 
@@ -163,6 +166,26 @@ fn clocks_of(rt: HostRuntime, count: u32) -> Option<Vec<RealClock>>
     Some(clocks)
 }
 
+// A value of the type may be sent to another thread.
+fn may_be_sent<T: Send>()
+    ensures { IsSend T.row }
+{}
+
+// A database may be sent to another thread.
+fn database_may_be_sent()
+    ensures { IsSend database_row }
+{
+    may_be_sent::<SqliteKeeper>();
+}
+
+// A keeper may be sent to another thread.
+fn keeper_may_be_sent()
+    ensures { IsSend keeper_row }
+{
+    database_may_be_sent();
+    may_be_sent::<AnyKeeper>();
+}
+
 // Calls the desk over the process's own input and output, and closes the keeper. Where that fails, no row is lost.
 fn run<R: AllocGlobal + Threads + Wait + Sync>(
     rt: HostRuntime,
@@ -175,6 +198,7 @@ fn run<R: AllocGlobal + Threads + Wait + Sync>(
     requires clocks { (0 < clocks) × (length links.items ≤ clocks) }
     requires links { (length links.items ≤ 64) × ((port workers sessions : ℕ) → words_of (map string_bytes words.now) ≡ Some (Words.Serve port workers sessions) → 0 < length links.items) }
 {
+    keeper_may_be_sent();
     let Some(clocks) = clocks_of(rt, clocks) else {
         let _ = keeper.close();
         return Status::Memory;
