@@ -176,7 +176,7 @@ def fuzzed_table(seed):
 
 # ---- words of the command line
 
-COMMANDS = ("run", "serve", "make", "audit", "report", "import", "export", "plan")
+COMMANDS = ("run", "make", "audit", "report", "import", "export")
 
 
 def asked(app, words):
@@ -200,12 +200,6 @@ def asked(app, words):
     if command == "import":
         term = f"Some(Day({options['term']}))" if "term" in options else "None"
         return f"Import {{ table: {positionals[0].capitalize()}, first: {options['first']}, term: {term} }}", options
-    if command == "serve":
-        workers, sessions = options.get("workers", 4), options.get("sessions", 1_000_000)
-        return f"Serve {{ port: {options['port']}, workers: {workers}, sessions: {sessions} }}", options
-    if command == "plan":
-        budget = f"Budget {{ nodes: {options.get('budget', 2_000)} }}"
-        return f"Plan {{ student: StudentId({positionals[0]}), budget: {budget} }}", options
     return command.capitalize(), options
 
 

@@ -1,4 +1,3 @@
 pub mod Machine
-pub mod Serving
 pub mod Status
 pub mod Top

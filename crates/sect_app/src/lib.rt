@@ -2,7 +2,6 @@
 #![tactic(auto)]
 
 mod over;
-mod serving;
 mod status;
 mod top;
 

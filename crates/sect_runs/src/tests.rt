@@ -5,5 +5,4 @@ mod found;
 mod held;
 mod lengths;
 mod rules;
-mod served;
 mod told;
