@@ -18,7 +18,7 @@ ROOT = os.path.dirname(os.path.dirname(os.path.abspath(__file__)))
 PROGRAM = os.path.abspath(sys.argv[1] if len(sys.argv) > 1 else os.path.join(ROOT, 'desk'))
 LINES = b'@2025-08-01 r1 1 student 11 max 18\n@2025-08-01 r1 2 student 12 max 18\n@2025-08-01 r1 3 student 13 max 18\n'
 ANSWERS = b'0 amended\n1 amended\n2 amended\n'
-USAGE = b'usage: desk run|make|audit|report|import|export\n'
+USAGE = b'usage: desk run|serve|make|audit|report|import|export|plan|survey\n'
 
 differing = []
 

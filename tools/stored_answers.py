@@ -1,6 +1,6 @@
 #!/usr/bin/env python3
-"""What a second computation of the desk in Python answers to the input of test_machine, test_plan, test_tables, test_usage
-and test_bodies.
+"""What a second computation of the desk in Python answers to the input of test_machine, test_plan, test_survey, test_tables,
+test_usage and test_bodies.
 
   stored_answers.py --oracle FOLDER                      compares the stored answers with the second computation's
   stored_answers.py --oracle FOLDER --write              writes them
@@ -8,7 +8,7 @@ and test_bodies.
 
 test_machine: a line that begins with `#` begins a new machine, one with `= ` asks for a report, one with `? ` has a tree
 that is held against the request before it; each other line is a request. test_plan has `= plan STUDENT BUDGET` beside
-these.
+these, and test_survey `= survey`, and `= made N` for the lines of the survey of what `make N` makes.
 test_tables: a line `# NAME` begins a new machine, `< TABLE` begins a text of that table, whose lines follow, `> TABLE` asks
 for an export.
 test_usage: each line is a list of words with bars between them, and `(none)` is the list without words.
@@ -59,11 +59,27 @@ def judge(texts, machine, line, tree):
     return "refuted" if machine.recheck(day, command, tree) else "not refuted"
 
 
+def made(_, offerings):
+    """What the survey of a machine has of which the commands for so many offerings were asked."""
+    import app
+    import search
+    import texts
+    from machine import Machine
+    machine = Machine()
+    for command in app.generated(offerings):
+        machine.step(texts.day("2025-09-01"), ("r", 1), command)
+    lines = search.survey(machine.world)[0]
+    blocked = sum(why[0] == "blocked" for _, _, why in lines)
+    places = [line[:2] for line in lines]
+    return f"lines {len(lines)} blocked {blocked} {'in' if places == sorted(places) else 'out of'} order\n"
+
+
 def report(machine, words):
     import reports
     kind, *ids = words.split(" ")
     known = {"roll": reports.roll, "open": reports.open_, "schedule": reports.schedule,
-             "waiting": reports.waiting, "unmet": reports.unmet, "plan": reports.plan}
+             "waiting": reports.waiting, "unmet": reports.unmet, "plan": reports.plan, "survey": reports.print_survey,
+             "made": made}
     if kind not in known:
         return "no report\n"
     return known[kind](machine, *map(int, ids))
@@ -176,7 +192,7 @@ def fuzzed_table(seed):
 
 # ---- words of the command line
 
-COMMANDS = ("run", "make", "audit", "report", "import", "export")
+COMMANDS = ("run", "serve", "make", "audit", "report", "import", "export", "plan", "survey")
 
 
 def asked(app, words):
@@ -200,6 +216,12 @@ def asked(app, words):
     if command == "import":
         term = f"Some(Day({options['term']}))" if "term" in options else "None"
         return f"Import {{ table: {positionals[0].capitalize()}, first: {options['first']}, term: {term} }}", options
+    if command == "serve":
+        workers, sessions = options.get("workers", 4), options.get("sessions", 1_000_000)
+        return f"Serve {{ port: {options['port']}, workers: {workers}, sessions: {sessions} }}", options
+    if command == "plan":
+        budget = f"Budget {{ nodes: {options.get('budget', 2_000)} }}"
+        return f"Plan {{ student: StudentId({positionals[0]}), budget: {budget} }}", options
     return command.capitalize(), options
 
 
@@ -305,7 +327,8 @@ def body_answers(lines):
             yield answer_told(line) + "\n"
 
 
-ANSWERS = {"test_machine": machine_answers, "test_plan": machine_answers, "test_tables": table_answers, "test_usage": usage_answers,
+ANSWERS = {"test_machine": machine_answers, "test_plan": machine_answers, "test_survey": machine_answers,
+           "test_tables": table_answers, "test_usage": usage_answers,
            "test_bodies": body_answers}
 
 

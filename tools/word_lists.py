@@ -1,17 +1,25 @@
 """Random lists of words for the command line, good and bad, for the input of test_usage."""
 import random
 
-COMMANDS = ("run", "make", "audit", "report", "import", "export")
+COMMANDS = ("run", "serve", "make", "audit", "report", "import", "export", "plan", "survey")
 TABLES = ("offerings", "students", "requests", "reservations")
-OPTIONS = {"make": [], "import": ["first", "term", "db", "journal"]}
+OPTIONS = {
+    "make": [], "import": ["first", "term", "db", "journal"], "serve": ["port", "workers", "sessions", "db", "journal"],
+    "plan": ["budget", "db", "journal"],
+}
 VALUES = {
     "first": ["0", "1", "18446744073709551615", "18446744073709551616", "00", "12a", "99999999999999999999"],
     "term": ["2025-09-01", "1970-01-01", "2199-12-31", "2200-01-01", "2025-02-29", "2024-02-29", "x", "2025-9-1"],
     "db": ["f", "a=b", "=", "-x", "", "\u00e9", "--", "4294967297"],
     "journal": ["f", "-", "g"],
+    "port": ["8080", "1", "65535", "65536", "0", "x", "080"],
+    "workers": ["1", "64", "65", "0"],
+    "sessions": ["1", "1000000", "1000001", "0"],
+    "budget": ["1", "20000", "20001", "0", "12"],
 }
 POSITIONALS = {
     "make": ["1", "100", "101", "0", "7", "01"],
+    "plan": ["11", "0", "4294967295", "4294967296", "x", "01"],
     "import": list(TABLES) + ["tables"],
     "export": list(TABLES) + ["tables", ""],
     "report": ["waiting", "unmet", "roll", "open", "schedule", "rows"],

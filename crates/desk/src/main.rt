@@ -1,25 +1,39 @@
 //! The program: it makes the real objects, calls the desk, prints the status and ends with its number.
 #![tactic(auto)]
 
+ghost use Rattle.std.specs.Prelude.{◌≡◌, ◌<◌, ◌≤◌, ℕ, Some, IfSome, length, map};
+ghost use Rattle.std.specs.String.{string_bytes};
+ghost use Rattle.sect_usage.specs.declared.words.Words.{Words};
+ghost use Rattle.sect_usage.specs.Grammar.{words_of};
+
+mod sending;
+
 use sect_app::{Needs, Status, WordFault, Words, desk, needs, number_of, print_status, read_words};
 use sect_clap::read_again;
-use sect_edge::{KeepFault, MemKeeper, MemLink, OpenGate};
+use sect_edge::{KeepFault, MemKeeper, OpenGate};
 use sect_journal::{Journal, JournalFault};
+use sect_net::{TcpLink, links};
 use sect_real::{
     AnyKeeper, FileDisk, RealClock, SqliteKeeper, StdSink, StdSource, ToldKeeper, ToldSource,
 };
+use sending::keeper_may_be_sent;
+use std::alloc::AllocGlobal;
 use std::io::{IsTerminal, Write};
+use std::net::{Ipv4Addr, TcpListener};
 use std::process::ExitCode;
+use std::sync::Wait;
+use std::thread::Threads;
 use std::{env, io};
 
 // How the program ended: as the desk did, or with a journal whose gate at this place has no byte or no whole row behind it.
+#[derive(Drop)]
 enum End {
     Told(Status),
     BadJournal(u64),
 }
 
 fn main(rt: HostRuntime) -> ExitCode {
-    let end = match start(rt) {
+    let end = match start(rt, &rt) {
         Ok(status) => End::Told(status),
         Err(end) => end,
     };
@@ -46,7 +60,10 @@ fn print_end(rt: HostRuntime, status: Status) -> io::Result<()> {
 }
 
 // Reads the words, makes what they need and calls the desk.
-fn start(rt: HostRuntime) -> Result<Status, End> {
+fn start<R: AllocGlobal + Threads + Wait + Sync>(
+    rt: HostRuntime,
+    threads: &R,
+) -> Result<Status, End> {
     let words = words_of(rt).map_err(End::Told)?;
     let needs = match needs(rt.alloc(), &words) {
         Ok(needs) => needs,
@@ -56,8 +73,25 @@ fn start(rt: HostRuntime) -> Result<Status, End> {
     if read_again(rt.alloc(), &words).is_err() {
         return Err(End::Told(Status::Memory));
     }
-    let keeper = keeper_of(rt, needs)?;
-    Ok(run(rt, &words, keeper))
+    let Needs {
+        db,
+        journal,
+        port,
+        workers,
+    } = needs;
+    match port {
+        Some(port) => {
+            let listener = listen(rt, port)?;
+            let links = links(rt, &listener, workers).map_err(|_| End::Told(Status::Memory))?;
+            let keeper = keeper_of(rt, db, journal)?;
+            let clocks = if workers == 0 { 1 } else { workers };
+            Ok(run(rt, threads, &words, keeper, links, clocks))
+        }
+        None => {
+            let keeper = keeper_of(rt, db, journal)?;
+            Ok(run(rt, threads, &words, keeper, Vec::new(rt.alloc()), 1))
+        }
+    }
 }
 
 // The words behind the program's name. One that is no text is a bad word.
@@ -77,8 +111,11 @@ fn words_of(rt: HostRuntime) -> Result<Vec<String>, Status> {
 }
 
 // The keeper that the words name, or one without rows.
-fn keeper_of(rt: HostRuntime, needs: Needs) -> Result<AnyKeeper, End> {
-    let Needs { db, journal } = needs;
+fn keeper_of(
+    rt: HostRuntime,
+    db: Option<String>,
+    journal: Option<String>,
+) -> Result<AnyKeeper, End> {
     if let Some(path) = db {
         return open_database(rt, path.as_str());
     }
@@ -113,19 +150,43 @@ fn open_journal(rt: HostRuntime, path: &str) -> Result<AnyKeeper, End> {
     }
 }
 
+// A listener at the port of this machine alone.
+fn listen(rt: HostRuntime, port: u16) -> Result<TcpListener, End> {
+    TcpListener::bind(&rt, (Ipv4Addr::LOCALHOST, port)).map_err(|_| End::Told(Status::LinkFault))
+}
+
+// As many clocks. None where memory is wanted.
+fn clocks_of(rt: HostRuntime, count: u32) -> Option<Vec<RealClock>>
+    ensures { IfSome result (λ clocks. length clocks.items ≡ count) }
+{
+    let mut clocks = Vec::new(rt.alloc());
+    for made in 0..count {
+        clocks.push(RealClock::new(rt)).ok()?;
+    }
+    Some(clocks)
+}
+
 // Calls the desk over the process's own input and output, and closes the keeper. Where that fails, no row is lost.
-fn run(rt: HostRuntime, words: &[String], keeper: AnyKeeper) -> Status {
-    let alloc = rt.alloc();
-    let mut clocks = Vec::new(alloc);
-    if clocks.push(RealClock::new(rt)).is_err() {
+fn run<R: AllocGlobal + Threads + Wait + Sync>(
+    rt: HostRuntime,
+    threads: &R,
+    words: &[String],
+    keeper: AnyKeeper,
+    links: Vec<TcpLink<'_>>,
+    clocks: u32,
+) -> Status
+    requires clocks { (0 < clocks) × (length links.items ≤ clocks) }
+    requires links { (length links.items ≤ 64) × ((port workers sessions : ℕ) → words_of (map string_bytes words.now) ≡ Some (Words.Serve port workers sessions) → 0 < length links.items) }
+{
+    keeper_may_be_sent();
+    let Some(clocks) = clocks_of(rt, clocks) else {
         let _ = keeper.close();
         return Status::Memory;
-    }
-    let links: Vec<MemLink> = Vec::new(alloc);
+    };
     let mut source = ToldSource::new(rt, StdSource::new(rt.stdin()), is_import_told(rt, words));
     let mut sink = StdSink::new(rt.stdout());
     let (status, keeper, _links) = desk(
-        &rt,
+        threads,
         words,
         &mut source,
         &mut sink,

@@ -18,10 +18,3 @@ pub desk_runs : {K : Type 0} (rows : K → Option (List (List ℕ))) (faults : K
 desk_runs rows faults keeper back left left' taken taken' days status law (inl runs) =
     inl (record { runs = runs; good = law (history runs.last.desk.log) runs.sound.legal.replies })
 desk_runs rows faults keeper back left left' taken taken' days status law (inr shut) = inr shut
-
-pub desk_does : {K : Type 0} (rows : K → Option (List (List ℕ))) (faults : K → ℕ) (words : Words) (keeper back : K)
-    (left left' taken taken' told days : Option (List ℕ)) (status : Status) → told ≡ days
-    → DeskDoes rows faults words keeper back left left' taken taken' told status
-    → DeskDoes rows faults words keeper back left left' taken taken' days status
-desk_does rows faults words keeper back left left' taken taken' told days status same done =
-    subst (λ (d : Option (List ℕ)). DeskDoes rows faults words keeper back left left' taken taken' d status) same done

@@ -1,2 +1,2 @@
+pub mod Connections
 pub mod Good
-pub mod Unfaulted

@@ -11,7 +11,7 @@ use Rattle.sect_usage.specs.declared.words.Words.TheVariants as asked
 use Rattle.sect_usage.specs.Help.{help_text, version_text}
 use Rattle.sect_tell.specs.Audit.{Audits}
 use Rattle.sect_tell.specs.Told.{TellsHistory}
-use Rattle.sect_tell.specs.Views.{IsExport, IsReport}
+use Rattle.sect_tell.specs.Views.{IsExport, IsPlan, IsReport, IsSurvey}
 use Rattle.sect_asking.specs.Desk.{RunsLines, StaysShut}
 use Rattle.sect_intake.specs.Machine.{Imports}
 use Rattle.sect_script.specs.Statuses.{Says}
@@ -31,12 +31,18 @@ module _ {K : Type 0} (rows : K → Option (List (List ℕ))) (faults : K → �
   abbrev pub DeskDoes : Words → K → K → Option (List ℕ) → Option (List ℕ) → Option (List ℕ) → Option (List ℕ) → Option (List ℕ) → Status → Type 0
   DeskDoes asked.Run keeper back left left' taken taken' days status =
       RunsDesk keeper back left left' taken taken' days status ⊎ DeskStaysShut keeper back left left' taken taken' status
+  -- what is asked and answered on connections is told beside this
+  DeskDoes (asked.Serve port workers sessions) keeper back left left' taken taken' days status = (left' ≡ left) × (taken' ≡ taken)
   DeskDoes asked.Audit keeper back left left' taken taken' days status =
       Audits rows faults keeper back taken taken' status ⊎ DeskStaysShut keeper back left left' taken taken' status
   DeskDoes (asked.Report query) keeper back left left' taken taken' days status =
       TellsHistory rows faults (IsReport query) keeper back taken taken' status ⊎ DeskStaysShut keeper back left left' taken taken' status
   DeskDoes (asked.Export table) keeper back left left' taken taken' days status =
       TellsHistory rows faults (IsExport table) keeper back taken taken' status ⊎ DeskStaysShut keeper back left left' taken taken' status
+  DeskDoes (asked.Plan student budget) keeper back left left' taken taken' days status =
+      TellsHistory rows faults (IsPlan student budget) keeper back taken taken' status ⊎ DeskStaysShut keeper back left left' taken taken' status
+  DeskDoes asked.Survey keeper back left left' taken taken' days status =
+      TellsHistory rows faults IsSurvey keeper back taken taken' status ⊎ DeskStaysShut keeper back left left' taken taken' status
   DeskDoes (asked.Import table first term) keeper back left left' taken taken' days status =
       Imports rows faults table term first keeper back left left' taken taken' days status
   DeskDoes (asked.Make offerings) keeper back left left' taken taken' days status = Makes offerings days taken taken' status × (back ≡ keeper)

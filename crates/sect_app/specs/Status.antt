@@ -18,7 +18,7 @@ status_number ends.Memory = 9
 -- the line of text that tells it, with its line feed, which is 10; none where the desk did what was asked
 unfoldable pub status_text : Status → List ℕ
 status_text ends.Done = []
-status_text ends.BadWords = codes "usage: desk run|make|audit|report|import|export" ++ 10 ∷ []
+status_text ends.BadWords = codes "usage: desk run|serve|make|audit|report|import|export|plan|survey" ++ 10 ∷ []
 status_text (ends.BadLine line field) = codes "line " ++ (decimal line ++ (codes " field " ++ (decimal field ++ 10 ∷ [])))
 status_text ends.ReadFault = codes "read fault" ++ 10 ∷ []
 status_text ends.WriteFault = codes "write fault" ++ 10 ∷ []

@@ -1,6 +1,6 @@
 -- What the top call says of its words, its status and its clocks.
-use Rattle.std.specs.Prelude.{ℕ, Bool, true, false, List, [], ◌∷◌, ⊤, Option, None}
-use Rattle.std.specs.Option.{option_map_or}
+use Rattle.std.specs.Prelude.{ℕ, Bool, true, false, List, [], ◌∷◌, ⊤, Option, Some, None}
+use Rattle.std.specs.Option.{option_and_then, option_map_or}
 use Rattle.sect_script.specs.declared.status.Status.{Status}
 use Rattle.sect_script.specs.declared.status.Status.TheVariants as statuses
 use Rattle.sect_usage.specs.declared.words.Words.{Words}
@@ -9,17 +9,38 @@ use Rattle.sect_usage.specs.declared.words.Words.TheVariants as asked
 -- whether what is asked for reads the source
 abbrev pub reads : Words → Bool
 reads asked.Run = true
+reads (asked.Serve port workers sessions) = false
 reads (asked.Make offerings) = false
 reads asked.Audit = false
 reads (asked.Report query) = false
 reads (asked.Import table first term) = true
 reads (asked.Export table) = false
+reads (asked.Plan student budget) = false
+reads asked.Survey = false
 reads (asked.Help topic) = false
 reads asked.Version = false
 
 -- whether words ask for something that reads the source
 abbrev pub reads_for : Option Words → Bool
 reads_for words = option_map_or reads words false
+
+-- how many connections each worker serves at most, where connections are served
+abbrev pub sessions_in : Words → Option ℕ
+sessions_in asked.Run = None
+sessions_in (asked.Serve port workers sessions) = Some sessions
+sessions_in (asked.Make offerings) = None
+sessions_in asked.Audit = None
+sessions_in (asked.Report query) = None
+sessions_in (asked.Import table first term) = None
+sessions_in (asked.Export table) = None
+sessions_in (asked.Plan student budget) = None
+sessions_in asked.Survey = None
+sessions_in (asked.Help topic) = None
+sessions_in asked.Version = None
+
+-- the same, where the words ask for it
+abbrev pub sessions_for : Option Words → Option ℕ
+sessions_for words = option_and_then sessions_in words
 
 -- the status tells of no fault
 abbrev pub IsUnfaulted : Status → Type 0

@@ -2,6 +2,7 @@
 #![tactic(auto)]
 
 mod over;
+mod serving;
 mod status;
 mod top;
 

@@ -1,15 +1,13 @@
 // What is done for the words.
-ghost use Rattle.std.specs.Prelude.{◌≡◌, ◌≢◌, ◌↔◌, ◌<◌, ◌≤◌, ℕ, true, false, None, Some, length, map};
-ghost use Rattle.std.specs.String.{string_bytes};
+ghost use Rattle.std.specs.Prelude.{◌≡◌, ◌≢◌, ◌<◌, ◌≤◌, ℕ, true, false, None, length};
 ghost use Rattle.std.specs.Io.KnownBytes.{IsAtEnd};
 ghost use Rattle.sect_edge.specs.Causes.{Rose};
 ghost use Rattle.sect_script.specs.declared.status.Status.{Status};
 ghost use Rattle.sect_usage.specs.declared.words.Words.{Words};
 ghost use Rattle.sect_script.specs.Statuses.{Says};
-ghost use Rattle.sect_app.specs.Top.{first_days, reads as reads_source, reads_for};
+ghost use Rattle.sect_app.specs.Top.{first_days, reads as reads_source, sessions_in};
 ghost use Rattle.sect_app.specs.Machine.{DeskDoes};
 ghost use Rattle.sect_making.specs.Made.{Makes};
-ghost use Rattle.sect_usage.specs.Grammar.{words_of};
 ghost use Rattle.sect_usage.specs.Laws.{IsInRange};
 
 use sect_asking::run;
@@ -19,43 +17,14 @@ use sect_intake::import_table;
 use sect_machine::Machine;
 use sect_making::make;
 use sect_script::{Status, write_all};
-use sect_tell::{Export, Report, audit, tell};
-use sect_usage::laws::what_is_asked_is_in_range;
-use sect_usage::{Words, help_of, read_words, version};
+use sect_tell::{Export, Plan, Report, Survey, audit, tell};
+use sect_usage::{Words, help_of, version};
 use std::alloc::Global;
+use std::thread::Threads;
 
-/// Does what the words ask for. The keeper comes back.
-pub(crate) fn desk_over<S: Source, T: Sink, K: Keeper, C: Clock + Drop>(
-    alloc: Global,
-    words: &[String],
-    source: &mut S,
-    sink: &mut T,
-    keeper: K,
-    clock: C,
-) -> (Status, K)
-    ensures bad_words { (result.0 ≡ Status.BadWords) ↔ (words_of (map string_bytes words.now) ≡ None) }
-    ensures untouched { result.0 ≡ Status.BadWords → (source.new ≡ source.old) × (sink.new ≡ sink.old) × (result.1 ≡ keeper) }
-    ensures does { (asked : Words) → words_of (map string_bytes words.now) ≡ Some asked
-        → DeskDoes K.rows K.faults asked keeper result.1
-        (S.left source.old) (S.left source.new) (T.taken sink.old) (T.taken sink.new) (C.days clock) result.0 }
-    ensures unread { reads_for (words_of (map string_bytes words.now)) ≡ false → source.new ≡ source.old }
-    ensures end { reads_for (words_of (map string_bytes words.now)) ≡ true → result.0 ≡ Status.Done → IsAtEnd (S.left source.new) }
-    ensures shut { result.0 ≡ Status.KeeperFault → (source.new ≡ source.old) × (sink.new ≡ sink.old) }
-    ensures bad_entry { (row : ℕ) → result.0 ≡ Status.BadEntry row → (source.new ≡ source.old) × (sink.new ≡ sink.old) }
-    ensures read_fault { result.0 ≡ Status.ReadFault → Rose (S.faults source.old) (S.faults source.new) }
-    ensures write_fault { result.0 ≡ Status.WriteFault → Rose (T.faults sink.old) (T.faults sink.new) }
-    ensures keeper_fault { result.0 ≡ Status.KeeperFault → Rose (K.faults keeper) (K.faults result.1) }
-    ensures link_fault { result.0 ≢ Status.LinkFault }
-{
-    what_is_asked_is_in_range();
-    match read_words(words) {
-        Some(asked) => do_asked(alloc, asked, source, sink, keeper, clock),
-        None => (Status::BadWords, keeper),
-    }
-}
-
-// Does what is asked for. The keeper comes back.
-fn do_asked<S: Source, T: Sink, K: Keeper, C: Clock + Drop>(
+/// Does what is asked for by one session. The keeper comes back.
+pub(crate) fn do_asked<R: Threads + Sync, S: Source, T: Sink, K: Keeper, C: Clock + Drop>(
+    rt: &R,
     alloc: Global,
     asked: Words,
     source: &mut S,
@@ -63,7 +32,8 @@ fn do_asked<S: Source, T: Sink, K: Keeper, C: Clock + Drop>(
     keeper: K,
     clock: C,
 ) -> (Status, K)
-    requires { IsInRange asked }
+    requires range { IsInRange asked }
+    requires alone { sessions_in asked ≡ None }
     ensures does { DeskDoes K.rows K.faults asked keeper result.1
         (S.left source.old) (S.left source.new) (T.taken sink.old) (T.taken sink.new) (C.days clock) result.0 }
     ensures unread { reads_source asked ≡ false → source.new ≡ source.old }
@@ -80,9 +50,12 @@ fn do_asked<S: Source, T: Sink, K: Keeper, C: Clock + Drop>(
         Words::Import { table, first, term } => {
             import_table(alloc, table, term, first, source, sink, keeper, clock)
         }
-        Words::Audit => audit(alloc, sink, keeper),
-        Words::Report(query) => tell(alloc, sink, keeper, &Report(query)),
-        Words::Export(table) => tell(alloc, sink, keeper, &Export(table)),
+        Words::Serve { .. } => unreachable!(),
+        Words::Audit => audit(rt, alloc, sink, keeper),
+        Words::Report(query) => tell(rt, alloc, sink, keeper, &Report(query)),
+        Words::Export(table) => tell(rt, alloc, sink, keeper, &Export(table)),
+        Words::Plan { student, budget } => tell(rt, alloc, sink, keeper, &Plan { student, budget }),
+        Words::Survey => tell(rt, alloc, sink, keeper, &Survey),
         Words::Make(offerings) => (make_on(alloc, offerings, sink, clock), keeper),
         Words::Help(topic) => (say(help_of(topic), sink), keeper),
         Words::Version => (say(version(), sink), keeper),

@@ -31,7 +31,10 @@ pub fn print_status(status: Status, into: &mut Vec<u8>) -> Result<(), Memory>
 {
     match status {
         Status::Done => Ok(()),
-        Status::BadWords => print_text("usage: desk run|make|audit|report|import|export\n", into),
+        Status::BadWords => print_text(
+            "usage: desk run|serve|make|audit|report|import|export|plan|survey\n",
+            into,
+        ),
         Status::BadLine { line, field } => print_bad_line(line, field, into),
         Status::ReadFault => print_text("read fault\n", into),
         Status::WriteFault => print_text("write fault\n", into),

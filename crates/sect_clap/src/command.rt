@@ -10,7 +10,9 @@ pub(crate) const FIRST_WORD: &str = "what";
 pub(crate) const SECOND_WORD: &str = "which";
 
 /// The options of all commands.
-pub(crate) const OPTIONS: [&str; 4] = ["db", "journal", "first", "term"];
+pub(crate) const OPTIONS: [&str; 8] = [
+    "db", "journal", "first", "term", "port", "workers", "sessions", "budget",
+];
 
 /// The desk. Its words begin with a command.
 pub(crate) fn desk_command<'a>(alloc: Global) -> Result<Command<'a>, AllocError> {
@@ -20,17 +22,31 @@ pub(crate) fn desk_command<'a>(alloc: Global) -> Result<Command<'a>, AllocError>
         .no_binary_name(true)
         .disable_help_subcommand(true)
         .subcommand(kept(alloc, "run")?)?
+        .subcommand(serve_command(alloc)?)?
         .subcommand(make)?
         .subcommand(kept(alloc, "audit")?)?
         .subcommand(named(alloc, "report")?.arg(word(alloc, SECOND_WORD))?)?
         .subcommand(import_command(alloc)?)?
-        .subcommand(named(alloc, "export")?)
+        .subcommand(named(alloc, "export")?)?
+        .subcommand(plan_command(alloc)?)?
+        .subcommand(kept(alloc, "survey")?)
 }
 
 fn import_command<'a>(alloc: Global) -> Result<Command<'a>, AllocError> {
     named(alloc, "import")?
         .arg(setting(alloc, "first").required(true))?
         .arg(setting(alloc, "term"))
+}
+
+fn serve_command<'a>(alloc: Global) -> Result<Command<'a>, AllocError> {
+    kept(alloc, "serve")?
+        .arg(setting(alloc, "port").required(true))?
+        .arg(setting(alloc, "workers"))?
+        .arg(setting(alloc, "sessions"))
+}
+
+fn plan_command<'a>(alloc: Global) -> Result<Command<'a>, AllocError> {
+    named(alloc, "plan")?.arg(setting(alloc, "budget"))
 }
 
 // A command over a keeper, with a word behind it.

@@ -19,6 +19,7 @@ mod reserved;
 mod rows;
 mod state;
 mod stepping;
+mod survey;
 mod undo;
 mod waits;
 

@@ -4,4 +4,4 @@
 mod generate;
 mod maker;
 
-pub use maker::make;
+pub use maker::{made_machine, make};

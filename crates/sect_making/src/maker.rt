@@ -49,6 +49,21 @@ pub fn make<T: Sink, C: Clock>(alloc: Global, offerings: u32, sink: &mut T, cloc
     tell(alloc, offerings, day, sink)
 }
 
+/// The machine of which the commands for so many offerings, from 1 to 100, were asked on the day.
+pub fn made_machine(alloc: Global, offerings: u32, day: Day) -> Result<Machine, Memory>
+    requires first { 1 ≤ offerings }
+    requires few { offerings ≤ 100 }
+    ensures { IfOk result (λ machine. state_in machine ≡ (tally_of offerings day).state) }
+{
+    let Maker {
+        machine,
+        met: _,
+        blocked: _,
+        spent: _,
+    } = made(alloc, offerings, day)?;
+    Ok(machine)
+}
+
 // Asks the commands on the day, and writes the summary.
 fn tell<T: Sink>(alloc: Global, offerings: u32, day: Day, sink: &mut T) -> Status
     requires first { 1 ≤ offerings }

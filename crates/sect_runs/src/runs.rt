@@ -1,21 +1,23 @@
 // Runs of the desk.
 
-ghost use Rattle.std.specs.Prelude.{◌<◌, IfOk, length};
+ghost use Rattle.std.specs.Prelude.{◌≡◌, IfOk, length};
 
 use crate::case::{Case, RUN};
 use crate::script::script_of;
 use sect_app::{Status, desk};
 use sect_base::Memory;
-use sect_edge::{MemClock, MemKeeper, MemLink, MemSink, MemSource, OpenGate};
+use sect_edge::{Keeper, MemClock, MemKeeper, MemLink, MemSink, MemSource, OpenGate};
 use sect_time::Day;
-use std::alloc::Global;
+use std::alloc::{AllocGlobal, Global};
+use std::sync::Wait;
+use std::thread::Threads;
 
-/// What a run left.
+/// What a run over a keeper left.
 #[derive(Drop)]
-pub struct Ended {
+pub struct Ended<K = MemKeeper> {
     pub status: Status,
     pub sink: MemSink,
-    pub keeper: Option<MemKeeper>,
+    pub keeper: Option<K>,
 }
 
 fn number_alone(alloc: Global, number: u64) -> Result<Vec<u64>, Memory> {
@@ -27,7 +29,7 @@ fn number_alone(alloc: Global, number: u64) -> Result<Vec<u64>, Memory> {
 /// Stands for the word without letters.
 const NO_LETTERS: &str = "\"\"";
 
-fn words_of(alloc: Global, text: &str) -> Result<Vec<String>, Memory> {
+pub(crate) fn words_of(alloc: Global, text: &str) -> Result<Vec<String>, Memory> {
     let mut words = Vec::new(alloc);
     for word in text.split_whitespace() {
         let word = if word == NO_LETTERS { "" } else { word };
@@ -36,7 +38,7 @@ fn words_of(alloc: Global, text: &str) -> Result<Vec<String>, Memory> {
     Ok(words)
 }
 
-fn rows_of(alloc: Global, text: &str) -> Result<Vec<Vec<u8>>, Memory> {
+pub(crate) fn rows_of(alloc: Global, text: &str) -> Result<Vec<Vec<u8>>, Memory> {
     let mut rows = Vec::new(alloc);
     for row in text.lines() {
         rows.push(row.as_bytes().to_vec(alloc)?)?;
@@ -46,7 +48,7 @@ fn rows_of(alloc: Global, text: &str) -> Result<Vec<Vec<u8>>, Memory> {
 
 /// A clock that gives 2025-09-01.
 fn clocks(alloc: Global) -> Result<Vec<MemClock>, Memory>
-    ensures { IfOk result (λ clocks. 0 < length clocks.items) }
+    ensures { IfOk result (λ clocks. length clocks.items ≡ 1) }
 {
     let day = Day::new(20_332).ok_or(Memory)?;
     let mut clocks = Vec::new(alloc);
@@ -54,13 +56,22 @@ fn clocks(alloc: Global) -> Result<Vec<MemClock>, Memory>
     Ok(clocks)
 }
 
+/// A link to which no connection comes.
+fn links(alloc: Global) -> Result<Vec<MemLink>, Memory>
+    ensures { IfOk result (λ links. length links.items ≡ 1) }
+{
+    let mut links = Vec::new(alloc);
+    links.push(MemLink::new(Vec::new(alloc), Vec::new(alloc)))?;
+    Ok(links)
+}
+
 /// Runs the desk by the case's words over these bytes and this keeper, with a sink that takes a byte at a time.
-pub fn run_over<R: AllocGlobal>(
+pub fn run_over<R: AllocGlobal + Threads + Wait + Sync, K: Keeper + Send + Drop>(
     rt: &R,
     case: &Case<'_>,
     input: Vec<u8>,
-    keeper: MemKeeper,
-) -> Result<Ended, Memory> {
+    keeper: K,
+) -> Result<Ended<K>, Memory> {
     let alloc = rt.alloc();
     let words = words_of(alloc, case.words)?;
     let mut source = MemSource::new(
@@ -69,13 +80,12 @@ pub fn run_over<R: AllocGlobal>(
         number_alone(alloc, case.failing_read)?,
     );
     let mut sink = MemSink::new(alloc, 4_000, 1, number_alone(alloc, case.failing_write)?)?;
-    let links: Vec<MemLink> = Vec::new(alloc);
     let (status, keeper, _links) = desk(
         rt,
         &words,
         &mut source,
         &mut sink,
-        links,
+        links(alloc)?,
         keeper,
         clocks(alloc)?,
         &OpenGate,
@@ -97,25 +107,35 @@ pub fn keeper_of(alloc: Global, case: &Case<'_>) -> Result<MemKeeper, Memory> {
 }
 
 /// Runs the desk over these bytes and a keeper with the case's rows.
-pub fn run_desk<R: AllocGlobal>(rt: &R, case: &Case<'_>, input: Vec<u8>) -> Result<Ended, Memory> {
+pub fn run_desk<R: AllocGlobal + Threads + Wait + Sync>(
+    rt: &R,
+    case: &Case<'_>,
+    input: Vec<u8>,
+) -> Result<Ended, Memory> {
     let keeper = keeper_of(rt.alloc(), case)?;
     run_over(rt, case, input, keeper)
 }
 
 /// Whether the desk ends and answers as the case says.
-pub fn ends<R: AllocGlobal>(rt: &R, case: &Case<'_>) -> Result<bool, Memory> {
+pub fn ends<R: AllocGlobal + Threads + Wait + Sync>(
+    rt: &R,
+    case: &Case<'_>,
+) -> Result<bool, Memory> {
     let script = script_of(rt.alloc(), case.script)?;
     let ended = run_desk(rt, case, script.input)?;
     Ok(ended.status == case.status && ended.sink.bytes() == script.output.as_slice())
 }
 
 /// Whether `run` over a keeper with no rows answers each line of the parts as it stands there, and ends Done.
-pub fn answers<R: AllocGlobal>(rt: &R, script: &[&str]) -> Result<bool, Memory> {
+pub fn answers<R: AllocGlobal + Threads + Wait + Sync>(
+    rt: &R,
+    script: &[&str],
+) -> Result<bool, Memory> {
     ends(rt, &Case { script, ..RUN })
 }
 
 /// Whether these words, over the keeper that a run of the parts left, write this text and end Done.
-pub fn is_told<R: AllocGlobal>(
+pub fn is_told<R: AllocGlobal + Threads + Wait + Sync>(
     rt: &R,
     script: &[&str],
     words: &str,

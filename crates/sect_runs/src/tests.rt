@@ -5,4 +5,5 @@ mod found;
 mod held;
 mod lengths;
 mod rules;
+mod served;
 mod told;

@@ -26,6 +26,7 @@ use sect_script::Status;
 use sect_time::{Day, print_day};
 use sect_words::print_number;
 use std::alloc::Global;
+use std::thread::Threads;
 
 // What an audit found: how many replies block, how many of these by a tree that refutes every choice, and the day.
 #[derive(Drop)]
@@ -41,8 +42,9 @@ struct AuditLine;
 impl Teller for AuditLine {
     ghost tells = { λ _. IsAuditLine };
 
-    fn text<K: Keeper>(
+    fn text<R: Threads + Sync, K: Keeper>(
         &self,
+        _rt: &R,
         alloc: Global,
         desk: &Desk<Machine, K>,
         into: &mut Vec<u8>,
@@ -53,7 +55,12 @@ impl Teller for AuditLine {
 }
 
 /// Opens the keeper's history, audits it and writes the line of it. The keeper comes back.
-pub fn audit<T: Sink, K: Keeper>(alloc: Global, sink: &mut T, keeper: K) -> (Status, K)
+pub fn audit<R: Threads + Sync, T: Sink, K: Keeper>(
+    rt: &R,
+    alloc: Global,
+    sink: &mut T,
+    keeper: K,
+) -> (Status, K)
     ensures audits { (left : Option (List ℕ)) → Audits K.rows K.faults keeper result.1 (T.taken sink.old) (T.taken sink.new) result.0
         ⊎ StaysShut empty_state stepped IsRow K.rows K.faults keeper result.1 left left (T.taken sink.old) (T.taken sink.new) result.0 }
     ensures shut { result.0 ≡ Status.KeeperFault → sink.new ≡ sink.old }
@@ -65,7 +72,7 @@ pub fn audit<T: Sink, K: Keeper>(alloc: Global, sink: &mut T, keeper: K) -> (Sta
     replays_are_good();
     steps_keep_the_world();
     blocked_is_refuted();
-    tell(alloc, sink, keeper, &AuditLine)
+    tell(rt, alloc, sink, keeper, &AuditLine)
 }
 
 // Acts the history again on a machine of its own, and checks each reply that blocks before its command acts.

@@ -17,6 +17,7 @@ use sect_machine::Machine;
 use sect_once::Desk;
 use sect_report::print_unknown;
 use std::alloc::Global;
+use std::thread::Threads;
 
 /// The best whole schedule of a student, where each search visits at most `budget` decisions.
 #[derive(Clone, Copy, Debug, PartialEq, Eq)]
@@ -28,8 +29,9 @@ pub struct Plan {
 impl Teller for Plan {
     ghost tells = { λ p. IsPlan p.student p.budget };
 
-    fn text<K: Keeper>(
+    fn text<R: Threads + Sync, K: Keeper>(
         &self,
+        _rt: &R,
         _alloc: Global,
         desk: &Desk<Machine, K>,
         into: &mut Vec<u8>,

@@ -1,5 +1,6 @@
 // Opens a history, makes a text of it and writes the text.
 ghost use Rattle.std.specs.Prelude.{◌≡◌, ◌≢◌, ◌⊎◌, ◌++◌, ℕ, List, Option, OnOk};
+ghost use Rattle.std.specs.Thread.{IsSync};
 ghost use Rattle.sect_command.specs.declared.command.Command.{Command};
 ghost use Rattle.sect_command.specs.declared.reply.Reply.{Reply};
 ghost use Rattle.sect_edge.specs.Causes.{Rose};
@@ -20,26 +21,31 @@ use sect_machine::Machine;
 use sect_once::Desk;
 use sect_script::{Status, write_all};
 use std::alloc::Global;
+use std::thread::Threads;
 
 /// What is told of a history.
 pub trait Teller {
     /// The text tells it of this history.
     ghost tells: { Self → List (Entry Command Reply) → List ℕ → Type 0 };
 
-    /// Appends the text that tells it of the desk's history. After `Memory` a part of it may stand at the end.
-    fn text<K: Keeper>(
+    /// Appends the text that tells it of the desk's history, where it is made by these threads or none. After `Memory` a part
+    /// of it may stand at the end.
+    fn text<R: Threads + Sync, K: Keeper>(
         &self,
+        rt: &R,
         alloc: Global,
         desk: &Desk<Machine, K>,
         into: &mut Vec<u8>,
     ) -> Result<(), Memory>
+        requires shared { IsSync R.row }
         requires sound { IsSound stepped IsRow K.rows K.faults empty_state desk.now }
         ensures { OnOk result ((text : List ℕ) × tells self.now (history desk.now.log) text
             × (into.new.items ≡ into.old.items ++ text)) };
 }
 
 /// Opens the keeper's history, and writes the text that tells it of that. The keeper comes back.
-pub fn tell<T: Sink, K: Keeper, W: Teller>(
+pub fn tell<R: Threads + Sync, T: Sink, K: Keeper, W: Teller>(
+    rt: &R,
     alloc: Global,
     sink: &mut T,
     keeper: K,
@@ -55,7 +61,7 @@ pub fn tell<T: Sink, K: Keeper, W: Teller>(
 {
     match Desk::<Machine, K>::open(alloc, keeper) {
         Ok(desk) => {
-            let status = write_text(alloc, &desk, sink, what);
+            let status = write_text(rt, alloc, &desk, sink, what);
             (status, desk.close())
         }
         Err((fault, keeper)) => (shut_status(fault), keeper),
@@ -63,7 +69,8 @@ pub fn tell<T: Sink, K: Keeper, W: Teller>(
 }
 
 // Writes the text that tells it of the desk's history.
-fn write_text<T: Sink, K: Keeper, W: Teller>(
+fn write_text<R: Threads + Sync, T: Sink, K: Keeper, W: Teller>(
+    rt: &R,
     alloc: Global,
     desk: &Desk<Machine, K>,
     sink: &mut T,
@@ -74,7 +81,7 @@ fn write_text<T: Sink, K: Keeper, W: Teller>(
     ensures write_fault { result ≡ Status.WriteFault → Rose (T.faults sink.old) (T.faults sink.new) }
 {
     let mut text = Vec::new(alloc);
-    if what.text(alloc, desk, &mut text).is_err() {
+    if what.text(rt, alloc, desk, &mut text).is_err() {
         return Status::Memory;
     }
     match write_all(sink, &text) {

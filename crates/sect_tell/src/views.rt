@@ -17,6 +17,7 @@ use sect_once::Desk;
 use sect_report::report;
 use sect_sheet::export;
 use std::alloc::Global;
+use std::thread::Threads;
 
 /// The report of a query.
 #[derive(Clone, Copy, Debug, PartialEq, Eq)]
@@ -29,8 +30,9 @@ pub struct Export(pub Table);
 impl Teller for Report {
     ghost tells = { λ r. IsReport r.0 };
 
-    fn text<K: Keeper>(
+    fn text<R: Threads + Sync, K: Keeper>(
         &self,
+        _rt: &R,
         _alloc: Global,
         desk: &Desk<Machine, K>,
         into: &mut Vec<u8>,
@@ -42,8 +44,9 @@ impl Teller for Report {
 impl Teller for Export {
     ghost tells = { λ e. IsExport e.0 };
 
-    fn text<K: Keeper>(
+    fn text<R: Threads + Sync, K: Keeper>(
         &self,
+        _rt: &R,
         _alloc: Global,
         desk: &Desk<Machine, K>,
         into: &mut Vec<u8>,

@@ -14,7 +14,7 @@ use Rattle.sect_usage.specs.Laws.{AnyOrder, OneItem, Worked}
 
 pub worked : Worked
 unfolding words_of verb_of lone_of table_of query_by asked_by asked_for takes
-worked = record { run = refl; kept = refl; twice = refl; extra = refl; help = refl; export = refl; again = refl; empty = refl; unmet = refl; dash = refl; equals = refl }
+worked = record { run = refl; kept = refl; twice = refl; extra = refl; help = refl; export = refl; again = refl; empty = refl; unmet = refl; dash = refl; portless = refl; nobody = refl; equals = refl }
 
 -- the first `=` stands behind a name without one
 equals_behind : (name value : List ℕ) → equals_at name ≡ None → position_or_len (λ byte. byte == 61) (name ++ 61 ∷ value) ≡ length name
@@ -46,11 +46,14 @@ one_item (n ∷ name) (b ∷ bs) words some h plain = by (b == 45) refl
 same_for : (verb : Verb) (a b : List Item) → positionals a ≡ positionals b → ((name : List ℕ) → value_of name a ≡ value_of name b) → asked_for verb a ≡ asked_for verb b
 unfolding asked_for
 same_for verbs.Run a b p v = rw p refl
+same_for verbs.Serve a b p v = rw (p, v (codes "port"), v (codes "workers"), v (codes "sessions")) refl
 same_for verbs.Make a b p v = rw p refl
 same_for verbs.Audit a b p v = rw p refl
 same_for verbs.Report a b p v = rw p refl
 same_for verbs.Import a b p v = rw (p, v (codes "first"), v (codes "term")) refl
 same_for verbs.Export a b p v = rw p refl
+same_for verbs.Plan a b p v = rw (p, v (codes "budget")) refl
+same_for verbs.Survey a b p v = rw p refl
 
 pub any_order : AnyOrder
 unfolding asked_by

@@ -104,9 +104,47 @@ export_words tables.Students = refl
 export_words tables.Requests = refl
 export_words tables.Reservations = refl
 
+-- the option of a number is read
+number_value : (name : List ℕ) (n most : ℕ) → most < 2 ^ 64 → n ≤ most → option_by name (decimal n) ≡ option name (decimal n)
+number_value name n most small fits = value_word name (decimal n) (number_plain n (omega (arith, small, fits)))
+
+serve_words : (port workers sessions : ℕ) → MayBeAsked (asked.Serve port workers sessions)
+    → words_of (word_list (asked.Serve port workers sessions)) ≡ Some (asked.Serve port workers sessions)
+unfolding words_of verb_of asked_by asked_for takes between_of
+serve_words port workers sessions may =
+    let port_low : nat_le 1 port ≡ true = grind (arith, nat_tests, may.0.0) in
+    let workers_low : nat_le 1 workers ≡ true = grind (arith, nat_tests, may.1.0) in
+    let sessions_low : nat_le 1 sessions ≡ true = grind (arith, nat_tests, may.2.0) in
+    rw (
+      number_value (codes "port") port 65535 (omega arith) may.0.1,
+      number_value (codes "workers") workers 64 (omega arith) may.1.1,
+      number_value (codes "sessions") sessions 1000000 (omega arith) may.2.1,
+      read_number 65535 port (omega arith) may.0.1,
+      read_number 64 workers (omega arith) may.1.1,
+      read_number 1000000 sessions (omega arith) may.2.1,
+      port_low,
+      workers_low,
+      sessions_low,
+    ) refl
+
+plan_words : (student budget : ℕ) → student < 2 ^ 32 → 1 ≤ budget → budget ≤ 20000
+    → words_of (word_list (asked.Plan (record { 0 = student }) budget)) ≡ Some (asked.Plan (record { 0 = student }) budget)
+unfolding words_of verb_of asked_by asked_for takes between_of
+plan_words student budget fits low high =
+    let budget_low : nat_le 1 budget ≡ true = grind (arith, nat_tests, low) in
+    let plain = number_plain student (omega (arith, fits)) in
+    rw (
+      positional_word (decimal student) (codes "--budget" ∷ (decimal budget ∷ [])) plain,
+      number_value (codes "budget") budget 20000 (omega arith) high,
+      read_id student fits,
+      read_number 20000 budget (omega arith) high,
+      budget_low,
+    ) refl
+
 pub plain_words : PlainWords
 unfolding words_of verb_of lone_of query_by asked_by asked_for takes between_of
 plain_words asked.Run may = refl
+plain_words (asked.Serve port workers sessions) may = serve_words port workers sessions may
 plain_words (asked.Make n) may =
     let plain = number_plain n (omega (arith, may.1)) in
     let low : nat_le 1 n ≡ true = grind (arith, nat_tests, may.0) in
@@ -120,11 +158,16 @@ plain_words (asked.Report queries.Unmet) may = refl
 plain_words (asked.Report (queries.Rows table)) may = absurd may
 plain_words (asked.Import table first term) may = import_words table first term may
 plain_words (asked.Export table) may = export_words table
+plain_words (asked.Plan student budget) may = plan_words student.0 budget may.0 may.1.0 may.1.1
+plain_words asked.Survey may = refl
 plain_words (asked.Help topics.Desk) may = refl
 plain_words (asked.Help (topics.Command verbs.Run)) may = refl
+plain_words (asked.Help (topics.Command verbs.Serve)) may = refl
 plain_words (asked.Help (topics.Command verbs.Make)) may = refl
 plain_words (asked.Help (topics.Command verbs.Audit)) may = refl
 plain_words (asked.Help (topics.Command verbs.Report)) may = refl
 plain_words (asked.Help (topics.Command verbs.Import)) may = refl
 plain_words (asked.Help (topics.Command verbs.Export)) may = refl
+plain_words (asked.Help (topics.Command verbs.Plan)) may = refl
+plain_words (asked.Help (topics.Command verbs.Survey)) may = refl
 plain_words asked.Version may = refl

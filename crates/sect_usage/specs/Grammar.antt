@@ -18,24 +18,34 @@ use Rattle.sect_usage.specs.Items.{Item, positional, option, bad, items_of, posi
 unfoldable pub verb_of : List ℕ → Option Verb
 verb_of word =
     if bytes_eq word (codes "run") then Some verbs.Run else
+    (if bytes_eq word (codes "serve") then Some verbs.Serve else
     (if bytes_eq word (codes "make") then Some verbs.Make else
     (if bytes_eq word (codes "audit") then Some verbs.Audit else
     (if bytes_eq word (codes "report") then Some verbs.Report else
     (if bytes_eq word (codes "import") then Some verbs.Import else
-    (if bytes_eq word (codes "export") then Some verbs.Export else None)))))
+    (if bytes_eq word (codes "export") then Some verbs.Export else
+    (if bytes_eq word (codes "plan") then Some verbs.Plan else
+    (if bytes_eq word (codes "survey") then Some verbs.Survey else None))))))))
 
 -- the option names a keeper
 abbrev pub is_keeper : List ℕ → Bool
 is_keeper name = bytes_eq name (codes "db") || bytes_eq name (codes "journal")
 
+-- the option is one of `serve` alone
+abbrev pub is_of_serve : List ℕ → Bool
+is_of_serve name = bytes_eq name (codes "port") || (bytes_eq name (codes "workers") || bytes_eq name (codes "sessions"))
+
 -- the command has the option
 unfoldable pub takes : Verb → List ℕ → Bool
 takes verbs.Run name = is_keeper name
+takes verbs.Serve name = is_keeper name || is_of_serve name
 takes verbs.Make name = false
 takes verbs.Audit name = is_keeper name
 takes verbs.Report name = is_keeper name
 takes verbs.Import name = is_keeper name || (bytes_eq name (codes "first") || bytes_eq name (codes "term"))
 takes verbs.Export name = is_keeper name
+takes verbs.Plan name = is_keeper name || bytes_eq name (codes "budget")
+takes verbs.Survey name = is_keeper name
 
 -- there is a value
 abbrev pub is_given : Option (List ℕ) → Bool
@@ -90,6 +100,19 @@ abbrev pub term_of : Option (List ℕ) → Option (Option ℕ)
 term_of None = Some None
 term_of (Some text) = option_map Some (day_of text)
 
+-- the number from the least to the most where there is a word, else the usual one
+abbrev pub usual_or : ℕ → ℕ → ℕ → Option (List ℕ) → Option ℕ
+usual_or usual least most None = Some usual
+usual_or usual least most (Some word) = between_of least most word
+
+-- what `serve` asks for: four workers and 1,000,000 sessions where they aren't named
+abbrev pub serve_of : List Item → Option Words
+serve_of items = do
+  port ← value_of (codes "port") items >>= between_of 1 65535
+  workers ← usual_or 4 1 64 (value_of (codes "workers") items)
+  sessions ← usual_or 1000000 1 1000000 (value_of (codes "sessions") items)
+  Some (asked.Serve port workers sessions)
+
 -- what `make` asks for
 abbrev pub make_of : List Item → Option Words
 make_of items = do
@@ -104,14 +127,24 @@ import_of items = do
   term ← term_of (value_of (codes "term") items)
   Some (asked.Import table first term)
 
+-- what `plan` asks for: each search visits at most 2,000 decisions where the budget isn't named
+abbrev pub plan_of : List Item → Option Words
+plan_of items = do
+  student ← the_one (positionals items) >>= student_of
+  budget ← usual_or 2000 1 20000 (value_of (codes "budget") items)
+  Some (asked.Plan student budget)
+
 -- what a command asks for by items that it allows
 unfoldable pub asked_for : Verb → List Item → Option Words
 asked_for verbs.Run items = where_none (Some asked.Run) (positionals items)
+asked_for verbs.Serve items = where_none (serve_of items) (positionals items)
 asked_for verbs.Make items = make_of items
 asked_for verbs.Audit items = where_none (Some asked.Audit) (positionals items)
 asked_for verbs.Report items = option_map asked.Report (query_of (positionals items))
 asked_for verbs.Import items = import_of items
 asked_for verbs.Export items = option_map asked.Export (the_one (positionals items) >>= table_of)
+asked_for verbs.Plan items = plan_of items
+asked_for verbs.Survey items = where_none (Some asked.Survey) (positionals items)
 
 -- what a command asks for by these items
 unfoldable pub asked_by : Verb → List Item → Option Words

@@ -27,6 +27,8 @@ pub record Worked : Type 0 where
   pub empty : words_of (codes "audit" ∷ codes "--db=" ∷ []) ≡ no_words
   pub unmet : words_of (codes "report" ∷ codes "unmet" ∷ []) ≡ Some (asked.Report queries.Unmet)
   pub dash : words_of (codes "run" ∷ codes "--db" ∷ codes "-x" ∷ []) ≡ no_words
+  pub portless : words_of (codes "serve" ∷ codes "--workers" ∷ codes "9" ∷ []) ≡ no_words
+  pub nobody : words_of (codes "plan" ∷ codes "--budget=12" ∷ []) ≡ no_words
   pub equals : words_of (codes "run" ∷ codes "--db=-x" ∷ []) ≡ Some asked.Run
 
 -- not empty, and it doesn't begin with a dash
@@ -46,14 +48,22 @@ AnyOrder =
     (verb : Verb) (a b : List Item) → allows (takes verb) a ≡ true → allows (takes verb) b ≡ true → positionals a ≡ positionals b
     → ((name : List ℕ) → value_of name a ≡ value_of name b) → asked_by verb a ≡ asked_by verb b
 
--- offerings are made from 1 to 100
+-- the number is from the least to the most
+abbrev pub IsBetween : ℕ → ℕ → ℕ → Type 0
+IsBetween least most n = (least ≤ n) × (n ≤ most)
+
+-- offerings are made from 1 to 100; a port is from 1 to 65,535, workers are from 1 to 64, sessions from 1 to 1,000,000; a budget
+-- is from 1 to 20,000
 abbrev pub IsInRange : Words → Type 0
 IsInRange asked.Run = ⊤
-IsInRange (asked.Make offerings) = (1 ≤ offerings) × (offerings ≤ 100)
+IsInRange (asked.Serve port workers sessions) = IsBetween 1 65535 port × IsBetween 1 64 workers × IsBetween 1 1000000 sessions
+IsInRange (asked.Make offerings) = IsBetween 1 100 offerings
 IsInRange asked.Audit = ⊤
 IsInRange (asked.Report query) = ⊤
 IsInRange (asked.Import table first term) = ⊤
 IsInRange (asked.Export table) = ⊤
+IsInRange (asked.Plan student budget) = IsBetween 1 20000 budget
+IsInRange asked.Survey = ⊤
 IsInRange (asked.Help topic) = ⊤
 IsInRange asked.Version = ⊤
 

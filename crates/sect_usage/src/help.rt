@@ -11,9 +11,12 @@ requests, reservations and a wait-list, and answers each request with a place or
 \n\
 Commands:\n\
   desk run                       reads requests from standard input, one a line, and answers each by a line\n\
+  desk serve --port P            answers requests over HTTP, of many connections at once\n\
   desk import TABLE --first N    reads a table in CSV from standard input, and asks for what it says\n\
   desk export TABLE              prints a table in CSV\n\
   desk report KIND [ID]          prints a roll, the open places, a schedule, who waits or what is unmet\n\
+  desk plan STUDENT              prints the best whole schedule that a student could have\n\
+  desk survey                    prints why each unmet request can't be met now, and which sections are wanted\n\
   desk audit                     checks each refusal of the history again, and tells how many there are\n\
   desk make N                    makes N offerings with their students, and tells how many requests are met\n\
   desk COMMAND --help            says more of a command, with its options\n\
@@ -40,6 +43,25 @@ An answer is the request's place and its reply. A request that was answered befo
 once. Empty lines, and lines that begin with #, are passed over.\n\
 \n\
 Options:\n\
+  --db FILE       the history is kept in this database of SQLite (default: in memory, until the program ends)\n\
+  --journal FILE  the history is kept in this journal (default: in memory, until the program ends)\n\
+Either file is made where there is none. Only one of the two may be given.\n";
+
+const SERVE_HELP: &[u8] =
+    b"desk serve --port P [--workers W] [--sessions N] [--db FILE | --journal FILE]: answers requests over HTTP/1.1 on\n\
+127.0.0.1, port P, until it is ended. All connections ask one history.\n\
+\n\
+  POST /students/ID/asks/N       a student's request number N; the body is JSON, as {\"verb\":\"enrol\",\"student\":11,\"courses\":[1]}\n\
+  POST /registrars/ID/asks/N     a registrar's; {\"verb\":\"line\",\"text\":\"..\"} holds any verb as a line has it\n\
+  GET /students/ID               a schedule, as report schedule prints it\n\
+  GET /sections/ID/roll          a roll\n\
+  GET /offerings/ID/open         the open places of an offering\n\
+  GET /waiting, GET /unmet       who waits, and what is unmet\n\
+\n\
+Options:\n\
+  --port P        the port, from 1 to 65535 (must be given)\n\
+  --workers W     how many connections are served at once, from 1 to 64 (default: 4)\n\
+  --sessions N    how many connections each worker serves before it ends, from 1 to 1000000 (default: 1000000)\n\
   --db FILE       the history is kept in this database of SQLite (default: in memory, until the program ends)\n\
   --journal FILE  the history is kept in this journal (default: in memory, until the program ends)\n\
 Either file is made where there is none. Only one of the two may be given.\n";
@@ -101,6 +123,39 @@ Options:\n\
   --journal FILE  the history is in this journal (default: there is none)\n\
 Either file is made where there is none. Only one of the two may be given.\n";
 
+const PLAN_HELP: &[u8] =
+    b"desk plan STUDENT [--budget N] [--db FILE | --journal FILE]: prints the best whole schedule that the student's requests\n\
+could have, as if the student held nothing. Nothing is enrolled.\n\
+\n\
+  rank P met CHOICE          the request at position P, with the choice that the schedule has for it\n\
+  rank P unmet VISITS TREE   it can't be had beside those that stand before it: the tree refutes each choice\n\
+  rank P spent               the search would visit more decisions than the budget\n\
+The requests are taken by position, and each is kept where a schedule has it and all that were kept before it.\n\
+\n\
+Options:\n\
+  --budget N      how many decisions each search may visit, from 1 to 20000 (default: 2000)\n\
+  --db FILE       the history is in this database of SQLite (default: there is none)\n\
+  --journal FILE  the history is in this journal (default: there is none)\n\
+Either file is made where there is none. Only one of the two may be given.\n";
+
+const SURVEY_HELP: &[u8] =
+    b"desk survey [--db FILE | --journal FILE]: prints what a search says now of each course request of which the student\n\
+holds no course. Nothing is enrolled. The searches run on all processors.\n\
+\n\
+  student ID rank P open CHOICE           the request at position P can be met: the first choice that is allowed\n\
+  student ID rank P blocked VISITS TREE   no choice is allowed: the tree refutes each\n\
+  student ID rank P spent                 the search would visit more than 2000 decisions\n\
+The students come in order of id. Behind these lines stand sums over those that are blocked:\n\
+\n\
+  rule K leaves N       N leaves of their trees are of rule K\n\
+  section S wanted N    N of them lack a place in section S: it is full, or what is left is reserved for others\n\
+Where no request is unmet there is the line `none`.\n\
+\n\
+Options:\n\
+  --db FILE       the history is in this database of SQLite (default: there is none)\n\
+  --journal FILE  the history is in this journal (default: there is none)\n\
+Either file is made where there is none. Only one of the two may be given.\n";
+
 const VERSION: &[u8] = b"desk 0.1.0\n";
 
 /// The text of a topic.
@@ -110,11 +165,14 @@ pub fn help_of(topic: Topic) -> &'static [u8]
     match topic {
         Topic::Desk => DESK_HELP,
         Topic::Command(Verb::Run) => RUN_HELP,
+        Topic::Command(Verb::Serve) => SERVE_HELP,
         Topic::Command(Verb::Make) => MAKE_HELP,
         Topic::Command(Verb::Audit) => AUDIT_HELP,
         Topic::Command(Verb::Report) => REPORT_HELP,
         Topic::Command(Verb::Import) => IMPORT_HELP,
         Topic::Command(Verb::Export) => EXPORT_HELP,
+        Topic::Command(Verb::Plan) => PLAN_HELP,
+        Topic::Command(Verb::Survey) => SURVEY_HELP,
     }
 }
 

@@ -1,12 +1,16 @@
 // What is told of the words before the program begins.
 
-/// What the program opens before it calls the desk: the path of the keeper's file. At most one is named.
+/// What the program opens before it calls the desk: the keeper's file, of which at most one is named, and the port.
 #[derive(Drop)]
 pub struct Needs {
     /// The file of a database.
     pub db: Option<String>,
     /// The file of a journal.
     pub journal: Option<String>,
+    /// The port of `serve`.
+    pub port: Option<u16>,
+    /// The workers of `serve`, from 1 to 64, else 0.
+    pub workers: u32,
 }
 
 /// Why the needs can't be told.

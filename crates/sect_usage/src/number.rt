@@ -1,6 +1,7 @@
 // Numbers and days of words. It takes no memory.
 
-ghost use Rattle.std.specs.Prelude.{◌≡◌, ◌≤◌, IfSome};
+ghost use Rattle.std.specs.Prelude.{◌≡◌, ◌≤◌, IfSome, option_map};
+ghost use Rattle.sect_usage.specs.Grammar.{usual_or};
 ghost use Rattle.sect_words.specs.ReadingWords.{between_of, day_of, number_of};
 
 use sect_time::{Day, read_day};
@@ -33,6 +34,20 @@ pub(crate) fn between(word: &[u8], least: u32, most: u32) -> Option<u32>
 {
     let number = number(word, u64::from(most))? as u32;
     if least <= number { Some(number) } else { None }
+}
+
+/// The number from the least to the most where there is a word, else the usual one. None exactly where the word is none.
+pub(crate) fn usual(word: Option<&[u8]>, usual: u32, least: u32, most: u32) -> Option<u32>
+    requires low { least ≤ usual }
+    requires high { usual ≤ most }
+    ensures value { result ≡ usual_or usual least most (option_map (λ w. w.now) word.entry) }
+    ensures low { IfSome result (λ n. least ≤ n) }
+    ensures high { IfSome result (λ n. n ≤ most) }
+{
+    match word {
+        None => Some(usual),
+        Some(word) => between(word, least, most),
+    }
 }
 
 /// The day of a word. None exactly where the word is none.

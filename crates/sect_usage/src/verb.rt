@@ -1,7 +1,7 @@
 // The commands and their options.
 
 ghost use Rattle.std.specs.Prelude.{◌≡◌};
-ghost use Rattle.sect_usage.specs.Grammar.{is_keeper as is_keeper_name, takes as takes_name, verb_of};
+ghost use Rattle.sect_usage.specs.Grammar.{is_keeper as is_keeper_name, is_of_serve as is_serve_name, takes as takes_name, verb_of};
 
 use sect_words::same_bytes;
 
@@ -9,11 +9,14 @@ use sect_words::same_bytes;
 #[derive(Clone, Copy, Debug, PartialEq, Eq)]
 pub enum Verb {
     Run,
+    Serve,
     Make,
     Audit,
     Report,
     Import,
     Export,
+    Plan,
+    Survey,
 }
 
 /// What a text of help is about.
@@ -31,6 +34,8 @@ pub(crate) fn read_verb(word: &[u8]) -> Option<Verb>
 {
     if same_bytes(word, b"run") {
         Some(Verb::Run)
+    } else if same_bytes(word, b"serve") {
+        Some(Verb::Serve)
     } else if same_bytes(word, b"make") {
         Some(Verb::Make)
     } else if same_bytes(word, b"audit") {
@@ -41,6 +46,10 @@ pub(crate) fn read_verb(word: &[u8]) -> Option<Verb>
         Some(Verb::Import)
     } else if same_bytes(word, b"export") {
         Some(Verb::Export)
+    } else if same_bytes(word, b"plan") {
+        Some(Verb::Plan)
+    } else if same_bytes(word, b"survey") {
+        Some(Verb::Survey)
     } else {
         None
     }
@@ -55,9 +64,12 @@ pub(crate) fn takes(verb: Verb, name: &[u8]) -> bool
         Verb::Make => false,
         Verb::Import => is_keeper(name) || same_bytes(name, b"first") || same_bytes(name, b"term"),
         Verb::Run => is_keeper(name),
+        Verb::Serve => is_keeper(name) || is_of_serve(name),
         Verb::Audit => is_keeper(name),
         Verb::Report => is_keeper(name),
         Verb::Export => is_keeper(name),
+        Verb::Plan => is_keeper(name) || same_bytes(name, b"budget"),
+        Verb::Survey => is_keeper(name),
     }
 }
 
@@ -66,4 +78,11 @@ fn is_keeper(name: &[u8]) -> bool
     ensures { result ≡ is_keeper_name name.now }
 {
     same_bytes(name, b"db") || same_bytes(name, b"journal")
+}
+
+// Whether the option is one of `serve` alone.
+fn is_of_serve(name: &[u8]) -> bool
+    ensures { result ≡ is_serve_name name.now }
+{
+    same_bytes(name, b"port") || same_bytes(name, b"workers") || same_bytes(name, b"sessions")
 }

@@ -3,12 +3,12 @@
 ghost use Rattle.std.specs.Prelude.{◌≡◌, Some, map, option_map};
 ghost use Rattle.std.specs.String.{string_bytes};
 ghost use Rattle.sect_usage.specs.Items.{items_of, positionals, value_of};
-ghost use Rattle.sect_usage.specs.Grammar.{allows, asked_by, asked_for, import_of, is_given, is_help, lone_of, make_of, one_keeper, query_by, query_of, table_of, takes as takes_name, term_of, the_one, where_none, words_of};
+ghost use Rattle.sect_usage.specs.Grammar.{allows, asked_by, asked_for, import_of, is_given, is_help, lone_of, make_of, one_keeper, plan_of, query_by, query_of, serve_of, table_of, takes as takes_name, term_of, the_one, where_none, words_of};
 
 use crate::items::{Item, next_item, next_positional, value};
-use crate::number::{between, day, id, number};
+use crate::number::{between, day, id, number, usual};
 use crate::verb::{Topic, Verb, read_verb, takes};
-use sect_base::{OfferingId, SectionId, StudentId};
+use sect_base::{Budget, OfferingId, SectionId, StudentId};
 use sect_command::{Query, Table};
 use sect_time::Day;
 use sect_words::same_bytes;
@@ -17,6 +17,13 @@ use sect_words::same_bytes;
 #[derive(Clone, Copy, Debug, PartialEq, Eq)]
 pub enum Words {
     Run,
+    /// Connections over HTTP are served at the port, from 1 to 65,535, by so many workers, from 1 to 64. Each worker ends
+    /// after so many sessions, from 1 to 1,000,000.
+    Serve {
+        port: u16,
+        workers: u32,
+        sessions: u32,
+    },
     /// So many offerings, from 1 to 100, are made.
     Make(u32),
     Audit,
@@ -28,6 +35,13 @@ pub enum Words {
         term: Option<Day>,
     },
     Export(Table),
+    /// The best whole schedule of a student, where each search visits at most so many decisions.
+    Plan {
+        student: StudentId,
+        budget: Budget,
+    },
+    /// What stands in the way of all unmet requests.
+    Survey,
     Help(Topic),
     Version,
 }
@@ -128,11 +142,14 @@ fn asked_of(verb: Verb, words: &[String]) -> Option<Words>
 {
     match verb {
         Verb::Run => alone(Words::Run, words),
+        Verb::Serve => read_serve(words),
         Verb::Make => read_make(words),
         Verb::Audit => alone(Words::Audit, words),
         Verb::Report => read_report(words),
         Verb::Import => read_import(words),
         Verb::Export => read_export(words),
+        Verb::Plan => read_plan(words),
+        Verb::Survey => alone(Words::Survey, words),
     }
 }
 
@@ -155,6 +172,20 @@ fn only(words: &[String]) -> Option<&[u8]>
         Some(_) => None,
         None => Some(word),
     }
+}
+
+fn read_serve(words: &[String]) -> Option<Words>
+    ensures { result ≡ where_none (serve_of (items_of (map string_bytes words.now))) (positionals (items_of (map string_bytes words.now))) }
+{
+    let port = between(value(b"port", words)?, 1, 65_535)?;
+    let workers = usual(value(b"workers", words), 4, 1, 64)?;
+    let sessions = usual(value(b"sessions", words), 1_000_000, 1, 1_000_000)?;
+    let asked = Words::Serve {
+        port: port as u16,
+        workers,
+        sessions,
+    };
+    alone(asked, words)
 }
 
 fn read_make(words: &[String]) -> Option<Words>
@@ -233,6 +264,18 @@ fn read_export(words: &[String]) -> Option<Words>
 {
     let table = read_table(only(words)?)?;
     Some(Words::Export(table))
+}
+
+fn read_plan(words: &[String]) -> Option<Words>
+    ensures { result ≡ plan_of (items_of (map string_bytes words.now)) }
+{
+    let student = id(only(words)?)?;
+    let visits = usual(value(b"budget", words), 2_000, 1, 20_000)?;
+    let budget = Budget::new(visits)?;
+    Some(Words::Plan {
+        student: StudentId(student),
+        budget,
+    })
 }
 
 // A table.

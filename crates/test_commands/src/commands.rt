@@ -4,6 +4,8 @@ use sect_base::Memory;
 use sect_edge::MemKeeper;
 use sect_runs::{Case, Ended, RUN, keeper_of, run_over};
 use std::alloc::{AllocGlobal, Global};
+use std::sync::Wait;
+use std::thread::Threads;
 
 /// The keeper of a line `# APPEND ROW NAME`.
 pub fn new_keeper(alloc: Global, line: &str) -> Result<MemKeeper, Memory> {
@@ -21,7 +23,7 @@ pub fn new_keeper(alloc: Global, line: &str) -> Result<MemKeeper, Memory> {
 }
 
 /// Runs the command of a line `$ WORDS` over these bytes and a keeper, where there is one.
-pub fn command<R: AllocGlobal>(
+pub fn command<R: AllocGlobal + Threads + Wait + Sync>(
     rt: &R,
     line: &str,
     input: &[u8],

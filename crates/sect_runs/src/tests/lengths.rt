@@ -4,10 +4,12 @@ use crate::{Case, RUN, run_desk};
 use sect_app::Status;
 use sect_base::Memory;
 use std::alloc::AllocGlobal;
+use std::sync::Wait;
 use std::test::Fail;
+use std::thread::Threads;
 
 /// Whether a run over a comment of so many bytes, with this behind it, ends and answers so.
-fn ends_so<R: AllocGlobal>(
+fn ends_so<R: AllocGlobal + Threads + Wait + Sync>(
     rt: &R,
     (bytes, behind, piece): (usize, &str, usize),
     status: Status,
@@ -20,12 +22,18 @@ fn ends_so<R: AllocGlobal>(
 }
 
 /// Whether the comment is passed over, and the request behind it answered.
-fn is_read<R: AllocGlobal>(rt: &R, line: (usize, &str, usize)) -> Result<bool, Memory> {
+fn is_read<R: AllocGlobal + Threads + Wait + Sync>(
+    rt: &R,
+    line: (usize, &str, usize),
+) -> Result<bool, Memory> {
     ends_so(rt, line, Status::Done, "0 amended\n")
 }
 
 /// Whether the comment is too long.
-fn is_too_long<R: AllocGlobal>(rt: &R, line: (usize, &str, usize)) -> Result<bool, Memory> {
+fn is_too_long<R: AllocGlobal + Threads + Wait + Sync>(
+    rt: &R,
+    line: (usize, &str, usize),
+) -> Result<bool, Memory> {
     ends_so(rt, line, Status::BadLine { line: 1, field: 0 }, "")
 }
 

@@ -6,7 +6,9 @@ use crate::{Case, RUN, ends, is_told};
 use sect_app::Status;
 use sect_base::Memory;
 use std::alloc::AllocGlobal;
+use std::sync::Wait;
 use std::test::Fail;
+use std::thread::Threads;
 
 /// A student who waits for the place that another has.
 const WAITS: &str = "s12 1 wait 12 1 => 4 waiting 1";
@@ -20,7 +22,7 @@ const SCHEDULE: &str = "student 11 credits 3 max 18\ncourse 1 reservation - conf
 const STUDENTS: &str = "student,max_credits,groups,curricula\n11,18,-,-\n12,18,-,-\n";
 
 /// Whether nothing is told by these words where the first write fails, and where the keeper's third row can't stand there.
-fn is_untold<R: AllocGlobal>(rt: &R, words: &str) -> Result<bool, Memory> {
+fn is_untold<R: AllocGlobal + Threads + Wait + Sync>(rt: &R, words: &str) -> Result<bool, Memory> {
     let unwritten = Case {
         words,
         rows: THREE_ROWS,

@@ -1,0 +1,153 @@
+// Connections that two workers serve, over links in memory.
+
+ghost use Rattle.std.specs.Prelude.{◌≡◌, IfOk, length};
+
+use super::ends::THREE_ROWS;
+use crate::runs::{rows_of, words_of};
+use sect_app::{Status, desk};
+use sect_base::Memory;
+use sect_edge::{Gate, MemClock, MemKeeper, MemLink, MemSink, MemSource, OpenGate};
+use sect_time::Day;
+use std::alloc::{AllocGlobal, Global};
+use std::sync::Wait;
+use std::sync::atomic::{AtomicU64, Ordering};
+use std::test::Fail;
+use std::thread;
+use std::thread::Threads;
+
+/// Student 11 asks for the one place.
+const FIRST: &str =
+    "POST /students/11/asks/1 HTTP/1.1\r\nContent-Length: 43\r\n\r\n{\"verb\":\"enrol\",\"student\":11,\"courses\":[1]}";
+
+/// So does student 12.
+const SECOND: &str =
+    "POST /students/12/asks/1 HTTP/1.1\r\nContent-Length: 43\r\n\r\n{\"verb\":\"enrol\",\"student\":12,\"courses\":[1]}";
+
+/// What student 11 is told.
+const ENROLLED: &str =
+    "HTTP/1.1 200 OK\r\nContent-Type: application/json\r\nContent-Length: 38\r\n\r\n{\"place\":3,\"reply\":\"enrolled 1/-/1/7\"}";
+
+/// A link to which one connection comes, which sends this. The call of `accept` with this number fails; 0 is none.
+fn link(alloc: Global, sent: &str, failing_accept: u64) -> Result<MemLink, Memory> {
+    let source = MemSource::new(sent.as_bytes().to_vec(alloc)?, 8_192, Vec::new(alloc));
+    let sink = MemSink::new(alloc, 4_000, 4_000, Vec::new(alloc))?;
+    let mut talks = Vec::new(alloc);
+    talks.push((source, sink))?;
+    let mut fail = Vec::new(alloc);
+    fail.push(failing_accept)?;
+    Ok(MemLink::new(talks, fail))
+}
+
+/// The links of the students 11 and 12, of which the second one's `accept` with this number fails.
+fn links(alloc: Global, failing_accept: u64) -> Result<Vec<MemLink>, Memory>
+    ensures { IfOk result (λ links. length links.items ≡ 2) }
+{
+    let mut links = Vec::new(alloc);
+    links.push(link(alloc, FIRST, 0)?)?;
+    links.push(link(alloc, SECOND, failing_accept)?)?;
+    Ok(links)
+}
+
+/// Two clocks that give 2025-09-01.
+fn clocks(alloc: Global) -> Result<Vec<MemClock>, Memory>
+    ensures { IfOk result (λ clocks. length clocks.items ≡ 2) }
+{
+    let day = Day::new(20_332).ok_or(Memory)?;
+    let mut clocks = Vec::new(alloc);
+    clocks.push(MemClock::new(day, Vec::new(alloc)))?;
+    clocks.push(MemClock::new(day, Vec::new(alloc)))?;
+    Ok(clocks)
+}
+
+/// Serves one connection of each link, on a desk with one place and two students.
+fn serve<G: Gate + Sync, R: AllocGlobal + Threads + Wait + Sync>(
+    rt: &R,
+    gate: &G,
+    failing_accept: u64,
+) -> Result<(Status, Vec<MemLink>), Memory> {
+    let alloc = rt.alloc();
+    let words = words_of(alloc, "serve --port 8080 --sessions 1")?;
+    let mut source = MemSource::new(Vec::new(alloc), 1, Vec::new(alloc));
+    let mut sink = MemSink::new(alloc, 1, 1, Vec::new(alloc))?;
+    let (status, _keeper, links) = desk(
+        rt,
+        &words,
+        &mut source,
+        &mut sink,
+        links(alloc, failing_accept)?,
+        MemKeeper::new(rows_of(alloc, THREE_ROWS)?, Vec::new(alloc)),
+        clocks(alloc)?,
+        gate,
+    );
+    Ok((status, links))
+}
+
+/// What the first connection of a link was told, where it was handed back.
+fn told(links: &[MemLink], at: usize) -> &[u8] {
+    match links.get(at) {
+        Some(link) => match link.talk(0) {
+            Some((_, sink)) => sink.bytes(),
+            None => b"",
+        },
+        None => b"",
+    }
+}
+
+/// Holds worker 0 at its first step until worker 1 came to its second, and worker 1 at its first until worker 0 came to its.
+#[derive(Drop)]
+struct Meeting {
+    first: AtomicU64,
+    second: AtomicU64,
+    late: AtomicU64,
+}
+
+impl Meeting {
+    fn hold(&self, other: &AtomicU64, until: u64) {
+        for _ in 0..1_000_000u64 {
+            if other.load(Ordering::SeqCst) >= until {
+                return;
+            }
+            thread::yield_now();
+        }
+        self.late.fetch_add(1, Ordering::SeqCst);
+    }
+}
+
+impl Gate for Meeting {
+    fn pass<R: Wait>(&self, _rt: &R, worker: u32, step: u64) {
+        let (own, other) = if worker == 0 {
+            (&self.first, &self.second)
+        } else {
+            (&self.second, &self.first)
+        };
+        own.store(step.saturating_add(1), Ordering::SeqCst);
+        if step == 0 {
+            let until = if worker == 0 { 2 } else { 1 };
+            self.hold(other, until);
+        }
+    }
+}
+
+#[test]
+fn two_workers_serve_at_once(rt: HostRuntime) -> Result<(), Fail> {
+    let gate = Meeting {
+        first: AtomicU64::new(0),
+        second: AtomicU64::new(0),
+        late: AtomicU64::new(0),
+    };
+    let (status, links) = serve(&rt, &gate, 0)?;
+    assert!(rt; status == Status::Done);
+    assert!(rt; told(&links, 0).starts_with(b"HTTP/1.1 200 OK\r\n"));
+    assert!(rt; told(&links, 1).starts_with(b"HTTP/1.1 200 OK\r\n"));
+    assert_eq!(rt; gate.late.load(Ordering::SeqCst), 0);
+    Ok(())
+}
+
+#[test]
+fn a_link_that_fails_ends_its_worker_alone(rt: HostRuntime) -> Result<(), Fail> {
+    let (status, links) = serve(&rt, &OpenGate, 1)?;
+    assert!(rt; status == Status::LinkFault);
+    assert!(rt; told(&links, 0) == ENROLLED.as_bytes());
+    assert!(rt; told(&links, 1).is_empty());
+    Ok(())
+}

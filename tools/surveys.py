@@ -1,0 +1,100 @@
+#!/usr/bin/env python3
+"""Holds the surveys of random terms against a second computation of the desk in Python, which searches each unmet request
+anew.
+
+  surveys.py --oracle FOLDER --desk PROGRAM [--seeds A..B]   compares what `PROGRAM survey` prints
+  surveys.py --oracle FOLDER --cases FOLDER [--seeds A..B]   writes inputs of test_survey with the answers, for rt try --cases
+
+Each seed makes a term of few offerings at few times, some of which have so many choices that a search is spent, and
+students who hold some of the places and have up to 8 course requests each. The last line tells how many terms were
+compared, how many lines of each kind there were, and how many terms differed; the status is 1 where one did.
+"""
+import argparse
+import os
+import random
+import subprocess
+import sys
+import tempfile
+
+from plans import offering, requests, reservation
+
+
+def crowded(number):
+    """An offering with so many choices that all of them are full only behind more than 2,000 decisions."""
+    text = f"offering {number} course {number} - 3 config {10 * number} -"
+    for subpart in range(1, 5):
+        text += f" subpart {100 * number + subpart}"
+        for section in range(1, 8):
+            text += f" section {1000 * number + 10 * subpart + section} {'0' if subpart == 4 else '-'} - -"
+    return text
+
+
+def commands(seed):
+    dice = random.Random(seed)
+    count = dice.randint(1, 8)
+    lines = [crowded(number) if dice.random() < 0.1 else offering(dice, number) for number in range(1, count + 1)]
+    courses = [int(word) for line in lines for word in
+               (line.split(" ")[at + 1] for at, part in enumerate(line.split(" ")) if part == "course")]
+    students = dice.sample(range(1, 60), dice.randint(1, 8))
+    lines += [f"student {number} max {dice.choice([6, 12, 18])} group 1" for number in students]
+    lines += [reservation(dice, number, count).replace("students:11 ", f"students:{students[0]} ").replace("students:12+13 ", "group:2 ")
+              for number in range(1, dice.choice([0, 0, 1, 3]) + 1)]
+    for _ in range(dice.randint(0, 12)):
+        lines.append(f"enrol {dice.choice(students)} {dice.choice(courses)}")
+    for number in students:
+        lines.append(requests(dice, courses).replace("requests 11", f"requests {number}", 1))
+    return [f"r1 {number} {line}" for number, line in enumerate(lines, 1)]
+
+
+def answers(lines):
+    """The replies, and the survey."""
+    import reports
+    import texts
+    from machine import Machine
+    machine, replies = Machine(), []
+    for line in lines:
+        _, caller, _, command = texts.read_line(line)
+        replies.append(texts.print_reply(machine.step(texts.day("2025-09-01"), caller, command)) + "\n")
+    return "".join(replies), reports.print_survey(machine)
+
+
+def surveyed(desk, lines):
+    """What the program prints on a journal of these requests."""
+    with tempfile.TemporaryDirectory() as folder:
+        journal = os.path.join(folder, "journal")
+        script = "".join(f"@2025-09-01 {line}\n" for line in lines)
+        subprocess.run([desk, "run", "--journal", journal], input=script, capture_output=True, text=True, check=True)
+        words = [desk, "survey", "--journal", journal]
+        return subprocess.run(words, capture_output=True, text=True, check=True).stdout
+
+
+def main():
+    parser = argparse.ArgumentParser()
+    parser.add_argument("--oracle", required=True)
+    parser.add_argument("--desk")
+    parser.add_argument("--cases")
+    parser.add_argument("--seeds", default="1..500")
+    given = parser.parse_args()
+    sys.path.insert(0, given.oracle)
+    low, high = map(int, given.seeds.split(".."))
+    kinds, wrong = {"open": 0, "blocked": 0, "spent": 0, "leaves": 0, "wanted": 0, "none": 0}, 0
+    for seed in range(low, high + 1):
+        lines = commands(seed)
+        replies, survey = answers(lines)
+        for line in survey.splitlines():
+            words = line.split(" ")
+            kinds[words[{"student": 4, "rule": 2, "section": 2, "none": 0}[words[0]]]] += 1
+        if given.cases:
+            script = "".join(line + "\n" for line in [*lines, "= survey"])
+            for name, text in ((f"{seed}", script), (f"{seed}.stdout", replies + survey)):
+                with open(os.path.join(given.cases, name), "w") as file:
+                    file.write(text)
+        elif surveyed(given.desk, lines) != survey:
+            print(f"seed {seed} differs")
+            wrong += 1
+    print(f"{high + 1 - low} terms, " + ", ".join(f"{kind} {n}" for kind, n in kinds.items()) + f", {wrong} differ")
+    return 1 if wrong else 0
+
+
+if __name__ == "__main__":
+    sys.exit(main())
