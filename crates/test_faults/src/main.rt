@@ -13,8 +13,9 @@ mod sweep;
 mod table;
 mod told;
 
+use sect_base::Memory;
 use std::io;
-use sweep::{Sweep, print_runs};
+use sweep::{Sweep, put_runs};
 use table::Table;
 
 fn main(rt: HostRuntime) -> io::Result<()> {
@@ -26,9 +27,22 @@ fn main(rt: HostRuntime) -> io::Result<()> {
             println!(rt; "{line}")?;
         }
         match line.strip_prefix("? ").and_then(Sweep::read) {
-            Some(sweep) => print_runs(rt, &table, &sweep)?,
+            Some(sweep) => {
+                let mut text = String::new(rt.alloc());
+                let put = put_runs(&rt, &table, &sweep, &mut text);
+                print_text(rt, put, text.as_str())?;
+            }
             None => table.take(line)?,
         }
     }
     Ok(())
+}
+
+// Prints what was put into the text, and whether memory was wanted for more.
+fn print_text(rt: HostRuntime, put: Result<(), Memory>, text: &str) -> io::Result<()> {
+    print!(rt; "{text}")?;
+    match put {
+        Ok(()) => Ok(()),
+        Err(Memory) => println!(rt; "out of memory"),
+    }
 }

@@ -6,7 +6,6 @@ use crate::told::put_ended;
 use sect_base::Memory;
 use sect_runs::{Case, RUN, keeper_of, run_over};
 use std::alloc::{AllocGlobal, Global};
-use std::io;
 use std::sync::Wait;
 use std::thread::Threads;
 
@@ -53,15 +52,18 @@ fn call_of(name: &str) -> Option<Call> {
     }
 }
 
-/// Prints each run, in a line of its own.
-pub fn print_runs(rt: HostRuntime, table: &Table, sweep: &Sweep) -> io::Result<()> {
+/// Puts what came of each run behind the text, in a line of its own.
+pub fn put_runs<R: AllocGlobal + Threads + Wait + Sync>(
+    rt: &R,
+    table: &Table,
+    sweep: &Sweep,
+    into: &mut String,
+) -> Result<(), Memory> {
     for before in 0..sweep.count {
         let number = before.saturating_add(1);
-        let mut text = String::new(rt.alloc());
-        match put_run(&rt, table, sweep, number, &mut text) {
-            Ok(()) => println!(rt; "{number}: {text}")?,
-            Err(Memory) => println!(rt; "{number}: out of memory")?,
-        }
+        write!(into, "{number}: ")?;
+        put_run(rt, table, sweep, number, into)?;
+        into.push('\n')?;
     }
     Ok(())
 }

@@ -39,7 +39,8 @@ impl Table {
             return self.put_row(row);
         }
         self.input.extend_from_slice(line.as_bytes())?;
-        self.input.push(b'\n')
+        self.input.push(b'\n')?;
+        Ok(())
     }
 
     // Begins a command without input.
