@@ -7,9 +7,9 @@ It stands outside the gate. In a copy of the repository it makes a small program
 one command after another, each over the keeper that the one before gave back. Where memory was wanted it asks the same command
 again before the next; where no keeper came back it asks all of them over a new one. Each has to be told what a second
 computation of the desk tells. `rt try --fail-alloc` builds the program once and refuses one allocation in each run, the same
-number in all: before the commands each run has as many others as put the refusal where it is wanted, at N places a family,
-evenly over the run or every so many allocations. The last lines tell how many were refused; the status is 1 where an answer
-differed.
+number in all: before the commands each run has as many others as put the refusal where it is wanted, at N places a family, one
+every so many allocations. The first places fall where the commands are read (`read`, `burnt`), and those behind the last
+command refuse nothing (`ok nothing`). The last lines tell how many were refused; the status is 1 where an answer differed.
 """
 import argparse
 import os
@@ -21,7 +21,7 @@ import tempfile
 
 HERE = os.path.dirname(os.path.abspath(__file__))
 ROOT = os.path.dirname(HERE)
-REFUSED = 120_000
+REFUSED = 20_000
 
 ONE_PLACE = 'r1 1 offering 1 course 1 - 3 config 1 - subpart 1 section 7 1 - -'
 FIRST = [ONE_PLACE, 'r1 2 student 11 max 18', 'r1 3 student 12 max 18', 's11 1 enrol 11 1']
@@ -103,8 +103,7 @@ def script_of(oracle, name):
 def copy_of(folder):
     """A copy of the repository with the program."""
     shutil.copytree(os.path.join(ROOT, 'crates'), os.path.join(folder, 'crates'), ignore=shutil.ignore_patterns('out', 'must-fail'))
-    for name in ('HANDLES',):
-        shutil.copy(os.path.join(ROOT, name), folder)
+    shutil.copy(os.path.join(ROOT, 'HANDLES'), folder)
     with open(os.path.join(ROOT, 'crates.txt')) as file:
         crates = file.read()
     with open(os.path.join(folder, 'crates.txt'), 'w') as file:
@@ -133,8 +132,8 @@ def tried(crate, cases):
 def main():
     parser = argparse.ArgumentParser()
     parser.add_argument('--oracle', required=True)
-    parser.add_argument('--samples', type=int, default=40)
-    parser.add_argument('--step', type=int, default=50)
+    parser.add_argument('--samples', type=int, default=60)
+    parser.add_argument('--step', type=int, default=25)
     parser.add_argument('--families', default=','.join(FAMILIES))
     parser.add_argument('--keep')
     given = parser.parse_args()
