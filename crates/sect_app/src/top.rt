@@ -61,6 +61,7 @@ where
     ensures serves { (sessions : ℕ) → sessions_for (words_of (map string_bytes words.now)) ≡ Some sessions
         → IfSome result.1 (λ back. ServesOver K.rows K.faults L.In.left L.Out.taken L.In.faults L.Out.faults L.connections L.faults
         keeper back links.items result.2.items (take (length links.items) (map C.days clocks.items)) sessions (S.left source.old) (T.taken sink.old) result.0) }
+    ensures unwritten { (sessions : ℕ) → sessions_for (words_of (map string_bytes words.now)) ≡ Some sessions → sink.new ≡ sink.old }
     ensures alone { sessions_for (words_of (map string_bytes words.now)) ≡ None → IsSome result.1 × (result.2 ≡ links) }
 
     // Where the keeper doesn't open, nothing is read or written.

@@ -6,7 +6,7 @@ mod runs;
 mod script;
 
 pub use case::{Case, RUN};
-pub use runs::{Ended, answers, ends, is_told, keeper_of, run_desk, run_over};
+pub use runs::{Ended, answers, ends, is_told, keeper_of, run_desk, run_on_link, run_over};
 pub use script::{Script, script_of};
 
 #[cfg(test)]

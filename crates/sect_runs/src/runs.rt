@@ -56,22 +56,37 @@ fn clocks(alloc: Global) -> Result<Vec<MemClock>, Memory>
     Ok(clocks)
 }
 
-/// A link to which no connection comes.
-fn links(alloc: Global) -> Result<Vec<MemLink>, Memory>
+/// The link alone.
+fn link_alone(alloc: Global, link: MemLink) -> Result<Vec<MemLink>, Memory>
     ensures { IfOk result (λ links. length links.items ≡ 1) }
 {
     let mut links = Vec::new(alloc);
-    links.push(MemLink::new(Vec::new(alloc), Vec::new(alloc)))?;
+    links.push(link)?;
     Ok(links)
 }
 
-/// Runs the desk by the case's words over these bytes and this keeper, with a sink that takes a byte at a time.
+/// Runs the desk by the case's words over these bytes and this keeper, with a sink that takes a byte at a time and a link to
+/// which no connection comes.
 pub fn run_over<R: AllocGlobal + Threads + Wait + Sync, K: Keeper + Send + Drop>(
     rt: &R,
     case: &Case<'_>,
     input: Vec<u8>,
     keeper: K,
 ) -> Result<Ended<K>, Memory> {
+    let alloc = rt.alloc();
+    let link = MemLink::new(Vec::new(alloc), Vec::new(alloc));
+    let (ended, _link) = run_on_link(rt, case, input, keeper, link)?;
+    Ok(ended)
+}
+
+/// The same over this link, which comes back.
+pub fn run_on_link<R: AllocGlobal + Threads + Wait + Sync, K: Keeper + Send + Drop>(
+    rt: &R,
+    case: &Case<'_>,
+    input: Vec<u8>,
+    keeper: K,
+    link: MemLink,
+) -> Result<(Ended<K>, MemLink), Memory> {
     let alloc = rt.alloc();
     let words = words_of(alloc, case.words)?;
     let mut source = MemSource::new(
@@ -80,21 +95,23 @@ pub fn run_over<R: AllocGlobal + Threads + Wait + Sync, K: Keeper + Send + Drop>
         number_alone(alloc, case.failing_read)?,
     );
     let mut sink = MemSink::new(alloc, 4_000, 1, number_alone(alloc, case.failing_write)?)?;
-    let (status, keeper, _links) = desk(
+    let (status, keeper, mut links) = desk(
         rt,
         &words,
         &mut source,
         &mut sink,
-        links(alloc)?,
+        link_alone(alloc, link)?,
         keeper,
         clocks(alloc)?,
         &OpenGate,
     );
-    Ok(Ended {
+    let link = links.pop().ok_or(Memory)?;
+    let ended = Ended {
         status,
         sink,
         keeper,
-    })
+    };
+    Ok((ended, link))
 }
 
 /// A keeper with the case's rows.

@@ -1,0 +1,48 @@
+//! Whole commands of which one call fails: tests alone. A line `# NAME` begins a keeper without rows and a command without
+//! words, `| ROW` puts a row behind the keeper's, `$ WORDS` begins a command over it; other lines are its input. A line
+//! `? read PIECE COUNT` runs the command so many times, each time over that keeper and out of a source that gives PIECE bytes
+//! at most: in the first run the first read fails, in the second the second, and so on. `? write` is the same of writes, each
+//! of one byte, `? append` of appends, `? row` of the calls by which rows are counted or read, and `? accept` of a link to
+//! which two connections come. `? byte` puts `x` in the place of a byte of the last row instead. For each run the output has
+//! the status, how many rows the keeper has and what was written; and then the same of the command run again over the keeper
+//! that came back, with no read and no write that fails. A bar stands for a line feed.
+#![tactic(auto)]
+
+mod serving;
+mod sweep;
+mod table;
+mod told;
+
+use sect_base::Memory;
+use std::io;
+use sweep::{Sweep, put_runs};
+use table::Table;
+
+fn main(rt: HostRuntime) -> io::Result<()> {
+    let mut table = Table::new(rt.alloc());
+    for line in rt.lines(rt.alloc()) {
+        let line = line?;
+        let line = line.as_str();
+        if line.starts_with(['#', '$', '?']) {
+            println!(rt; "{line}")?;
+        }
+        match line.strip_prefix("? ").and_then(Sweep::read) {
+            Some(sweep) => {
+                let mut text = String::new(rt.alloc());
+                let put = put_runs(&rt, &table, &sweep, &mut text);
+                print_text(rt, put, text.as_str())?;
+            }
+            None => table.take(line)?,
+        }
+    }
+    Ok(())
+}
+
+// Prints what was put into the text, and whether memory was wanted for more.
+fn print_text(rt: HostRuntime, put: Result<(), Memory>, text: &str) -> io::Result<()> {
+    print!(rt; "{text}")?;
+    match put {
+        Ok(()) => Ok(()),
+        Err(Memory) => println!(rt; "out of memory"),
+    }
+}
