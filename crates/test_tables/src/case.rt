@@ -1,9 +1,8 @@
-// The lines of the input.
+// What the marks of the input ask for.
 
-use sect_base::Memory;
 use sect_command::Table;
 
-/// How a table is imported.
+/// How a table is imported over a keeper.
 #[derive(Clone, Copy)]
 pub struct Case {
     pub table: Table,
@@ -17,10 +16,24 @@ pub struct Case {
     pub failing_write: u64,
 }
 
-/// The case of a line `TABLE FIRST PIECE READ WRITE`.
-pub fn read_case(line: &str) -> Option<Case> {
-    let mut words = line.split_whitespace();
-    let table = table_of(words.next()?)?;
+/// Where a table is imported: its commands are asked of a machine, or over a keeper.
+#[derive(Clone, Copy)]
+pub enum Asked {
+    Machine(Table),
+    Keeper(Case),
+}
+
+/// What the words `TABLE` and `TABLE FIRST PIECE READ WRITE` ask for.
+pub fn read_asked(words: &str) -> Option<Asked> {
+    match words.split_once(' ') {
+        None => Some(Asked::Machine(table_of(words)?)),
+        Some((table, case)) => Some(Asked::Keeper(read_case(table_of(table)?, case)?)),
+    }
+}
+
+// The case of a table and the words `FIRST PIECE READ WRITE`.
+fn read_case(table: Table, words: &str) -> Option<Case> {
+    let mut words = words.split_whitespace();
     let first = words.next()?.parse::<u64>().ok()?;
     let piece = words.next()?.parse::<usize>().ok()?;
     let failing_read = words.next()?.parse::<u64>().ok()?;
@@ -34,28 +47,16 @@ pub fn read_case(line: &str) -> Option<Case> {
     })
 }
 
-/// The append that fails, of a line `N NAME`; 0 for none.
+/// The append that fails, of a line `# N NAME`; 0 for none.
 pub fn failing_append(line: &str) -> u64 {
-    match line.split_once(' ') {
-        Some((number, _)) => number.parse::<u64>().unwrap_or(0),
+    match line.split_whitespace().nth(1) {
+        Some(number) => number.parse::<u64>().unwrap_or(0),
         None => 0,
     }
 }
 
-/// Puts a line behind the text, with its line feed unless `\.` ends it, and with a carriage return where `\r` does.
-pub fn put_line(line: &str, text: &mut Vec<u8>) -> Result<(), Memory> {
-    let (line, end) = match (line.strip_suffix("\\r"), line.strip_suffix("\\.")) {
-        (Some(line), _) => (line, "\r\n"),
-        (None, Some(line)) => (line, ""),
-        (None, None) => (line, "\n"),
-    };
-    text.extend_from_slice(line.as_bytes())?;
-    text.extend_from_slice(end.as_bytes())?;
-    Ok(())
-}
-
-// The table of a name.
-fn table_of(name: &str) -> Option<Table> {
+/// The table of a name.
+pub fn table_of(name: &str) -> Option<Table> {
     match name {
         "offerings" => Some(Table::Offerings),
         "students" => Some(Table::Students),

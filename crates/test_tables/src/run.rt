@@ -1,14 +1,14 @@
-// Runs over memory.
+// Imports over keepers in memory.
 
 use crate::case::Case;
+use crate::imported::term;
 use sect_base::Memory;
 use sect_edge::{MemClock, MemKeeper, MemSink, MemSource};
 use sect_intake::import_table;
 use sect_script::Status;
-use sect_time::{Day, read_day};
 use std::alloc::Global;
 
-/// What a run left.
+/// What an import left.
 #[derive(Drop)]
 pub struct Ended {
     pub status: Status,
@@ -21,14 +21,15 @@ pub fn keeper_of(alloc: Global, failing: u64) -> Result<MemKeeper, Memory> {
     Ok(MemKeeper::new(Vec::new(alloc), number_alone(alloc, failing)?))
 }
 
-/// Imports the table of a case over a keeper on 2025-09-01, the first day of its term.
+/// Imports the table of a case over a keeper, where there is one, on the first day of its term.
 pub fn run_case(
     alloc: Global,
     case: &Case,
     text: &[u8],
-    keeper: MemKeeper,
+    keeper: Option<MemKeeper>,
 ) -> Result<Ended, Memory> {
-    let day = day()?;
+    let keeper = keeper.ok_or(Memory)?;
+    let day = term().ok_or(Memory)?;
     let mut source = MemSource::new(
         text.to_vec(alloc)?,
         case.piece.max(1),
@@ -51,10 +52,6 @@ pub fn run_case(
         written: sink.bytes().to_vec(alloc)?,
         keeper,
     })
-}
-
-fn day() -> Result<Day, Memory> {
-    read_day(b"2025-09-01").map_err(|_| Memory)
 }
 
 fn number_alone(alloc: Global, number: u64) -> Result<Vec<u64>, Memory> {
