@@ -1,30 +1,20 @@
-// Threads that share one tally's desk.
+// Threads share it.
 ghost use Rattle.std.specs.Prelude.{⊤, ◌≡◌, ◌<◌, ◌≤◌, ◌^◌, length, vec_len, IfOk};
 ghost use mathlib.Core.List.{IsPrefix};
 ghost use Rattle.sect_once.specs.Tallies.{caller_number};
 ghost use Rattle.sect_turn.specs.Passes.{front, own_calls, share, opening, IsIdle, IsPassOf};
 
-use crate::office::Office;
-use crate::work::{Work, run_all};
+use super::first_day;
+use crate::Meeting;
 use sect_base::{Caller, Chronicle, Id};
 use sect_edge::{Gate, Keeper, Link, MemKeeper, MemLink, MemSink, MemSource, OpenGate};
+use sect_office::{Office, Work, run_all};
 use sect_once::{Answer, Desk, Tally};
-use sect_time::Day;
 use sect_turn::Pass;
 use std::alloc::{AllocError, Global};
 use std::sync::Wait;
-use std::sync::atomic::{AtomicU64, Ordering};
 use std::test::Fail;
-use std::thread;
 use std::thread::Threads;
-
-// The first day.
-fn first_day() -> Day {
-    match Day::new(0) {
-        Some(day) => day,
-        None => unreachable!(),
-    }
-}
 
 // A worker with a link: at its connection it asks the numbers from 0 as commands of 1, each when the gate lets it.
 #[derive(Drop)]
@@ -221,50 +211,11 @@ fn many_threads_share_one_history(rt: HostRuntime) -> Result<(), Fail> {
     Ok(())
 }
 
-// Holds worker 0 at its first step until worker 1 came to its second, and the other way round.
-#[derive(Drop)]
-struct Meeting {
-    first: AtomicU64,
-    second: AtomicU64,
-    late: AtomicU64,
-}
-
-impl Meeting {
-    fn hold(&self, other: &AtomicU64, until: u64) {
-        for _ in 0..1_000_000u64 {
-            if other.load(Ordering::SeqCst) >= until {
-                return;
-            }
-            thread::yield_now();
-        }
-        self.late.fetch_add(1, Ordering::SeqCst);
-    }
-}
-
-impl Gate for Meeting {
-    fn pass<R: Wait>(&self, _rt: &R, worker: u32, step: u64) {
-        let (own, other) = if worker == 0 {
-            (&self.first, &self.second)
-        } else {
-            (&self.second, &self.first)
-        };
-        own.store(step.saturating_add(1), Ordering::SeqCst);
-        if step == 0 {
-            let until = if worker == 0 { 2 } else { 1 };
-            self.hold(other, until);
-        }
-    }
-}
-
 #[test]
 fn two_workers_run_at_once(rt: HostRuntime) -> Result<(), Fail> {
-    let gate = Meeting {
-        first: AtomicU64::new(0),
-        second: AtomicU64::new(0),
-        late: AtomicU64::new(0),
-    };
+    let gate = Meeting::new();
     let (first, _, _) = run_twice(&rt, rt.alloc(), &gate, 2, 100)?;
     assert!(rt; are_each_once(rt.alloc(), &first, 200)?);
-    assert_eq!(rt; gate.late.load(Ordering::SeqCst), 0);
+    assert!(rt; !gate.was_late());
     Ok(())
 }

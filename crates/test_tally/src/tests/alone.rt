@@ -1,10 +1,11 @@
-// A tally's desk over a keeper in memory.
+// It is asked, over a keeper in memory that may fail, and its rows are replayed.
 ghost use Rattle.std.specs.Prelude.{◌<◌, ◌^◌};
 ghost use Rattle.sect_once.specs.Tallies.{caller_number};
 
-use crate::{Answer, Desk, OpenFault, Seen, Tally};
+use super::first_day;
 use sect_base::{Caller, Chronicle, Id};
 use sect_edge::MemKeeper;
+use sect_once::{Answer, Desk, OpenFault, Seen, Tally};
 use sect_time::Day;
 use std::alloc::{AllocError, Global};
 use std::test::Fail;
@@ -16,14 +17,6 @@ fn id(number: u64) -> Id
     Id {
         caller: Caller::Registrar(7),
         number,
-    }
-}
-
-// The first day.
-fn first_day() -> Day {
-    match Day::new(0) {
-        Some(day) => day,
-        None => unreachable!(),
     }
 }
 
