@@ -3,11 +3,47 @@
 ghost use Rattle.std.specs.Prelude.{◌≡◌};
 ghost use Rattle.sect_wait.specs.Undo.{Undoable};
 
-use super::desk::{join, wait, want};
-use crate::{Queue, QueueUndo};
-use sect_base::{CourseId, Memory, StudentId};
+use sect_base::{CourseId, Items, Memory, StudentId, Want};
+use sect_wait::{Queue, QueueUndo, Waiting};
 use std::alloc::Global;
 use std::test::Fail;
+
+/// A want of one course.
+fn want(alloc: Global, course: u32) -> Result<Want, Memory> {
+    Ok(Want {
+        courses: Items::from_vec(vec![in alloc; CourseId(course)]?),
+        only: Items::from_vec(Vec::new(alloc)),
+        rank: 21,
+    })
+}
+
+/// A new entry for one course: its ticket.
+fn join(
+    alloc: Global,
+    queue: &mut Queue,
+    student: u32,
+    course: u32,
+    give: Option<CourseId>,
+    class: u8,
+) -> Result<u64, Memory> {
+    let mut undo = QueueUndo::empty(alloc);
+    queue.join(
+        StudentId(student),
+        want(alloc, course)?,
+        give,
+        class,
+        &mut undo,
+    )
+}
+
+/// Whether these tickets and no others wait, in this order.
+fn wait(entries: &[Waiting], tickets: &[u64]) -> bool {
+    entries.len() == tickets.len()
+        && entries
+            .iter()
+            .zip(tickets)
+            .all(|(entry, ticket)| entry.ticket == *ticket)
+}
 
 /// The students 11 to 13 wait.
 fn three(alloc: Global) -> Result<Queue, Memory> {
