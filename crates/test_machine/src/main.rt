@@ -21,6 +21,7 @@ use sect_once::Object;
 use std::alloc::Global;
 use std::io;
 use std::thread::Threads;
+use test_told::print_told;
 
 fn main(rt: HostRuntime) -> io::Result<()> {
     let alloc = rt.alloc();
@@ -71,12 +72,4 @@ fn tell(
         return judge(alloc, machine, request, tree, into);
     }
     answer(alloc, machine, text, into)
-}
-
-fn print_told(rt: HostRuntime, told: Result<Vec<u8>, Memory>) -> io::Result<()> {
-    match told.map(String::from_utf8) {
-        Ok(Ok(text)) => print!(rt; "{text}"),
-        Ok(Err(_)) => println!(rt; "no text"),
-        Err(Memory) => println!(rt; "out of memory"),
-    }
 }

@@ -18,13 +18,14 @@ use case::{Asked, failing_append, read_asked, table_of};
 use escaped::put_line;
 use exported::show;
 use imported::import;
-use printed::{print_ended, print_told};
+use printed::print_ended;
 use run::{keeper_of, run_case};
 use sect_edge::MemKeeper;
 use sect_machine::Machine;
 use sect_once::Object;
 use std::alloc::Global;
 use std::io;
+use test_told::print_told;
 
 fn main(rt: HostRuntime) -> io::Result<()> {
     let alloc = rt.alloc();

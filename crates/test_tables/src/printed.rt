@@ -1,19 +1,11 @@
-// What is told of an import.
+// What is told of an import over a keeper.
 
 use crate::run::Ended;
 use sect_base::Memory;
 use sect_edge::MemKeeper;
 use sect_script::Status;
 use std::io;
-
-/// Prints a text.
-pub fn print_told(rt: HostRuntime, told: Result<Vec<u8>, Memory>) -> io::Result<()> {
-    match told.map(String::from_utf8) {
-        Ok(Ok(text)) => print!(rt; "{text}"),
-        Ok(Err(_)) => println!(rt; "no text"),
-        Err(Memory) => println!(rt; "out of memory"),
-    }
-}
+use test_told::print_told;
 
 /// Prints how an import over a keeper ended, and gives the keeper back.
 pub fn print_ended(rt: HostRuntime, ended: Result<Ended, Memory>) -> io::Result<Option<MemKeeper>> {

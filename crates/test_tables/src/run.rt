@@ -18,7 +18,7 @@ pub struct Ended {
 
 /// A keeper with no rows, whose append with this number fails.
 pub fn keeper_of(alloc: Global, failing: u64) -> Result<MemKeeper, Memory> {
-    Ok(MemKeeper::new(Vec::new(alloc), number_alone(alloc, failing)?))
+    Ok(MemKeeper::new(Vec::new(alloc), vec![in alloc; failing]?))
 }
 
 /// Imports the table of a case over a keeper, where there is one, on the first day of its term.
@@ -33,9 +33,9 @@ pub fn run_case(
     let mut source = MemSource::new(
         text.to_vec(alloc)?,
         case.piece.max(1),
-        number_alone(alloc, case.failing_read)?,
+        vec![in alloc; case.failing_read]?,
     );
-    let mut sink = MemSink::new(alloc, 4_000, 64, number_alone(alloc, case.failing_write)?)?;
+    let mut sink = MemSink::new(alloc, 4_000, 64, vec![in alloc; case.failing_write]?)?;
     let clock = MemClock::new(day, Vec::new(alloc));
     let (status, keeper) = import_table(
         alloc,
@@ -52,10 +52,4 @@ pub fn run_case(
         written: sink.bytes().to_vec(alloc)?,
         keeper,
     })
-}
-
-fn number_alone(alloc: Global, number: u64) -> Result<Vec<u64>, Memory> {
-    let mut numbers = Vec::new(alloc);
-    numbers.push(number)?;
-    Ok(numbers)
 }
