@@ -3,7 +3,8 @@
 python3 tools/kill_desk.py [PROGRAM [KILLS [FOLDER]]]
 
 PROGRAM is ./desk where none is named. Over each keeper, a database and a journal, `desk run` is killed by SIGKILL KILLS
-(300) times at a random moment, mostly between its first answer and its last. Then the same lines are asked of the same
+(300) times at a random moment, mostly between its first answer and its last; each line is asked when the one before it was
+answered. Then the same lines are asked of the same
 file again: each answer that had been written must come once more, place and reply, and the places must go on without a
 gap, so that no request acted twice. At the end `desk audit` must count each request once. FOLDER is where the files lie.
 It stands outside the gate. The status is 1 where something differs.
@@ -13,6 +14,7 @@ import random
 import subprocess
 import sys
 import tempfile
+import threading
 import time
 
 ROOT = os.path.dirname(os.path.dirname(os.path.abspath(__file__)))
@@ -44,35 +46,50 @@ def run(keeper, path, lines):
     return done.returncode, done.stdout.decode().split('\n')[:-1], done.stderr.decode()
 
 
+def ask(program, line):
+    """Asks a line and waits for its answer, which is written before the program waits for the next one. None where it was killed."""
+    try:
+        program.stdin.write(line.encode())
+        program.stdin.flush()
+    except BrokenPipeError:
+        return None
+    answer = program.stdout.readline().decode()
+    return answer[:-1] if answer.endswith('\n') else None
+
+
+def started(keeper, path):
+    return subprocess.Popen([PROGRAM, 'run', f'--{keeper}', path], stdin=subprocess.PIPE, stdout=subprocess.PIPE, stderr=subprocess.DEVNULL)
+
+
 def killed(keeper, path, lines):
-    """The answers that the program had written whole when it was killed, and how long it had lived."""
-    program = subprocess.Popen([PROGRAM, 'run', f'--{keeper}', path], stdin=subprocess.PIPE, stdout=subprocess.PIPE, stderr=subprocess.DEVNULL)
-    program.stdin.write(''.join(lines).encode())
-    program.stdin.flush()
-    told = b''
-    if random.random() < 0.75:
-        # most are killed among the answers
-        told = program.stdout.readline()
-    time.sleep(random.uniform(0, killed.longest))
-    program.kill()
-    told = (told + program.stdout.read()).decode()
+    """The answers that the program had written whole when it was killed."""
+    program, told = started(keeper, path), []
+    timer = threading.Timer(random.uniform(0, killed.longest), program.kill)
+    # most are killed among the answers
+    begin = 1 if random.random() < 0.75 else 0
+    for line in lines:
+        if len(told) == begin:
+            timer.start()
+        answer = ask(program, line)
+        if answer is None:
+            break
+        told.append(answer)
+    timer.join()
     program.wait()
-    program.stdin.close()
-    return told.split('\n')[:-1]
+    program.communicate()
+    return told
 
 
 def span_of_answers(keeper, path):
     """How long it takes from the first answer to the last."""
     run(keeper, path, [OFFERING])
-    program = subprocess.Popen([PROGRAM, 'run', f'--{keeper}', path], stdin=subprocess.PIPE, stdout=subprocess.PIPE, stderr=subprocess.DEVNULL)
-    program.stdin.write(''.join(lines_of(0)).encode())
-    program.stdin.close()
-    program.stdout.readline()
+    program, (line, *lines) = started(keeper, path), lines_of(0)
+    ask(program, line)
     first = time.time()
-    for _ in range(LINES - 1):
-        program.stdout.readline()
+    for line in lines:
+        ask(program, line)
     span = time.time() - first
-    program.wait()
+    program.communicate()
     return span
 
 

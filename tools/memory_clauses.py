@@ -6,7 +6,7 @@
 A function may tell of want of memory where its result names `Memory`, or an enum one of whose variants is called so. What it
 could change is what it takes as `&mut`. A clause says what that is then where it names its `.new`, and speaks neither of a
 good end alone nor of a count of faults. The clauses of a trait stand for those of its impls. The functions in DESCRIBED are
-told in the README. The status is 1 where one is left that neither has a clause nor stands there, or where one stands there that
+told in docs/PROVED.md. The status is 1 where one is left that neither has a clause nor stands there, or where one stands there that
 has a clause. --all also lists the others.
 """
 import os
@@ -19,7 +19,7 @@ OTHER = re.compile(r'^\s*(?:\(\w+ [^→]*\) → )*(IfOk|OnOk|IfSome|HasCause|Has
 # Crates of tests alone.
 TESTS = ('sect_crowds', 'sect_runs', 'sect_texts')
 
-# Those of which the README says why nothing is promised.
+# Those of which docs/PROVED.md says why nothing is promised.
 DESCRIBED = {
     'sect_asking: print_answer', 'sect_edge: Keeper::row', 'sect_head: read_head', 'sect_journal: Disk::read_at',
     'sect_making: make', 'sect_once: Object::print_entry', 'sect_script: Handler::answer', 'sect_tables: Reading::take',

@@ -3,7 +3,7 @@
 each list of requests anew.
 
   plans.py --oracle FOLDER --desk PROGRAM [--seeds A..B]   compares what `PROGRAM plan` prints
-  plans.py --oracle FOLDER --cases FOLDER [--seeds A..B]   writes inputs of test_plan with the answers, for rt try --cases
+  plans.py --oracle FOLDER --cases FOLDER [--seeds A..B]   writes inputs of test_machine with the answers, for rt try --cases
 
 Each seed makes a term of few offerings at few times, students who hold some of the places, and student 11 with up to 8
 course requests. The last line tells how many students were compared, how many lines of each kind there were, and how many

@@ -195,7 +195,7 @@ CHAPTERS = [
     ('The program',
      'The lines of an input, how the desk answers them, the audit, and the import of a table.',
      ['sect_object/specs/Objects.antt']
-     + ['sect_script/specs/' + n + '.antt' for n in ('Lines', 'Reading', 'Run', 'Statuses')]
+     + ['sect_script/specs/' + n + '.antt' for n in ('Lines', 'Reading', 'Run', 'Gathering', 'Statuses')]
      + ['sect_asking/specs/' + n + '.antt' for n in ('AnswerLines', 'Asks', 'Desk')]
      + ['sect_tell/specs/' + n + '.antt' for n in ('Told', 'Audit', 'Views')]
      + ['sect_fit/specs/Fitting.antt']

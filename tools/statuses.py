@@ -12,7 +12,7 @@ import sqlite3
 import subprocess
 import sys
 import tempfile
-import time
+import threading
 
 ROOT = os.path.dirname(os.path.dirname(os.path.abspath(__file__)))
 PROGRAM = os.path.abspath(sys.argv[1] if len(sys.argv) > 1 else os.path.join(ROOT, 'desk'))
@@ -167,14 +167,20 @@ def fill(option, path):
 def killed():
     """A run that is killed loses no answered line."""
     for option, path in (('--db', 'killed.db'), ('--journal', 'killed.journal')):
-        lines = b''.join(b'@2025-08-01 r1 %d student %d max 18\n' % (number, number) for number in range(1, 4001))
-        put('lines', lines)
-        with open('lines', 'rb') as given:
-            program = subprocess.Popen([PROGRAM, 'run', option, path], stdin=given, stdout=subprocess.PIPE)
-            time.sleep(0.25)
-            program.kill()
-            answered = program.stdout.read().count(b'\n')
-            program.wait()
+        program = subprocess.Popen([PROGRAM, 'run', option, path], stdin=subprocess.PIPE, stdout=subprocess.PIPE)
+        threading.Timer(0.25, program.kill).start()
+        answered = 0
+        # Answers are written before the next line is read.
+        for number in range(1, 1000001):
+            try:
+                program.stdin.write(b'@2025-08-01 r1 %d student %d max 18\n' % (number, number))
+                program.stdin.flush()
+            except BrokenPipeError:
+                break
+            if not program.stdout.readline().endswith(b'\n'):
+                break
+            answered += 1
+        program.wait()
         status, text, output = run(['audit', option, path])
         entries = int(output.split()[1]) if status == 0 else -1
         print(f'     {answered} lines answered, {entries} entries found')

@@ -1,17 +1,18 @@
 #!/usr/bin/env python3
-"""What a second computation of the desk in Python answers to the input of test_machine, test_plan, test_survey, test_tables,
-test_usage and test_bodies.
+"""What a second computation of the desk in Python answers to the input of test_machine, test_tables, test_usage and
+test_bodies.
 
   stored_answers.py --oracle FOLDER                      compares the stored answers with the second computation's
   stored_answers.py --oracle FOLDER --write              writes them
   stored_answers.py --oracle FOLDER --add CRATE A..B     adds inputs of the oracle's fuzzer with these seeds to the crate's
 
-test_machine: a line that begins with `#` begins a new machine, one with `= ` asks for a report, one with `? ` has a tree
-that is held against the request before it; each other line is a request. test_plan has `= plan STUDENT BUDGET` beside
-these, and test_survey `= survey`, and `= made N` for the lines of the survey of what `make N` makes.
-test_tables: a line `# NAME` begins a new machine, `< TABLE` begins a text of that table, whose lines follow, `> TABLE` asks
-for an export.
-test_usage: each line is a list of words with bars between them, and `(none)` is the list without words.
+test_machine: a line that begins with `#` begins a new machine, one with `= ` asks for a report, `plan STUDENT BUDGET`,
+`survey`, or `made N` for the lines of the survey of what `make N` makes; one with `? ` has a tree that is held against the
+request before it; each other line is a request.
+test_tables: a line `# NAME` begins a new machine and a new keeper, `< TABLE` and `< TABLE FIRST PIECE READ WRITE` begin a
+text of that table, whose lines follow, `> TABLE` asks for an export.
+test_usage: each line is a list of words with bars between them, and `(none)` is the list without words; its answer ends
+with what `clap` finds.
 test_bodies: `< TEXT`, `x HEX` and `* N TEXT` make up bytes, which `body` reads as a body and `head` as a head of HTTP;
 other lines print an answer.
 """
@@ -21,8 +22,10 @@ import os
 import subprocess
 import sys
 
+import clap_words
+import table_answers
+
 CRATES = os.path.join(os.path.dirname(os.path.abspath(__file__)), "..", "crates")
-TABLES = ("offerings", "students", "requests", "reservations")
 
 
 def read(crate, name):
@@ -111,85 +114,6 @@ def fuzzed_script(oracle, seed):
     return f"# Random requests, {seed}.\n" + "".join(line + "\n" for line in lines)
 
 
-# ---- tables
-
-def escaped(data):
-    """The bytes as lines of an input."""
-    out = []
-    for at, byte in enumerate(data):
-        begins = at == 0 or data[at - 1] == 10
-        if byte == 13:
-            out.append("\\r")
-        elif byte == 10:
-            out.append("\n")
-        elif not 32 <= byte < 127 or byte == 92 or begins and chr(byte) in "#<>.":
-            out.append("\\x%02x" % byte)
-        else:
-            out.append(chr(byte))
-    return "".join(out) + ("" if data.endswith(b"\n") or not data else "\\.\n")
-
-
-def unescaped(lines):
-    out = bytearray()
-    for line in lines:
-        at = 0
-        while at < len(line):
-            if line[at:] == "\\.":
-                break
-            if line.startswith("\\r", at):
-                out.append(13)
-                at += 2
-            elif line.startswith("\\x", at):
-                out.append(int(line[at + 2:at + 4], 16))
-                at += 4
-            else:
-                out.append(ord(line[at]))
-                at += 1
-        else:
-            out.append(10)
-    return bytes(out)
-
-
-def imported(machine, table, data):
-    import csvio
-    import texts
-    term = texts.day("2025-09-01")
-    out = []
-    try:
-        for row, command in csvio.commands(table, data, term):
-            out.append(f"{row} {texts.print_command(command)}\n{texts.print_reply(machine.step(term, ('r', 0), command))}\n")
-        out.append("ended\n")
-    except csvio.BadRow as bad:
-        out.append(f"line {bad.row} field {bad.field}\n")
-    return "".join(out)
-
-
-def table_answers(lines):
-    import csvio
-    from machine import Machine
-    machine, table, text = Machine(), None, []
-    for line in lines:
-        if line[:1] not in ("#", "<", ">", "."):
-            text.append(line)
-            continue
-        if table:
-            yield imported(machine, table, unescaped(text))
-        table, text = None, []
-        if line.startswith("< ") and line[2:] in TABLES:
-            table = line[2:]
-        elif line.startswith("> ") and line[2:] in TABLES:
-            yield csvio.export(machine, line[2:])
-        elif line.startswith("#"):
-            machine = Machine()
-            yield line + "\n"
-
-
-def fuzzed_table(seed):
-    import fuzz
-    table = TABLES[seed % 4]
-    return f"# Random {table}, {seed}.\n< {table}\n{escaped(fuzz.csv_bytes(seed // 4, table))}> {table}\n"
-
-
 # ---- words of the command line
 
 COMMANDS = ("run", "serve", "make", "audit", "report", "import", "export", "plan", "survey")
@@ -228,13 +152,15 @@ def asked(app, words):
 def usage_answers(lines):
     import app
     for line in lines:
+        words = [] if line == "(none)" else line.split("|")
+        found = "the same" if clap_words.finds_the_same(words) else "another"
         try:
-            text, options = asked(app, [] if line == "(none)" else line.split("|"))
+            text, options = asked(app, words)
         except app.BadWords:
-            yield "None bad words\n"
+            yield f"None bad words, {found}\n"
             continue
         keeper = [f" {name} {options[name]}" for name in ("db", "journal") if name in options]
-        yield f"Some({text}){''.join(keeper)}\n"
+        yield f"Some({text}){''.join(keeper)}, {found}\n"
 
 
 def fuzzed_words(seed):
@@ -327,8 +253,7 @@ def body_answers(lines):
             yield answer_told(line) + "\n"
 
 
-ANSWERS = {"test_machine": machine_answers, "test_plan": machine_answers, "test_survey": machine_answers,
-           "test_tables": table_answers, "test_usage": usage_answers,
+ANSWERS = {"test_machine": machine_answers, "test_tables": table_answers.answers, "test_usage": usage_answers,
            "test_bodies": body_answers}
 
 
@@ -342,7 +267,7 @@ def main():
     if given.add:
         crate, seeds = given.add
         low, high = map(int, seeds.split(".."))
-        fuzzed = {"test_machine": lambda seed: fuzzed_script(given.oracle, seed), "test_tables": fuzzed_table,
+        fuzzed = {"test_machine": lambda seed: fuzzed_script(given.oracle, seed), "test_tables": table_answers.fuzzed,
                   "test_usage": fuzzed_words}[crate]
         more = [fuzzed(seed) for seed in range(low, high + 1)]
         write(crate, "stdin", read(crate, "stdin") + "".join(more))

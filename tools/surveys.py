@@ -3,7 +3,7 @@
 anew.
 
   surveys.py --oracle FOLDER --desk PROGRAM [--seeds A..B]   compares what `PROGRAM survey` prints
-  surveys.py --oracle FOLDER --cases FOLDER [--seeds A..B]   writes inputs of test_survey with the answers, for rt try --cases
+  surveys.py --oracle FOLDER --cases FOLDER [--seeds A..B]   writes inputs of test_machine with the answers, for rt try --cases
 
 Each seed makes a term of few offerings at few times, some of which have so many choices that a search is spent, and
 students who hold some of the places and have up to 8 course requests each. The last line tells how many terms were

@@ -3,8 +3,6 @@
 
 pub mod laws;
 mod office;
-#[cfg(test)]
-mod tests;
 mod work;
 
 pub use office::{Office, OfficeOf};

@@ -10,8 +10,6 @@ mod object;
 mod past;
 mod replay;
 mod tally;
-#[cfg(test)]
-mod tests;
 
 pub use answer::{Answer, OpenFault, Seen};
 pub use desk::Desk;

@@ -79,6 +79,10 @@ reads_failed before now later old pending line left text g none kept = (
   subst IsOneLine (sym (g.split ∙ ap (λ l. line ++ l) none ∙ append-nil line)) g.one,
 )
 
+pub reads_unwritten : (before now : Option (List ℕ)) (old pending line left text : List ℕ) → Gathered before now old pending line
+    → Reads before now old (λ bytes. ReadsLine (Err errors.Unwritten) bytes left text)
+reads_unwritten before now old pending line left text g = (g.taken, g.consumed, tt)
+
 pub reads_out_of_memory : (before now : Option (List ℕ)) (old pending line left text : List ℕ) → Gathered before now old pending line
     → Reads before now old (λ bytes. ReadsLine (Err errors.Memory) bytes left text)
 reads_out_of_memory before now old pending line left text g = (g.taken, g.consumed, tt)

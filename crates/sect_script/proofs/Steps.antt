@@ -1,19 +1,19 @@
 -- The steps of a run, one line each.
-use Rattle.std.proofs.Common.{◌≡◌, ◌⊎◌, ℕ, suc, ◌+◌, ◌<◌, ◌≤◌, List, [], ◌∷◌, ◌++◌, length, take, refl, sym, ap, ◌∙◌, append_assoc, append-nil, arith, inl, inr, subst}
+use Rattle.std.proofs.Common.{◌≡◌, ◌⊎◌, ℕ, suc, ◌+◌, ◌<◌, ◌≤◌, List, [], ◌∷◌, ◌++◌, length, refl, sym, ap, ◌∙◌, append_assoc, append-nil, arith, inl, inr, subst}
 use Rattle.std.specs.Prelude.{map, Option, Some, None, Ok, unwrap_or, ⊤}
 use Rattle.std.specs.List.{AllByRecursion}
 use Rattle.std.specs.Io.KnownBytes.{Consumes, Appends, IsAtEnd}
-use Rattle.std.proofs.KnownBytes.{Consumes-trans, Appends-trans, Appends-nil, Consumes-nil}
+use Rattle.std.proofs.KnownBytes.{Consumes-trans, Consumes-nil}
 use Rattle.std.proofs.lemmas.List.{map-append, length_push}
-use Rattle.std.proofs.Math.Seq.{take-append-add, take-append_seam}
-use Rattle.std.proofs.lemmas.List.{take_all}
 use Rattle.sect_script.specs.declared.reader.LineEnd.TheVariants.{LineFeed, EndOfInput}
 use Rattle.sect_script.specs.declared.script.RunEnd.{RunEnd}
 use Rattle.sect_script.specs.declared.script.RunEnd.TheVariants as ends
+use Rattle.sect_script.specs.Gathering.{WritesBut, WritesFront}
 use Rattle.sect_script.specs.Lines.{Line, Ended, Unended, lines_of, ended_lines, bytes_of, text_of, IsOneLine}
 use Rattle.sect_script.specs.Reading.{ReadsLine, LINE_LIMIT}
-use Rattle.sect_script.specs.Run.{AnswersEach, AnswersLine, Answers, Ahead, IsBad, NextIsBad, Ran, LINES_LIMIT}
-use Rattle.sect_script.specs.Progress.{spelled, Progress, GoesOn, Turns}
+use Rattle.sect_script.specs.Run.{AnswersEach, AnswersLine, Answers, Ahead, IsBad, IsRest, NextIsBad, Ran, LINES_LIMIT}
+use Rattle.sect_script.specs.Progress.{spelled, Ends, GoesOn, Progress, Stays, Turns}
+use Rattle.sect_script.proofs.Gathering.{but_front, but_longer, but_more, but_put, but_then, yet_cut, yet_failed, yet_unanswered, yet_wanted, yet_written}
 use Rattle.sect_script.proofs.LinesOf.{lines_of-spelled, spelled-push, ended_lines-one, lines_of-feed, lines_of-one, last_line, lines_of-long}
 
 -- ---- lists
@@ -86,26 +86,26 @@ at_end (Some xs) rest end is = cc
 
 -- ---- one line more
 
--- nothing was read or answered yet
-pub progress_none : {H : Type 0} (answers : H → List ℕ → List ℕ → H → Type 0) (left taken : Option (List ℕ)) (old : H)
-    → Progress answers left left taken taken old old 1 []
-progress_none answers left taken old = record {
+-- nothing was read, answered or gathered yet
+pub progress_none : {H : Type 0} (answers : H → List ℕ → List ℕ → H → Type 0) (left taken : Option (List ℕ)) (old : H) (pending gathered : List ℕ) → pending ≡ [] → gathered ≡ []
+    → Progress answers left left taken taken old old 1 pending gathered
+progress_none answers left taken old pending gathered none empty = record {
   read = [];
   done = [];
   bytes = [];
   consumed = Consumes-nil left;
-  split = refl;
+  split = sym none;
   single = tt;
   answered = (refl, refl);
-  written = Appends-nil taken;
+  written = but_put taken [] gathered empty;
   count = refl;
   few = omega arith;
 }
 
 -- the source gave more
-pub progress_more : {H : Type 0} {answers : H → List ℕ → List ℕ → H → Type 0} {left now taken taken' : Option (List ℕ)} {old new : H} {number : ℕ} {pending : List ℕ}
-    (later : Option (List ℕ)) (more : List ℕ) → Progress answers left now taken taken' old new number pending → Consumes now later more
-    → Progress answers left later taken taken' old new number (pending ++ more)
+pub progress_more : {H : Type 0} {answers : H → List ℕ → List ℕ → H → Type 0} {left now taken taken' : Option (List ℕ)} {old new : H} {number : ℕ} {pending gathered : List ℕ}
+    (later : Option (List ℕ)) (more : List ℕ) → Progress answers left now taken taken' old new number pending gathered → Consumes now later more
+    → Progress answers left later taken taken' old new number (pending ++ more) gathered
 progress_more {left = left} {now = now} {pending = pending} later more p consumed = record {
   read = p.read ++ more;
   done = p.done;
@@ -119,12 +119,29 @@ progress_more {left = left} {now = now} {pending = pending} later more p consume
   few = p.few;
 }
 
+-- of the answers that were gathered some were written
+pub progress_written : {H : Type 0} {answers : H → List ℕ → List ℕ → H → Type 0} {left now taken taken' : Option (List ℕ)} {old new : H} {number : ℕ} {pending gathered : List ℕ}
+    (taken'' : Option (List ℕ)) (gathered' : List ℕ) → Progress answers left now taken taken' old new number pending gathered → WritesBut taken' taken'' gathered gathered'
+    → Progress answers left now taken taken'' old new number pending gathered'
+progress_written {taken = taken} {taken' = taken'} {gathered = gathered} taken'' gathered' p written = record {
+  read = p.read;
+  done = p.done;
+  bytes = p.bytes;
+  consumed = p.consumed;
+  split = p.split;
+  single = p.single;
+  answered = p.answered;
+  written = but_then taken taken' taken'' p.bytes gathered gathered' p.written written;
+  count = p.count;
+  few = p.few;
+}
+
 -- a line with its line feed was answered
-pub progress_line : {H : Type 0} {answers : H → List ℕ → List ℕ → H → Type 0} {left now taken taken' : Option (List ℕ)} {old new : H} {number : ℕ} {pending : List ℕ}
-    (later : H) (taken'' : Option (List ℕ)) (line rest answer : List ℕ) → number ≤ LINES_LIMIT → Progress answers left now taken taken' old new number pending
+pub progress_line : {H : Type 0} {answers : H → List ℕ → List ℕ → H → Type 0} {left now taken taken' : Option (List ℕ)} {old new : H} {number : ℕ} {pending gathered : List ℕ}
+    (later : H) (taken'' : Option (List ℕ)) (line rest answer gathered' : List ℕ) → number ≤ LINES_LIMIT → Progress answers left now taken taken' old new number pending gathered
     → pending ≡ line ++ 10 ∷ rest → IsOneLine line → AnswersLine answers new (Ended line) answer later
-    → Appends taken' taken'' answer → Progress answers left now taken taken'' old later (number + 1) rest
-progress_line {answers = answers} {taken = taken} {taken' = taken'} {old = old} {new = new} {pending = pending} later taken'' line rest answer few p is one step written = record {
+    → WritesBut taken' taken'' (gathered ++ answer) gathered' → Progress answers left now taken taken'' old later (number + 1) rest gathered'
+progress_line {answers = answers} {taken = taken} {taken' = taken'} {old = old} {new = new} {pending = pending} {gathered = gathered} later taken'' line rest answer gathered' few p is one step written = record {
   read = p.read;
   done = p.done ++ line ∷ [];
   bytes = p.bytes ++ answer;
@@ -135,7 +152,7 @@ progress_line {answers = answers} {taken = taken} {taken' = taken'} {old = old} 
       ∙ ap (λ l. l ++ rest) (sym (spelled-push p.done line));
   single = All-push IsOneLine p.done line p.single one;
   answered = rw (map-append Ended p.done (line ∷ [])) (Answers-push answers old new later (map Ended p.done) (Ended line) p.bytes answer p.answered step);
-  written = Appends-trans taken taken' taken'' p.bytes answer p.written written;
+  written = but_more taken taken' taken'' p.bytes gathered answer gathered' p.written written;
   count = omega (arith, p.count, length_push p.done line);
   few = omega (arith, few, p.count, length_push p.done line);
 }
@@ -143,13 +160,13 @@ progress_line {answers = answers} {taken = taken} {taken' = taken'} {old = old} 
 -- ---- the ends
 
 -- the lines ahead of those that were answered
-ahead : {H : Type 0} {answers : H → List ℕ → List ℕ → H → Type 0} {left now taken taken' : Option (List ℕ)} {old new : H} {number : ℕ} {pending : List ℕ}
-    (Q : List Line → Type 0) (p : Progress answers left now taken taken' old new number pending) → ((rest : List ℕ) → now ≡ Some rest → Q (lines_of (pending ++ rest))) → Ahead left (map Ended p.done) Q
+ahead : {H : Type 0} {answers : H → List ℕ → List ℕ → H → Type 0} {left now taken taken' : Option (List ℕ)} {old new : H} {number : ℕ} {pending gathered : List ℕ}
+    (Q : List Line → Type 0) (p : Progress answers left now taken taken' old new number pending gathered) → ((rest : List ℕ) → now ≡ Some rest → Q (lines_of (pending ++ rest))) → Ahead left (map Ended p.done) Q
 ahead {left = left} {now = now} {pending = pending} Q p holds = ahead_at left now p.read pending p.done Q p.consumed p.split p.single holds
 
 -- no line is left
-pub ran_to_end : {H : Type 0} {known : List ℕ → Type 0} {answers : H → List ℕ → List ℕ → H → Type 0} {left now taken taken' : Option (List ℕ)} {old new : H} {number : ℕ} {pending : List ℕ}
-    → Progress answers left now taken taken' old new number pending → pending ≡ [] → IsAtEnd now → Ran known answers left now taken taken' old new ends.Done
+pub ran_to_end : {H : Type 0} {known : List ℕ → Type 0} {answers : H → List ℕ → List ℕ → H → Type 0} {left now taken taken' : Option (List ℕ)} {old new : H} {number : ℕ} {pending gathered : List ℕ}
+    → Progress answers left now taken taken' old new number pending gathered → pending ≡ [] → IsAtEnd now → Ends known answers left now taken taken' old new gathered ends.Done
 ran_to_end {now = now} p none end = record {
   lines = map Ended p.done;
   few = few_ended p.done p.few;
@@ -162,9 +179,9 @@ ran_to_end {now = now} p none end = record {
 }
 
 -- the next line is too long
-pub ran_to_long : {H : Type 0} {known : List ℕ → Type 0} {answers : H → List ℕ → List ℕ → H → Type 0} {left now taken taken' : Option (List ℕ)} {old new : H} {number : ℕ} {pending : List ℕ}
-    (front more : List ℕ) → Progress answers left now taken taken' old new number pending → pending ≡ front ++ more → IsOneLine front → LINE_LIMIT < length front
-    → Ran known answers left now taken taken' old new (ends.BadLine number 0)
+pub ran_to_long : {H : Type 0} {known : List ℕ → Type 0} {answers : H → List ℕ → List ℕ → H → Type 0} {left now taken taken' : Option (List ℕ)} {old new : H} {number : ℕ} {pending gathered : List ℕ}
+    (front more : List ℕ) → Progress answers left now taken taken' old new number pending gathered → pending ≡ front ++ more → IsOneLine front → LINE_LIMIT < length front
+    → Ends known answers left now taken taken' old new gathered (ends.BadLine number 0)
 ran_to_long {known = known} front more p is one long = record {
   lines = map Ended p.done;
   few = few_ended p.done p.few;
@@ -184,8 +201,8 @@ ran_to_long {known = known} front more p is one long = record {
         (bad, behind, same ∙ is, inr (λ short text. absurd (omega (arith, short, longer))))
 
 -- the source failed inside a line
-pub ran_to_read_fault : {H : Type 0} {known : List ℕ → Type 0} {answers : H → List ℕ → List ℕ → H → Type 0} {left now taken taken' : Option (List ℕ)} {old new : H} {number : ℕ} {pending : List ℕ}
-    → Progress answers left now taken taken' old new number pending → IsOneLine pending → Ran known answers left now taken taken' old new ends.ReadFault
+pub ran_to_read_fault : {H : Type 0} {known : List ℕ → Type 0} {answers : H → List ℕ → List ℕ → H → Type 0} {left now taken taken' : Option (List ℕ)} {old new : H} {number : ℕ} {pending gathered : List ℕ}
+    → Progress answers left now taken taken' old new number pending gathered → IsOneLine pending → Ends known answers left now taken taken' old new gathered ends.ReadFault
 ran_to_read_fault {pending = pending} p one = record {
   lines = map Ended p.done;
   few = few_ended p.done p.few;
@@ -197,9 +214,11 @@ ran_to_read_fault {pending = pending} p one = record {
   written = p.written;
 }
 
-pub ran_out_of_memory : {H : Type 0} {known : List ℕ → Type 0} {answers : H → List ℕ → List ℕ → H → Type 0} {left now taken taken' : Option (List ℕ)} {old new : H} {number : ℕ} {pending : List ℕ}
-    → Progress answers left now taken taken' old new number pending → Ran known answers left now taken taken' old new ends.Memory
-ran_out_of_memory p = record {
+-- the sink failed before a read
+pub ran_unwritten : {H : Type 0} {known : List ℕ → Type 0} {answers : H → List ℕ → List ℕ → H → Type 0} {left now taken taken' : Option (List ℕ)} {old new : H} {number : ℕ} {pending gathered : List ℕ}
+    (taken'' : Option (List ℕ)) (gathered' : List ℕ) → Progress answers left now taken taken' old new number pending gathered → WritesFront taken' taken'' gathered → gathered' ≡ []
+    → Ends known answers left now taken taken'' old new gathered' ends.WriteFault
+ran_unwritten {taken = taken} {taken' = taken'} {gathered = gathered} taken'' gathered' p cut none = record {
   lines = map Ended p.done;
   few = few_ended p.done p.few;
   bytes = p.bytes;
@@ -207,7 +226,20 @@ ran_out_of_memory p = record {
   input = ahead (λ rest. ⊤) p (λ rest is. tt);
   number = tt;
   whole = tt;
-  written = (length p.bytes, rw (take_all (length p.bytes) p.bytes (omega arith)) p.written);
+  written = yet_failed taken taken'' p.bytes gathered' (but_front taken taken' taken'' p.bytes gathered p.written cut) none;
+}
+
+pub ran_out_of_memory : {H : Type 0} {known : List ℕ → Type 0} {answers : H → List ℕ → List ℕ → H → Type 0} {left now taken taken' : Option (List ℕ)} {old new : H} {number : ℕ} {pending gathered : List ℕ}
+    → Progress answers left now taken taken' old new number pending gathered → Ends known answers left now taken taken' old new gathered ends.Memory
+ran_out_of_memory {taken = taken} {taken' = taken'} {gathered = gathered} p = record {
+  lines = map Ended p.done;
+  few = few_ended p.done p.few;
+  bytes = p.bytes;
+  answered = p.answered;
+  input = ahead (λ rest. ⊤) p (λ rest is. tt);
+  number = tt;
+  whole = tt;
+  written = yet_unanswered taken taken' p.bytes gathered p.written;
 }
 
 -- ---- the line that comes next
@@ -216,8 +248,8 @@ ran_out_of_memory p = record {
 abbrev Next : Option (List ℕ) → List ℕ → Line → (List Line → Type 0) → Type 0
 Next now pending line Q = (rest : List ℕ) → now ≡ Some rest → (more : List Line) × (lines_of (pending ++ rest) ≡ line ∷ more) × Q more
 
-next_ahead : {H : Type 0} {answers : H → List ℕ → List ℕ → H → Type 0} {left now taken taken' : Option (List ℕ)} {old new : H} {number : ℕ} {pending : List ℕ}
-    (p : Progress answers left now taken taken' old new number pending) (line : Line) (Q : List Line → Type 0) → Next now pending line Q
+next_ahead : {H : Type 0} {answers : H → List ℕ → List ℕ → H → Type 0} {left now taken taken' : Option (List ℕ)} {old new : H} {number : ℕ} {pending gathered : List ℕ}
+    (p : Progress answers left now taken taken' old new number pending gathered) (line : Line) (Q : List Line → Type 0) → Next now pending line Q
     → Ahead left (map Ended p.done ++ line ∷ []) Q
 next_ahead {left = left} p line Q next = ahead_next left (map Ended p.done) line Q (ahead (λ lines. (more : List Line) × (lines ≡ line ∷ more) × Q more) p next)
 
@@ -227,14 +259,20 @@ bad_reason known line text number before says count (inl many) = inl (omega arit
 bad_reason known line text number before says count (inr refused) =
     inr (λ short is. refused (subst known says is))
 
+-- what was gathered stays
+but_still : {K : Type 0} (holds : K → Option (List ℕ)) (sink sink' : K) (taken : Option (List ℕ)) (bytes gathered gathered' : List ℕ) → WritesBut taken (holds sink) bytes gathered
+    → Stays sink sink' gathered gathered' → WritesBut taken (holds sink') bytes gathered'
+but_still {K} holds sink sink' taken bytes gathered gathered' b (still, same) =
+    subst (λ (k : K). WritesBut taken (holds k) bytes gathered') (sym still) (subst (WritesBut taken (holds sink) bytes) (sym same) b)
+
 -- the run ends at this line
-pub ran_to_line : {H K : Type 0} {known : List ℕ → Type 0} {answers : H → List ℕ → List ℕ → H → Type 0} {left now taken : Option (List ℕ)} {old new : H} {number : ℕ} {pending : List ℕ}
-    (holds : K → Option (List ℕ)) (sink sink' : K) (later : H) (line : Line) (text : List ℕ) (status : RunEnd) → Progress answers left now taken (holds sink) old new number pending
+pub ran_to_line : {H K : Type 0} {known : List ℕ → Type 0} {answers : H → List ℕ → List ℕ → H → Type 0} {left now taken : Option (List ℕ)} {old new : H} {number : ℕ} {pending gathered : List ℕ}
+    (holds : K → Option (List ℕ)) (sink sink' : K) (later : H) (gathered' : List ℕ) (line : Line) (text : List ℕ) (status : RunEnd) → Progress answers left now taken (holds sink) old new number pending gathered
     → length (bytes_of line) ≤ LINE_LIMIT → text_of line ≡ text → Next now pending line (λ more. ⊤)
-    → Turns known answers holds new later sink sink' number text (Some status)
-    → Ran known answers left now taken (holds sink') old later status
-ran_to_line holds sink sink' later line text ends.Done p short says next answered = absurd answered
-ran_to_line {K = K} {known = known} {answers = answers} {taken = taken} {old = old} holds sink sink' later line text (ends.BadLine bad field) p short says next (is, unnamed, same, still, why) = record {
+    → Turns known answers holds new later sink sink' gathered gathered' number text (Some status)
+    → Ends known answers left now taken (holds sink') old later gathered' status
+ran_to_line holds sink sink' later gathered' line text ends.Done p short says next answered = absurd answered
+ran_to_line {known = known} {answers = answers} {taken = taken} {old = old} {gathered = gathered} holds sink sink' later gathered' line text (ends.BadLine bad field) p short says next (is, unnamed, same, stays, why) = record {
   lines = map Ended p.done;
   few = few_ended p.done p.few;
   bytes = p.bytes;
@@ -248,10 +286,10 @@ ran_to_line {K = K} {known = known} {answers = answers} {taken = taken} {old = o
       ));
   number = (is ∙ p.count ∙ ap (λ n. n + 1) (sym (length-ended p.done)), unnamed);
   whole = tt;
-  written = subst (λ (k : K). Appends taken (holds k) p.bytes) (sym still) p.written;
+  written = but_still holds sink sink' taken p.bytes gathered gathered' p.written stays;
 }
-ran_to_line holds sink sink' later line text ends.ReadFault p short says next answered = absurd answered
-ran_to_line {K = K} {answers = answers} {taken = taken} {old = old} {new = new} holds sink sink' later line text ends.WriteFault p short says next (few, answer, n, step, written) = record {
+ran_to_line holds sink sink' later gathered' line text ends.ReadFault p short says next answered = absurd answered
+ran_to_line {answers = answers} {taken = taken} {old = old} {new = new} {gathered = gathered} holds sink sink' later gathered' line text ends.WriteFault p short says next (few, answer, step, cut, none) = record {
   lines = map Ended p.done ++ line ∷ [];
   few = few_and_one p.done line p.count few;
   bytes = p.bytes ++ answer;
@@ -260,9 +298,10 @@ ran_to_line {K = K} {answers = answers} {taken = taken} {old = old} {new = new} 
   input = next_ahead p line (λ more. ⊤) next;
   number = tt;
   whole = tt;
-  written = (length p.bytes + n, rw (take-append-add p.bytes answer n) (Appends-trans taken (holds sink) (holds sink') p.bytes (take n answer) p.written written));
+  written = yet_failed taken (holds sink') (p.bytes ++ answer) gathered'
+      (but_front taken (holds sink) (holds sink') (p.bytes ++ answer) (gathered ++ answer) (but_longer taken (holds sink) p.bytes gathered answer p.written) cut) none;
 }
-ran_to_line {K = K} {answers = answers} {taken = taken} {old = old} {new = new} holds sink sink' later line text ends.Memory p short says next (few, (inl same, still)) = record {
+ran_to_line {answers = answers} {taken = taken} {old = old} {gathered = gathered} holds sink sink' later gathered' line text ends.Memory p short says next (few, inl same, stays) = record {
   lines = map Ended p.done;
   few = few_ended p.done p.few;
   bytes = p.bytes;
@@ -270,9 +309,9 @@ ran_to_line {K = K} {answers = answers} {taken = taken} {old = old} {new = new} 
   input = ahead (λ rest. ⊤) p (λ rest is. tt);
   number = tt;
   whole = tt;
-  written = (length p.bytes, rw (take_all (length p.bytes) p.bytes (omega arith)) (subst (λ (k : K). Appends taken (holds k) p.bytes) (sym still) p.written));
+  written = yet_unanswered taken (holds sink') p.bytes gathered' (but_still holds sink sink' taken p.bytes gathered gathered' p.written stays);
 }
-ran_to_line {K = K} {answers = answers} {taken = taken} {old = old} {new = new} holds sink sink' later line text ends.Memory p short says next (few, (inr (answer, step), still)) = record {
+ran_to_line {answers = answers} {taken = taken} {old = old} {new = new} {gathered = gathered} holds sink sink' later gathered' line text ends.Memory p short says next (few, inr (answer, step), stays) = record {
   lines = map Ended p.done ++ line ∷ [];
   few = few_and_one p.done line p.count few;
   bytes = p.bytes ++ answer;
@@ -281,16 +320,16 @@ ran_to_line {K = K} {answers = answers} {taken = taken} {old = old} {new = new} 
   input = next_ahead p line (λ more. ⊤) next;
   number = tt;
   whole = tt;
-  written = (length p.bytes, rw (take-append_seam p.bytes answer) (subst (λ (k : K). Appends taken (holds k) p.bytes) (sym still) p.written));
+  written = yet_wanted taken (holds sink') p.bytes answer gathered' (but_still holds sink sink' taken p.bytes gathered gathered' p.written stays);
 }
 
 -- the last line was answered
-ran_past_line : {H K : Type 0} {known : List ℕ → Type 0} {answers : H → List ℕ → List ℕ → H → Type 0} {left now taken : Option (List ℕ)} {old new : H} {number : ℕ} {pending : List ℕ}
-    (holds : K → Option (List ℕ)) (sink sink' : K) (later : H) (line : Line) (text : List ℕ) → Progress answers left now taken (holds sink) old new number pending
+ran_past_line : {H K : Type 0} {known : List ℕ → Type 0} {answers : H → List ℕ → List ℕ → H → Type 0} {left now taken : Option (List ℕ)} {old new : H} {number : ℕ} {pending gathered : List ℕ}
+    (holds : K → Option (List ℕ)) (sink sink' : K) (later : H) (gathered' : List ℕ) (line : Line) (text : List ℕ) → Progress answers left now taken (holds sink) old new number pending gathered
     → length (bytes_of line) ≤ LINE_LIMIT → text_of line ≡ text → Next now pending line (λ more. more ≡ [])
-    → Turns known answers holds new later sink sink' number text None
-    → Ran known answers left now taken (holds sink') old later ends.Done
-ran_past_line {answers = answers} {taken = taken} {old = old} {new = new} holds sink sink' later line text p short says next (few, answer, step, written) = record {
+    → Turns known answers holds new later sink sink' gathered gathered' number text None
+    → Ends known answers left now taken (holds sink') old later gathered' ends.Done
+ran_past_line {answers = answers} {taken = taken} {old = old} {new = new} {gathered = gathered} holds sink sink' later gathered' line text p short says next (few, answer, step, written) = record {
   lines = map Ended p.done ++ line ∷ [];
   few = few_and_one p.done line p.count few;
   bytes = p.bytes ++ answer;
@@ -299,7 +338,7 @@ ran_past_line {answers = answers} {taken = taken} {old = old} {new = new} holds 
   input = next_ahead p line (λ more. more ≡ []) next;
   number = tt;
   whole = tt;
-  written = Appends-trans taken (holds sink) (holds sink') p.bytes answer p.written written;
+  written = but_more taken (holds sink) (holds sink') p.bytes gathered answer gathered' p.written written;
 }
 
 next_of_feed : (now : Option (List ℕ)) (pending whole rest : List ℕ) → pending ≡ whole ++ 10 ∷ rest → IsOneLine whole → Next now pending (Ended whole) (λ more. ⊤)
@@ -316,25 +355,55 @@ next_of_last now pending line is one some end tail told =
     ([], ap lines_of (ap (λ l. pending ++ l) (at_end now tail end told) ∙ append-nil pending ∙ is) ∙ lines_of-one line one ∙ last_is_one line some, refl)
 
 -- a line with its line feed was read
-pub feed_goes_on : {H K : Type 0} (known : List ℕ → Type 0) {answers : H → List ℕ → List ℕ → H → Type 0} {left now taken : Option (List ℕ)} {old new : H} {number : ℕ} {pending : List ℕ}
-    (holds : K → Option (List ℕ)) (sink sink' : K) (later : H) (rest text said : List ℕ) (result : Option RunEnd) → said ≡ text → Progress answers left now taken (holds sink) old new number pending
-    → ReadsLine (Ok LineFeed) pending rest text → Turns known answers holds new later sink sink' number said result
-    → GoesOn known answers left now taken (holds sink') old later number rest result
-feed_goes_on known {answers = answers} {new = new} holds sink sink' later rest text said None same p (whole, one, short, is, says) (few, answer, step, written) =
+pub feed_goes_on : {H K : Type 0} (known : List ℕ → Type 0) {answers : H → List ℕ → List ℕ → H → Type 0} {left now taken : Option (List ℕ)} {old new : H} {number : ℕ} {pending gathered : List ℕ}
+    (holds : K → Option (List ℕ)) (sink sink' : K) (later : H) (gathered' rest text said : List ℕ) (result : Option RunEnd) → said ≡ text → Progress answers left now taken (holds sink) old new number pending gathered
+    → ReadsLine (Ok LineFeed) pending rest text → Turns known answers holds new later sink sink' gathered gathered' number said result
+    → GoesOn known answers left now taken (holds sink') old later number rest gathered' result
+feed_goes_on known {answers = answers} {new = new} holds sink sink' later gathered' rest text said None same p (whole, one, short, is, says) (few, answer, step, written) =
     let says' = same ∙ says in
-    progress_line later (holds sink') whole rest answer few p is one
+    progress_line later (holds sink') whole rest answer gathered' few p is one
     (short, subst (λ (l : List ℕ). answers new l answer later) says' step) written
-feed_goes_on known {now = now} {pending = pending} holds sink sink' later rest text said (Some status) same p (whole, one, short, is, says) answered =
-    ran_to_line holds sink sink' later (Ended whole) said status p short (sym (same ∙ says)) (next_of_feed now pending whole rest is one) answered
+feed_goes_on known {now = now} {pending = pending} holds sink sink' later gathered' rest text said (Some status) same p (whole, one, short, is, says) answered =
+    ran_to_line holds sink sink' later gathered' (Ended whole) said status p short (sym (same ∙ says)) (next_of_feed now pending whole rest is one) answered
 
 -- the last line was read, and has no line feed
-pub last_ends : {H K : Type 0} {known : List ℕ → Type 0} {answers : H → List ℕ → List ℕ → H → Type 0} {left now taken : Option (List ℕ)} {old new : H} {number : ℕ} {pending : List ℕ}
-    (holds : K → Option (List ℕ)) (sink sink' : K) (later : H) (rest text said : List ℕ) (result : Option RunEnd) → said ≡ text → Progress answers left now taken (holds sink) old new number pending
+pub last_ends : {H K : Type 0} {known : List ℕ → Type 0} {answers : H → List ℕ → List ℕ → H → Type 0} {left now taken : Option (List ℕ)} {old new : H} {number : ℕ} {pending gathered : List ℕ}
+    (holds : K → Option (List ℕ)) (sink sink' : K) (later : H) (gathered' rest text said : List ℕ) (result : Option RunEnd) → said ≡ text → Progress answers left now taken (holds sink) old new number pending gathered
     → ReadsLine (Ok EndOfInput) pending rest text → (text ≡ [] → ⊥) → IsAtEnd now
-    → Turns known answers holds new later sink sink' number said result
-    → Ran known answers left now taken (holds sink') old later (unwrap_or result ends.Done)
-last_ends {now = now} {pending = pending} holds sink sink' later rest text said None same p (one, short, is, none) some end answered =
-    ran_past_line holds sink sink' later (Unended text) said p short (sym same) (next_of_last now pending text is one some end) answered
-last_ends {now = now} {pending = pending} holds sink sink' later rest text said (Some status) same p (one, short, is, none) some end answered =
-    ran_to_line holds sink sink' later (Unended text) said status p short (sym same)
+    → Turns known answers holds new later sink sink' gathered gathered' number said result
+    → Ends known answers left now taken (holds sink') old later gathered' (unwrap_or result ends.Done)
+last_ends {now = now} {pending = pending} holds sink sink' later gathered' rest text said None same p (one, short, is, none) some end answered =
+    ran_past_line holds sink sink' later gathered' (Unended text) said p short (sym same) (next_of_last now pending text is one some end) answered
+last_ends {now = now} {pending = pending} holds sink sink' later gathered' rest text said (Some status) same p (one, short, is, none) some end answered =
+    ran_to_line holds sink sink' later gathered' (Unended text) said status p short (sym same)
     (λ tail told. let (more, first, any) = next_of_last now pending text is one some end tail told in (more, first, tt)) answered
+
+-- ---- what was gathered is written at the end
+
+-- it was written
+pub ends_written : {H : Type 0} {known : List ℕ → Type 0} {answers : H → List ℕ → List ℕ → H → Type 0} {left now taken taken' : Option (List ℕ)} {old new : H} {gathered : List ℕ} {end : RunEnd}
+    (taken'' : Option (List ℕ)) → Ends known answers left now taken taken' old new gathered end → Appends taken' taken'' gathered → Ran known answers left now taken taken'' old new end
+ends_written {taken = taken} {taken' = taken'} {gathered = gathered} {end = end} taken'' e written = record {
+  lines = e.lines;
+  few = e.few;
+  bytes = e.bytes;
+  answered = e.answered;
+  input = e.input;
+  number = e.number;
+  whole = e.whole;
+  written = yet_written end taken taken' taken'' e.bytes gathered e.written written;
+}
+
+-- the sink failed
+pub ends_cut : {H : Type 0} {known : List ℕ → Type 0} {answers : H → List ℕ → List ℕ → H → Type 0} {left now taken taken' : Option (List ℕ)} {old new : H} {gathered : List ℕ} {end : RunEnd}
+    (taken'' : Option (List ℕ)) → Ends known answers left now taken taken' old new gathered end → WritesFront taken' taken'' gathered → Ran known answers left now taken taken'' old new ends.WriteFault
+ends_cut {known = known} {left = left} {taken = taken} {taken' = taken'} {gathered = gathered} {end = end} taken'' e cut = record {
+  lines = e.lines;
+  few = e.few;
+  bytes = e.bytes;
+  answered = e.answered;
+  input = ahead_map left e.lines (IsRest known end (length e.lines)) (λ rest. ⊤) (λ rest is. tt) e.input;
+  number = tt;
+  whole = tt;
+  written = yet_cut end taken taken' taken'' e.bytes gathered e.written cut;
+}

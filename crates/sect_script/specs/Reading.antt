@@ -23,4 +23,5 @@ ReadsLine (Ok EndOfInput) bytes left line = IsOneLine line × (length line ≤ L
 ReadsLine (Err errors.TooLong) bytes left line = (front : List ℕ) × (more : List ℕ) × IsOneLine front × (LINE_LIMIT < length front)
     × (bytes ≡ front ++ more)
 ReadsLine (Err errors.Failed) bytes left line = IsOneLine bytes
+ReadsLine (Err errors.Unwritten) bytes left line = ⊤
 ReadsLine (Err errors.Memory) bytes left line = ⊤

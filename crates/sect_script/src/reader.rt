@@ -4,16 +4,18 @@ ghost use Rattle.std.specs.Io.KnownBytes.{Consumes, Keeps, IsAtEnd};
 ghost use Rattle.sect_edge.specs.Causes.{HasCause, HasCauseFor};
 ghost use Rattle.sect_script.specs.declared.reader.LineEnd.TheVariants as ends;
 ghost use Rattle.sect_script.specs.declared.reader.LineError.TheVariants as errors;
+ghost use Rattle.sect_script.specs.Gathering.{WritesBefore};
 ghost use Rattle.sect_script.specs.Lines.{IsOneLine, without_return};
 ghost use Rattle.sect_script.specs.Reading.{LINE_LIMIT, Moves, ReadsLine};
 
-use sect_edge::{Failed, Source};
+use crate::write::{Unwritten, write_out};
+use sect_edge::{Failed, Sink, Source};
 use std::alloc::{AllocError, AllocFailed, Global};
 use std::marker::Model;
 
 const MAX_LINE: usize = 65_536;
 
-const PIECE: usize = 8_192;
+const PIECE: usize = 65_536;
 
 /// What stands behind a line.
 #[derive(Clone, Copy, Debug, PartialEq, Eq)]
@@ -25,7 +27,10 @@ pub enum LineEnd {
 #[derive(Clone, Copy, Debug, PartialEq, Eq)]
 pub enum LineError {
     TooLong,
+    /// The source failed.
     Failed,
+    /// The sink failed.
+    Unwritten,
     Memory,
 }
 
@@ -34,6 +39,14 @@ impl From<Failed> for LineError {
 
     fn from(_: Failed) -> Self {
         LineError::Failed
+    }
+}
+
+impl From<Unwritten> for LineError {
+    ghost from_gives = { λ _ e. e ≡ errors.Unwritten };
+
+    fn from(_: Unwritten) -> Self {
+        LineError::Unwritten
     }
 }
 
@@ -80,16 +93,21 @@ impl LineReader {
         self.start == self.end
     }
 
-    /// Reads the next line into `line`, without its line feed and a carriage return before that.
-    pub fn read_line<S: Source>(
+    /// Reads the next line into `line`, without its line feed and a carriage return before that. What was gathered is
+    /// written to the sink before bytes are taken from the source.
+    pub fn read_line<S: Source, K: Sink>(
         &mut self,
         source: &mut S,
+        sink: &mut K,
+        gathered: &mut Vec<u8>,
         line: &mut Vec<u8>,
     ) -> Result<LineEnd, LineError>
         ensures read { (taken : List ℕ) × Consumes (S.left source.old) (S.left source.new) taken
             × ReadsLine result (self.old ++ taken) self.new line.new.items }
+        ensures written { WritesBefore result (K.taken sink.old) (K.taken sink.new) gathered.old.items gathered.new.items }
         ensures end { result ≡ Ok ends.EndOfInput → IsAtEnd (S.left source.new) }
         ensures cause { HasCauseFor errors.Failed (S.faults source.old) (S.faults source.new) result }
+        ensures write_cause { HasCauseFor errors.Unwritten (K.faults sink.old) (K.faults sink.new) result }
     {
         line.clear();
         loop {
@@ -101,6 +119,7 @@ impl LineReader {
                 drop_return(line);
                 return Ok(LineEnd::LineFeed);
             }
+            write_out(sink, gathered)?;
             self.refill(source)?;
             if self.is_empty() {
                 return Ok(LineEnd::EndOfInput);

@@ -5,10 +5,10 @@ ghost use Rattle.sect_edge.specs.Causes.{Rose};
 ghost use Rattle.sect_script.specs.declared.script.LineFault.TheVariants as faults;
 ghost use Rattle.sect_script.specs.declared.script.RunEnd.TheVariants as ends;
 ghost use Rattle.sect_script.specs.Run.{LINES_LIMIT, MayAnswer, Ran};
-ghost use Rattle.sect_script.specs.Progress.{Progress, GoesOn, Turns};
+ghost use Rattle.sect_script.specs.Progress.{GoesOn, Progress, Turns};
 
-use crate::{LineEnd, LineError, LineReader, write_all};
-use sect_edge::{Failed, Sink, Source};
+use crate::{LineEnd, LineError, LineReader, Unwritten, gather, write_out};
+use sect_edge::{Sink, Source};
 use std::alloc::Global;
 
 const MAX_LINES: u64 = 16_777_216;
@@ -48,7 +48,8 @@ pub trait Handler {
         ensures memory { IsErrOf result faults.Memory → MayAnswer answers self.old line.now self.new };
 }
 
-/// Answers each line of the source into the sink, up to the first that is bad.
+/// Answers each line of the source into the sink, up to the first that is bad. Answers are gathered, and written before
+/// the source is read, when they are many, and at the end.
 pub fn run_lines<S: Source, K: Sink, H: Handler>(
     alloc: Global,
     source: &mut S,
@@ -66,6 +67,7 @@ pub fn run_lines<S: Source, K: Sink, H: Handler>(
     };
     let mut line = Vec::new(alloc);
     let mut answer = Vec::new(alloc);
+    let mut gathered = Vec::new(alloc);
     let mut number = 1;
     loop {
         match turn(
@@ -75,15 +77,19 @@ pub fn run_lines<S: Source, K: Sink, H: Handler>(
             handler,
             &mut line,
             &mut answer,
+            &mut gathered,
             number,
         ) {
             None => number += 1,
-            Some(status) => return status,
+            Some(end) => match write_out(sink, &mut gathered) {
+                Ok(()) => return end,
+                Err(Unwritten) => return RunEnd::WriteFault,
+            },
         }
     }
 }
 
-// Reads and answers one line. The status is there where the run ends.
+// Reads and answers one line. The end is there where the run ends, but for the writing of what was gathered.
 fn turn<S: Source, K: Sink, H: Handler>(
     reader: &mut LineReader,
     source: &mut S,
@@ -91,11 +97,12 @@ fn turn<S: Source, K: Sink, H: Handler>(
     handler: &mut H,
     line: &mut Vec<u8>,
     answer: &mut Vec<u8>,
+    gathered: &mut Vec<u8>,
     number: u64,
 ) -> Option<RunEnd>
     ensures ran { (left taken : Option (List ℕ)) (old : H)
-        → Progress H.answers left (S.left source.old) taken (K.taken sink.old) old handler.old number reader.old
-        → GoesOn H.known H.answers left (S.left source.new) taken (K.taken sink.new) old handler.new number reader.new result }
+        → Progress H.answers left (S.left source.old) taken (K.taken sink.old) old handler.old number reader.old gathered.old.items
+        → GoesOn H.known H.answers left (S.left source.new) taken (K.taken sink.new) old handler.new number reader.new gathered.new.items result }
     ensures few { IfNone result (number ≤ LINES_LIMIT) }
     ensures end { result ≡ Some ends.Done → IsAtEnd (S.left source.new) }
     ensures read_fault { result ≡ Some ends.ReadFault → Rose (S.faults source.old) (S.faults source.new) }
@@ -103,13 +110,13 @@ fn turn<S: Source, K: Sink, H: Handler>(
     ensures read_faults { S.faults source.old ≤ S.faults source.new }
     ensures write_faults { K.faults sink.old ≤ K.faults sink.new }
 {
-    match reader.read_line(source, line) {
-        Ok(LineEnd::LineFeed) => answer_line(sink, handler, line, answer, number),
+    match reader.read_line(source, sink, gathered, line) {
+        Ok(LineEnd::LineFeed) => answer_line(sink, handler, line, answer, gathered, number),
         Ok(LineEnd::EndOfInput) => {
             if line.is_empty() {
                 return Some(RunEnd::Done);
             }
-            match answer_line(sink, handler, line, answer, number) {
+            match answer_line(sink, handler, line, answer, gathered, number) {
                 None => Some(RunEnd::Done),
                 Some(status) => Some(status),
             }
@@ -119,19 +126,21 @@ fn turn<S: Source, K: Sink, H: Handler>(
             field: 0,
         }),
         Err(LineError::Failed) => Some(RunEnd::ReadFault),
+        Err(LineError::Unwritten) => Some(RunEnd::WriteFault),
         Err(LineError::Memory) => Some(RunEnd::Memory),
     }
 }
 
-// Answers one line. The status is there where the run ends.
+// Answers one line. The end is there where the run ends.
 fn answer_line<K: Sink, H: Handler>(
     sink: &mut K,
     handler: &mut H,
     line: &[u8],
     answer: &mut Vec<u8>,
+    gathered: &mut Vec<u8>,
     number: u64,
 ) -> Option<RunEnd>
-    ensures answered { Turns H.known H.answers K.taken handler.old handler.new sink.old sink.new number line.now result }
+    ensures answered { Turns H.known H.answers K.taken handler.old handler.new sink.old sink.new gathered.old.items gathered.new.items number line.now result }
     ensures write_fault { result ≡ Some ends.WriteFault → Rose (K.faults sink.old) (K.faults sink.new) }
     ensures write_faults { K.faults sink.old ≤ K.faults sink.new }
 {
@@ -142,9 +151,9 @@ fn answer_line<K: Sink, H: Handler>(
         });
     }
     match handler.answer(line, answer) {
-        Ok(()) => match write_all(sink, answer) {
+        Ok(()) => match gather(sink, gathered, answer) {
             Ok(()) => None,
-            Err(Failed) => Some(RunEnd::WriteFault),
+            Err(Unwritten) => Some(RunEnd::WriteFault),
         },
         Err(LineFault::Bad) => Some(RunEnd::BadLine {
             line: number,

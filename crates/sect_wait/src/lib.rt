@@ -21,6 +21,3 @@ pub use queue::Queue;
 pub use sect_model::{Placed, Waiting};
 pub use settling::settle;
 pub use undo::QueueUndo;
-
-#[cfg(test)]
-mod tests;

@@ -1,21 +1,13 @@
 // The bytes that lines say.
 
 use sect_base::Memory;
-
-// The value of a hexadecimal digit in small letters, 0 for another byte.
-fn digit(byte: u8) -> u8 {
-    match byte {
-        b'0'..=b'9' => byte - b'0',
-        b'a'..=b'f' => byte - b'a' + 10,
-        _ => 0,
-    }
-}
+use test_told::byte_of;
 
 // Bytes of two digits each.
 fn put_numbers(digits: &[u8], into: &mut Vec<u8>) -> Result<(), Memory> {
     for pair in digits.chunks(2) {
         if let [high, low] = pair {
-            into.push(digit(*high).wrapping_mul(16).wrapping_add(digit(*low)))?;
+            into.push(byte_of(*high, *low))?;
         }
     }
     Ok(())

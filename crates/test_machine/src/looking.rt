@@ -1,9 +1,13 @@
 // A machine is looked at.
 
+use crate::planning::plan;
 use crate::shown::show_report;
+use crate::surveying::{count_made, print_survey_of};
 use sect_base::{Memory, OfferingId, SectionId, StudentId};
 use sect_command::Query;
 use sect_machine::Machine;
+use std::alloc::Global;
+use std::thread::Threads;
 
 // What is looked up by these words. None where they ask for nothing.
 fn query_of(words: &str) -> Option<Query> {
@@ -22,8 +26,26 @@ fn query_of(words: &str) -> Option<Query> {
     }
 }
 
-/// Appends the report that these words ask for.
-pub fn look(machine: &Machine, words: &str, into: &mut Vec<u8>) -> Result<(), Memory> {
+/// Appends the report, the best whole schedule, the survey or the counts that these words ask for.
+pub fn look(
+    rt: &(impl Threads + Sync),
+    alloc: Global,
+    machine: &mut Machine,
+    words: &str,
+    into: &mut Vec<u8>,
+) -> Result<(), Memory> {
+    if words == "survey" {
+        return print_survey_of(rt, machine, into);
+    }
+    match words.split_once(' ') {
+        Some(("plan", asked)) => plan(machine, asked, into),
+        Some(("made", offerings)) => count_made(rt, alloc, offerings, into),
+        _ => print_report(machine, words, into),
+    }
+}
+
+// Appends the report that these words ask for.
+fn print_report(machine: &Machine, words: &str, into: &mut Vec<u8>) -> Result<(), Memory> {
     match query_of(words) {
         Some(query) => show_report(machine, &query, into),
         None => {

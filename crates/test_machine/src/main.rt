@@ -1,12 +1,16 @@
 //! Scripts over the machine: tests alone. Each line of the input acts, is taken back and acts again, and the output has
 //! the text of its reply. A line that begins with `#` begins a new machine, and one that begins with `?` has a tree that is
-//! held against the request before it; one that begins with `=` asks for a report.
+//! held against the request before it. One that begins with `=` asks for a report; `= plan STUDENT BUDGET` asks for the best
+//! whole schedule of a student, `= survey` for the survey, and `= made N` for a count of the lines of the survey of a machine
+//! of which the commands for N offerings were asked.
 #![tactic(auto)]
 
 mod acting;
 mod judging;
 mod looking;
+mod planning;
 mod shown;
+mod surveying;
 
 use acting::answer;
 use judging::judge;
@@ -16,6 +20,8 @@ use sect_machine::Machine;
 use sect_once::Object;
 use std::alloc::Global;
 use std::io;
+use std::thread::Threads;
+use test_told::print_told;
 
 fn main(rt: HostRuntime) -> io::Result<()> {
     let alloc = rt.alloc();
@@ -28,7 +34,7 @@ fn main(rt: HostRuntime) -> io::Result<()> {
             machine = Machine::empty(alloc);
             println!(rt; "{text}")?;
         } else {
-            print_told(rt, told(alloc, &mut machine, request.as_str(), text))?;
+            print_told(rt, told(&rt, alloc, &mut machine, request.as_str(), text))?;
         }
         if !text.starts_with(['#', '?', '=']) {
             request = line;
@@ -39,18 +45,20 @@ fn main(rt: HostRuntime) -> io::Result<()> {
 
 // What is printed for a line, where the request before it is known.
 fn told(
+    rt: &(impl Threads + Sync),
     alloc: Global,
     machine: &mut Machine,
     request: &str,
     text: &str,
 ) -> Result<Vec<u8>, Memory> {
     let mut into = Vec::new(alloc);
-    tell(alloc, machine, request, text, &mut into)?;
+    tell(rt, alloc, machine, request, text, &mut into)?;
     Ok(into)
 }
 
 // Appends what is printed for a line.
 fn tell(
+    rt: &(impl Threads + Sync),
     alloc: Global,
     machine: &mut Machine,
     request: &str,
@@ -58,18 +66,10 @@ fn tell(
     into: &mut Vec<u8>,
 ) -> Result<(), Memory> {
     if let Some(words) = text.strip_prefix("= ") {
-        return look(machine, words, into);
+        return look(rt, alloc, machine, words, into);
     }
     if let Some(tree) = text.strip_prefix("? ") {
         return judge(alloc, machine, request, tree, into);
     }
     answer(alloc, machine, text, into)
-}
-
-fn print_told(rt: HostRuntime, told: Result<Vec<u8>, Memory>) -> io::Result<()> {
-    match told.map(String::from_utf8) {
-        Ok(Ok(text)) => print!(rt; "{text}"),
-        Ok(Err(_)) => println!(rt; "no text"),
-        Err(Memory) => println!(rt; "out of memory"),
-    }
 }

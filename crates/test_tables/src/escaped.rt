@@ -1,8 +1,9 @@
 // The lines of a text, with what can't stand in a line.
 
 use sect_base::Memory;
+use test_told::byte_of;
 
-// Where a reading stands: at a byte, behind a backslash, or at a digit of a byte's number.
+// Where a reading stands: at a byte, behind a backslash, at the first digit of a byte, or behind that one.
 #[derive(Clone, Copy)]
 enum At {
     Byte,
@@ -11,22 +12,13 @@ enum At {
     Low(u8),
 }
 
-// The value of a hexadecimal digit in small letters, 0 for another byte.
-fn digit(byte: u8) -> u8 {
-    match byte {
-        b'0'..=b'9' => byte - b'0',
-        b'a'..=b'f' => byte - b'a' + 10,
-        _ => 0,
-    }
-}
-
 // Puts what a byte says behind the text, and tells where the next one stands.
 fn put_byte(at: At, byte: u8, text: &mut Vec<u8>) -> Result<At, Memory> {
     match (at, byte) {
         (At::Byte, b'\\') => return Ok(At::Mark),
         (At::Mark, b'x') => return Ok(At::High),
-        (At::High, byte) => return Ok(At::Low(digit(byte))),
-        (At::Low(high), byte) => text.push(high.wrapping_mul(16).wrapping_add(digit(byte)))?,
+        (At::High, byte) => return Ok(At::Low(byte)),
+        (At::Low(high), byte) => text.push(byte_of(high, byte))?,
         (At::Mark, b'r') => text.push(b'\r')?,
         (_, byte) => text.push(byte)?,
     }

@@ -12,8 +12,8 @@ use sect_time::{Day, read_day};
 use sect_words::print_number;
 use std::alloc::Global;
 
-// The first day of the term.
-fn term() -> Option<Day> {
+/// The first day of the term.
+pub fn term() -> Option<Day> {
     read_day(b"2025-09-01").ok()
 }
 

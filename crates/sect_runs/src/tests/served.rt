@@ -10,10 +10,9 @@ use sect_edge::{Gate, MemClock, MemKeeper, MemLink, MemSink, MemSource, OpenGate
 use sect_time::Day;
 use std::alloc::{AllocGlobal, Global};
 use std::sync::Wait;
-use std::sync::atomic::{AtomicU64, Ordering};
 use std::test::Fail;
-use std::thread;
 use std::thread::Threads;
+use test_tally::Meeting;
 
 /// Student 11 asks for the one place.
 const FIRST: &str =
@@ -93,53 +92,14 @@ fn told(links: &[MemLink], at: usize) -> &[u8] {
     }
 }
 
-/// Holds worker 0 at its first step until worker 1 came to its second, and worker 1 at its first until worker 0 came to its.
-#[derive(Drop)]
-struct Meeting {
-    first: AtomicU64,
-    second: AtomicU64,
-    late: AtomicU64,
-}
-
-impl Meeting {
-    fn hold(&self, other: &AtomicU64, until: u64) {
-        for _ in 0..1_000_000u64 {
-            if other.load(Ordering::SeqCst) >= until {
-                return;
-            }
-            thread::yield_now();
-        }
-        self.late.fetch_add(1, Ordering::SeqCst);
-    }
-}
-
-impl Gate for Meeting {
-    fn pass<R: Wait>(&self, _rt: &R, worker: u32, step: u64) {
-        let (own, other) = if worker == 0 {
-            (&self.first, &self.second)
-        } else {
-            (&self.second, &self.first)
-        };
-        own.store(step.saturating_add(1), Ordering::SeqCst);
-        if step == 0 {
-            let until = if worker == 0 { 2 } else { 1 };
-            self.hold(other, until);
-        }
-    }
-}
-
 #[test]
 fn two_workers_serve_at_once(rt: HostRuntime) -> Result<(), Fail> {
-    let gate = Meeting {
-        first: AtomicU64::new(0),
-        second: AtomicU64::new(0),
-        late: AtomicU64::new(0),
-    };
+    let gate = Meeting::new();
     let (status, links) = serve(&rt, &gate, 0)?;
     assert!(rt; status == Status::Done);
     assert!(rt; told(&links, 0).starts_with(b"HTTP/1.1 200 OK\r\n"));
     assert!(rt; told(&links, 1).starts_with(b"HTTP/1.1 200 OK\r\n"));
-    assert_eq!(rt; gate.late.load(Ordering::SeqCst), 0);
+    assert!(rt; !gate.was_late());
     Ok(())
 }
 

@@ -8,7 +8,7 @@ use Rattle.sect_intake.proofs.asking.ask_each.Goals as goal
 pub returns-in-Some-ask_one-clause-asked : goal.returns-in-Some-ask_one-clause-asked
 returns-in-Some-ask_one-clause-asked g c = λ at is small.
     each_fault (AnswersNumbered g.O.Object.stepped g.O.Object.is_row g.K.Keeper.rows g.K.Keeper.faults) g.T.Sink.taken c.in-Some.it (into_iter_items c.next.new.self) c.in-Some-next.number
-    c.ask_one.new.asker c.ask_one.new.sink c.loop-it.next c.in-Some-ask_one.end (c.loop-it.invariant.so_far at is small) c.in-Some.ensures.steps.0 c.in-Some-next.is c.in-Some-ask_one.ensures.asked
+    c.ask_one.new.asker c.ask_one.new.sink c.ask_one.new.gathered.items c.loop-it.next c.in-Some-ask_one.end (c.loop-it.invariant.so_far at is small) c.in-Some.ensures.steps.0 c.in-Some-next.is c.in-Some-ask_one.ensures.asked
 
 pub loop-it-preserved : goal.loop-it-preserved
 loop-it-preserved g c =
@@ -20,7 +20,7 @@ loop-it-preserved g c =
     record {
       so_far = λ at is small.
           each_one (AnswersNumbered g.O.Object.stepped g.O.Object.is_row g.K.Keeper.rows g.K.Keeper.faults) g.T.Sink.taken c.in-Some.it (into_iter_items c.next.new.self) c.in-Some-next.number
-          c.ask_one.new.asker c.ask_one.new.sink c.number_after.result (c.loop-it.invariant.so_far at is small) steps c.in-Some-next.is asked c.number_after.ensures;
+          c.ask_one.new.asker c.ask_one.new.sink c.ask_one.new.gathered.items c.number_after.result (c.loop-it.invariant.so_far at is small) steps c.in-Some-next.is asked c.number_after.ensures;
       left = omega arith;
       fit = (subst FitGiven steps c.loop-it.invariant.fit).1;
       write_faults = omega (arith, c.loop-it.invariant.write_faults, c.ask_one.ensures.write_faults);

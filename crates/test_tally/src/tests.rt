@@ -1,0 +1,14 @@
+// A tally's desk.
+
+mod alone;
+mod shared;
+
+use sect_time::Day;
+
+// The first day.
+fn first_day() -> Day {
+    match Day::new(0) {
+        Some(day) => day,
+        None => unreachable!(),
+    }
+}

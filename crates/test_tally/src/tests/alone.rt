@@ -1,0 +1,148 @@
+// It is asked, over a keeper in memory that may fail, and its rows are replayed.
+ghost use Rattle.std.specs.Prelude.{◌<◌, ◌^◌};
+ghost use Rattle.sect_once.specs.Tallies.{caller_number};
+
+use super::first_day;
+use sect_base::{Caller, Chronicle, Id};
+use sect_edge::MemKeeper;
+use sect_once::{Answer, Desk, OpenFault, Seen, Tally};
+use sect_time::Day;
+use std::alloc::{AllocError, Global};
+use std::test::Fail;
+
+// The id with this number.
+fn id(number: u64) -> Id
+    ensures { (caller_number result.caller < 2 ^ 32) × (result.number < 2 ^ 64) }
+{
+    Id {
+        caller: Caller::Registrar(7),
+        number,
+    }
+}
+
+// The desk of these rows, of which the appends with these numbers fail.
+fn desk_of(
+    alloc: Global,
+    rows: Vec<Vec<u8>>,
+    fail: Vec<u64>,
+) -> Result<Desk<Tally, MemKeeper>, (OpenFault, MemKeeper)> {
+    Desk::open(alloc, MemKeeper::new(rows, fail))
+}
+
+// Place and reply of an answer that is Done.
+fn done(answer: Answer<u64>) -> Option<(u32, u64)> {
+    match answer {
+        Answer::Done { place, reply } => Some((place, reply)),
+        _ => None,
+    }
+}
+
+// Asks the numbers from 0 as commands of 1, and tells how many were done.
+fn ask_ones(desk: &mut Desk<Tally, MemKeeper>, count: u64) -> u64 {
+    let mut acted = 0u64;
+    for number in 0..count {
+        if let Some((_, _)) = done(desk.ask(id(number), first_day(), 1)) {
+            acted = acted.wrapping_add(1);
+        }
+    }
+    acted
+}
+
+// Copies of the rows.
+fn copies(alloc: Global, rows: &[Vec<u8>]) -> Result<Vec<Vec<u8>>, AllocError> {
+    let mut copies = Vec::new(alloc);
+    for row in rows {
+        copies.push(Vec::from_slice(alloc, row)?)?;
+    }
+    Ok(copies)
+}
+
+// Puts a byte into a row.
+fn set_byte(rows: &mut [Vec<u8>], at: usize, place: usize, byte: u8) {
+    if let Some(row) = rows.get_mut(at) {
+        if let Some(cell) = row.get_mut(place) {
+            *cell = byte;
+        }
+    }
+}
+
+#[test]
+fn a_repeat_has_its_kept_reply(rt: HostRuntime) -> Result<(), Fail> {
+    let alloc = rt.alloc();
+    let Ok(mut desk) = desk_of(alloc, Vec::new(alloc), Vec::new(alloc)) else {
+        panic!(rt; "it opens")
+    };
+    assert!(rt; done(desk.ask(id(0), first_day(), 5)) == Some((0, 5)));
+    assert!(rt; done(desk.ask(id(1), first_day(), 7)) == Some((1, 12)));
+    let Some(later) = Day::new(9) else {
+        panic!(rt; "there is the day")
+    };
+    assert!(rt; done(desk.ask(id(0), later, 5)) == Some((0, 5)));
+    assert!(rt; matches!(desk.ask(id(0), first_day(), 6), Answer::NumberReused(0)));
+    assert!(rt; desk.find(&id(1), &7) == Seen::Place(1));
+    assert!(rt; desk.find(&id(1), &8) == Seen::Reused(1));
+    assert!(rt; desk.find(&id(2), &7) == Seen::New);
+    assert_eq!(rt; desk.acted(), 2);
+    assert!(rt; matches!(desk.look(&()), Ok(12)));
+    Ok(())
+}
+
+#[test]
+fn a_fault_of_the_keeper_is_undone(rt: HostRuntime) -> Result<(), Fail> {
+    let alloc = rt.alloc();
+    let Ok(mut desk) = desk_of(alloc, Vec::new(alloc), vec![in alloc; 4]?) else {
+        panic!(rt; "it opens")
+    };
+    assert_eq!(rt; ask_ones(&mut desk, 3), 3);
+    assert!(rt; matches!(desk.ask(id(3), first_day(), 1), Answer::KeeperFault));
+    assert_eq!(rt; desk.acted(), 3);
+    assert_eq!(rt; desk.len(), 4);
+    assert!(rt; matches!(desk.look(&()), Ok(3)));
+    assert!(rt; done(desk.ask(id(3), first_day(), 1)) == Some((3, 4)));
+    assert_eq!(rt; desk.len(), 5);
+    Ok(())
+}
+
+#[test]
+fn rows_are_replayed(rt: HostRuntime) -> Result<(), Fail> {
+    let alloc = rt.alloc();
+    let Ok(mut desk) = desk_of(alloc, Vec::new(alloc), Vec::new(alloc)) else {
+        panic!(rt; "it opens")
+    };
+    assert_eq!(rt; ask_ones(&mut desk, 3), 3);
+    let keeper = desk.close();
+    let mut wrong = copies(alloc, keeper.rows())?;
+    let mut spelled = copies(alloc, keeper.rows())?;
+    let mut twice = copies(alloc, keeper.rows())?;
+    set_byte(&mut wrong, 2, 25, 4);
+    set_byte(&mut twice, 1, 16, 0);
+    match spelled.get_mut(1) {
+        Some(row) => row.push(0)?,
+        None => {}
+    }
+    assert!(rt;
+        matches!(
+            desk_of(alloc, wrong, Vec::new(alloc)),
+            Err((OpenFault::BadEntry(2), _))
+        )
+    );
+    assert!(rt;
+        matches!(
+            desk_of(alloc, spelled, Vec::new(alloc)),
+            Err((OpenFault::BadEntry(1), _))
+        )
+    );
+    assert!(rt;
+        matches!(
+            desk_of(alloc, twice, Vec::new(alloc)),
+            Err((OpenFault::BadEntry(1), _))
+        )
+    );
+    let Ok(mut desk) = Desk::<Tally, MemKeeper>::open(alloc, keeper) else {
+        panic!(rt; "it opens")
+    };
+    assert_eq!(rt; desk.acted(), 3);
+    assert!(rt; done(desk.ask(id(1), first_day(), 1)) == Some((1, 2)));
+    assert!(rt; done(desk.ask(id(3), first_day(), 1)) == Some((3, 4)));
+    Ok(())
+}

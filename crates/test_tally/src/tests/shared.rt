@@ -1,0 +1,221 @@
+// Threads share it.
+ghost use Rattle.std.specs.Prelude.{⊤, ◌≡◌, ◌<◌, ◌≤◌, ◌^◌, length, vec_len, IfOk};
+ghost use mathlib.Core.List.{IsPrefix};
+ghost use Rattle.sect_once.specs.Tallies.{caller_number};
+ghost use Rattle.sect_turn.specs.Passes.{front, own_calls, share, opening, IsIdle, IsPassOf};
+
+use super::first_day;
+use crate::Meeting;
+use sect_base::{Caller, Chronicle, Id};
+use sect_edge::{Gate, Keeper, Link, MemKeeper, MemLink, MemSink, MemSource, OpenGate};
+use sect_office::{Office, Work, run_all};
+use sect_once::{Answer, Desk, Tally};
+use sect_turn::Pass;
+use std::alloc::{AllocError, Global};
+use std::sync::Wait;
+use std::test::Fail;
+use std::thread::Threads;
+
+// A worker with a link: at its connection it asks the numbers from 0 as commands of 1, each when the gate lets it.
+#[derive(Drop)]
+struct Teller<'a, G> {
+    alloc: Global,
+    gate: &'a G,
+    link: MemLink,
+    caller: u32,
+    count: u64,
+}
+
+impl<'a, K: Keeper, G: Gate> Work<Desk<Tally, K>> for Teller<'a, G> {
+    type Given = Vec<u32>;
+
+    ghost did = { λ w before after calls places. ⊤ };
+
+    fn run<R: Wait>(
+        self,
+        rt: &R,
+        office: &Office<Tally, K>,
+        pass: &mut Pass<Desk<Tally, K>>,
+    ) -> Vec<u32> {
+        let Teller {
+            alloc,
+            gate,
+            mut link,
+            caller,
+            count,
+        } = self;
+        match link.accept() {
+            Ok(Some((source, sink))) => {
+                let places = tell(alloc, gate, rt, office, pass, caller, count);
+                link.finish(source, sink);
+                places
+            }
+            _ => Vec::new(alloc),
+        }
+    }
+}
+
+// The places of so many asks of a caller.
+fn tell<K: Keeper, G: Gate, R: Wait>(
+    alloc: Global,
+    gate: &G,
+    rt: &R,
+    office: &Office<Tally, K>,
+    pass: &mut Pass<Desk<Tally, K>>,
+    caller: u32,
+    count: u64,
+) -> Vec<u32>
+    requires turn { IsPassOf (λ d. d.log) (λ d. d.base) office.now.turn pass.old }
+    requires idle { IsIdle pass.old }
+    ensures turn { IsPassOf (λ d. d.log) (λ d. d.base) office.now.turn pass.new × IsIdle pass.new }
+    ensures same { (share pass.new ≡ share pass.old) × (opening pass.new ≡ opening pass.old) }
+    ensures grown { IsPrefix (front pass.old) (front pass.new) }
+{
+    let mut places = Vec::new(alloc);
+    for number in 0..count {
+        if places.reserve(1).is_err() {
+            break;
+        }
+        gate.pass(rt, caller, number);
+        let id = Id {
+            caller: Caller::Registrar(caller),
+            number,
+        };
+        if let Some(place) = place_of(rt, office, pass, id) {
+            places.push_reserved(place);
+        }
+    }
+    places
+}
+
+// The place of one ask that is done.
+fn place_of<K: Keeper, R: Wait>(
+    rt: &R,
+    office: &Office<Tally, K>,
+    pass: &mut Pass<Desk<Tally, K>>,
+    id: Id,
+) -> Option<u32>
+    requires numbers { (caller_number id.caller < 2 ^ 32) × (id.number < 2 ^ 64) }
+    requires turn { IsPassOf (λ d. d.log) (λ d. d.base) office.now.turn pass.old }
+    requires idle { IsIdle pass.old }
+    ensures turn { IsPassOf (λ d. d.log) (λ d. d.base) office.now.turn pass.new × IsIdle pass.new }
+    ensures same { (share pass.new ≡ share pass.old) × (opening pass.new ≡ opening pass.old) }
+    ensures grown { IsPrefix (front pass.old) (front pass.new) }
+{
+    match office.ask(rt, pass, id, first_day(), 1) {
+        Answer::Done { place, .. } => Some(place),
+        _ => None,
+    }
+}
+
+// A link with one connection to come.
+fn a_link(alloc: Global) -> Result<MemLink, AllocError> {
+    let source = MemSource::new(Vec::new(alloc), 1, Vec::new(alloc));
+    let Ok(sink) = MemSink::new(alloc, 1, 1, Vec::new(alloc)) else {
+        return Err(AllocError);
+    };
+    Ok(MemLink::new(vec![in alloc; (source, sink)]?, Vec::new(alloc)))
+}
+
+// As many tellers at one gate.
+fn tellers<'a, G>(
+    alloc: Global,
+    gate: &'a G,
+    callers: u32,
+    count: u64,
+) -> Result<Vec<Teller<'a, G>>, AllocError>
+    ensures { IfOk result (λ works. vec_len works ≤ callers) }
+{
+    let mut works = Vec::new(alloc);
+    for caller in 0..callers {
+        works.push(Teller {
+            alloc,
+            gate,
+            link: a_link(alloc)?,
+            caller,
+            count,
+        })?;
+    }
+    Ok(works)
+}
+
+// Runs as many tellers at an office, and then once more, and gives the places of both times and the desk.
+fn run_twice<G: Gate + Sync, R: Threads + Wait + Sync>(
+    rt: &R,
+    alloc: Global,
+    gate: &G,
+    callers: u32,
+    count: u64,
+) -> Result<(Vec<Vec<u32>>, Vec<Vec<u32>>, Desk<Tally, MemKeeper>), AllocError>
+    requires { callers ≤ 64 }
+{
+    let keeper = MemKeeper::new(Vec::new(alloc), Vec::new(alloc));
+    let Ok(desk) = Desk::<Tally, MemKeeper>::open(alloc, keeper) else {
+        return Err(AllocError);
+    };
+    let Ok((office, pass)) = Office::open(alloc, desk) else {
+        return Err(AllocError);
+    };
+    let works = tellers(alloc, gate, callers, count)?;
+    let again = tellers(alloc, gate, callers, count)?;
+    let (pass, first) = run_all(rt, alloc, &office, pass, works);
+    let (pass, second) = run_all(rt, alloc, &office, pass, again);
+    match (first, second, office.close(pass)) {
+        (Ok(first), Ok(second), Ok(desk)) => Ok((first, second, desk)),
+        _ => Err(AllocError),
+    }
+}
+
+// Whether the places are the numbers below the total, each once.
+fn are_each_once(alloc: Global, places: &[Vec<u32>], total: usize) -> Result<bool, AllocError> {
+    let mut seen = vec![in alloc; 0u8; total]?;
+    let mut count = 0usize;
+    for each in places {
+        for place in each.as_slice() {
+            match seen.get_mut(*place as usize) {
+                Some(times) => {
+                    if *times != 0 {
+                        return Ok(false);
+                    }
+                    *times = 1;
+                    count = count.wrapping_add(1);
+                }
+                None => return Ok(false),
+            }
+        }
+    }
+    Ok(count == total)
+}
+
+#[test]
+fn two_threads_share_one_history(rt: HostRuntime) -> Result<(), Fail> {
+    let alloc = rt.alloc();
+    let (first, second, desk) = run_twice(&rt, alloc, &OpenGate, 2, 100)?;
+    assert!(rt; are_each_once(alloc, &first, 200)?);
+    assert!(rt; first == second);
+    assert_eq!(rt; desk.len(), 200);
+    if desk.acted() < 200 {
+        panic!(rt; "two hundred acted")
+    }
+    assert_eq!(rt; desk.entry(199).reply, 200);
+    Ok(())
+}
+
+#[test]
+fn many_threads_share_one_history(rt: HostRuntime) -> Result<(), Fail> {
+    let alloc = rt.alloc();
+    let (first, second, desk) = run_twice(&rt, alloc, &OpenGate, 64, 10)?;
+    assert!(rt; are_each_once(alloc, &first, 640)?);
+    assert!(rt; first == second);
+    assert_eq!(rt; desk.len(), 640);
+    Ok(())
+}
+
+#[test]
+fn two_workers_run_at_once(rt: HostRuntime) -> Result<(), Fail> {
+    let gate = Meeting::new();
+    let (first, _, _) = run_twice(&rt, rt.alloc(), &gate, 2, 100)?;
+    assert!(rt; are_each_once(rt.alloc(), &first, 200)?);
+    assert!(rt; !gate.was_late());
+    Ok(())
+}
