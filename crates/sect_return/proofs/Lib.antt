@@ -1,0 +1,12 @@
+pub mod Written
+pub mod Ends
+pub mod Told
+pub mod Words
+pub mod Others
+pub mod Students
+pub mod Requests
+pub mod Reservations
+pub mod Sections
+pub mod Offerings
+pub mod Groups
+pub mod Catalogues
