@@ -199,6 +199,7 @@ CHAPTERS = [
      + ['sect_asking/specs/' + n + '.antt' for n in ('AnswerLines', 'Asks', 'Desk')]
      + ['sect_tell/specs/' + n + '.antt' for n in ('Told', 'Audit', 'Views')]
      + ['sect_fit/specs/Fitting.antt']
+     + ['sect_return/specs/' + n + '.antt' for n in ('Asked', 'Back', 'Checked', 'States', 'Again')]
      + ['sect_intake/specs/' + n + '.antt' for n in ('Numbers', 'Asking', 'Table', 'Opened', 'Machine')]
      + ['sect_making/specs/' + n + '.antt' for n in ('Generated', 'Made', 'Stages')]),
     ('Requests and answers over HTTP',

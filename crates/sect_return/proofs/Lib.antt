@@ -10,3 +10,11 @@ pub mod Sections
 pub mod Offerings
 pub mod Groups
 pub mod Catalogues
+pub mod Few
+pub mod Checks
+pub mod Histories
+pub mod Ids
+pub mod Sorted
+pub mod StateTables
+pub mod Ascending
+pub mod StudentsAgain

@@ -1,5 +1,5 @@
 -- The table of requests is read back.
-use Rattle.std.proofs.Common.{◌≡◌, ℕ, ◌+◌, ◌<◌, false, not, IsTrue, List, [], ◌∷◌, ◌++◌, length, length-append, map, append-nil, append_assoc, Option, None, Some, Ok, refl, sym, ap, ◌∙◌, subst, decimal, arith}
+use Rattle.std.proofs.Common.{◌≡◌, ℕ, ◌+◌, ◌<◌, false, IsTrue, List, [], ◌∷◌, ◌++◌, length, length-append, map, append-nil, append_assoc, Option, None, Some, Ok, refl, sym, ap, ◌∙◌, subst, decimal, arith}
 use Rattle.std.specs.List.{AllByRecursion}
 use Rattle.std.specs.Prelude.{flat_map}
 use Rattle.std.specs.Str.{bytes_eq}

@@ -1,2 +1,5 @@
 pub mod Asked
 pub mod Back
+pub mod Checked
+pub mod States
+pub mod Again
