@@ -1,5 +1,5 @@
 // Each object once, with ample memory.
-use super::*;
+use sect_edge::{Clock, KeepFault, Keeper, Link, MemClock, MemKeeper, MemLink, MemSink, MemSource};
 use sect_time::Day;
 use std::alloc::Global;
 use std::test::Fail;

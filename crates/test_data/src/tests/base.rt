@@ -1,5 +1,7 @@
 // Copies and comparisons with ample memory.
-use super::*;
+use sect_base::{
+    Block, CourseId, Duplicate, Items, Move, Rule, Same, SectionId, Sections, StudentId, Want,
+};
 use std::alloc::Global;
 use std::test::Fail;
 

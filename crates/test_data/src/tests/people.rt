@@ -1,7 +1,7 @@
 // Students put, changed and taken off, and each fault of requests.
 
-use crate::{Ask, CourseAsk, People, RequestFault, StudentRow, check_asks};
 use sect_base::{CourseId, Duplicate, Items, StudentId};
+use sect_people::{Ask, CourseAsk, People, RequestFault, StudentRow, check_asks};
 use sect_time::Meeting;
 use std::alloc::Global;
 use std::test::Fail;

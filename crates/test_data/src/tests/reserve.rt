@@ -1,11 +1,11 @@
 // The last day, the listed section, and a copy of each kind of row.
 
-use crate::{
-    Audience, Includes, Place, Reservation, Restriction, active, admits_section, applies, lasts,
-};
 use sect_base::{
     AreaId, ClassId, ConfigId, CourseId, Curriculum, Duplicate, Items, Limit, MajorId, OfferingId,
     ReservationId, RestrictionId, SectionId, StudentId, SubpartId,
+};
+use sect_reserve::{
+    Audience, Includes, Place, Reservation, Restriction, active, admits_section, applies, lasts,
 };
 use sect_time::Day;
 use std::alloc::Global;

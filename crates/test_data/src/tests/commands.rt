@@ -1,6 +1,7 @@
 // Texts of trees both ways, and copies and comparisons with ample memory.
-use super::*;
+
 use sect_base::{Block, CourseId, Duplicate, Items, Limit, Rule, Same, SectionId, StudentId};
+use sect_command::{Command, Line, LineResult, Reply, RollView, View, print_block, read_block};
 use std::alloc::Global;
 use std::test::Fail;
 

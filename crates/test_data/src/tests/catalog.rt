@@ -1,10 +1,10 @@
 // Worked examples: each fault once, and a row that comes, changes and goes.
 
-use crate::{
-    AddFault, CatalogFault, Catalogue, ConfigRow, CourseRow, OfferingRow, SectionRow, SubpartRow,
-};
 use sect_base::{
     Cap, ConfigId, CourseId, Duplicate, Items, Limit, Memory, OfferingId, SectionId, SubpartId,
+};
+use sect_catalog::{
+    AddFault, CatalogFault, Catalogue, ConfigRow, CourseRow, OfferingRow, SectionRow, SubpartRow,
 };
 use std::alloc::Global;
 

@@ -1,6 +1,9 @@
 // Worked examples.
 
-use super::*;
+use sect_time::{
+    Calendar, Meeting, TimeFault, overlaps, print_day, print_meeting, read_day, read_meeting,
+    weeks_of,
+};
 
 #[test]
 fn reads_and_prints_meetings(rt: HostRuntime) {

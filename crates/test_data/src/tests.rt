@@ -1,0 +1,7 @@
+mod base;
+mod catalog;
+mod commands;
+mod edge;
+mod people;
+mod reserve;
+mod times;
