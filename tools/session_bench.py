@@ -3,8 +3,9 @@
 
   session_bench.py [--bench PROGRAM] [--desk NAME=PROGRAM ..] [--requests N]
 
-PROGRAM of --bench is the crate bench/session, copied to crates/bench_session and built by `rt ci bench_session` in a copy of the repository whose crates.txt has
-the line that stands in bench/session/line.txt: sessions of thirty requests over memory, timed, and its instructions counted by callgrind. Each
+PROGRAM of --bench is a crate of its own, which no gate reads: in a copy of the repository `bench/session/main.rt.txt` goes to
+crates/bench_session/src/main.rt, with args and stdout beside src/, and the line of `bench/session/line.txt` to crates.txt; then
+`rt ci bench_session` builds it. It has sessions of thirty requests over memory, timed, and its instructions counted by callgrind. Each
 --desk is served over one connection of TCP under callgrind, which counts what the program itself does. Instructions are those
 of N requests more, beside those of none, so that the start doesn't count.
 """
