@@ -26,6 +26,9 @@ pub(crate) struct Stepped<C, R, U> {
     pub(crate) undo: U,
 }
 
+// The bytes for which a row has room from the start: most rows are shorter.
+const ROW_ROOM: usize = 256;
+
 // A copy of the entry's reply, and its row.
 fn written<O: Object>(
     alloc: Global,
@@ -35,7 +38,7 @@ fn written<O: Object>(
     ensures { IfOk result (λ r. (r.0 ≡ entry.now.reply) × O.is_row entry.now r.1.items) }
 {
     let reply = O::copy_reply(alloc, &entry.reply)?;
-    let mut row = Vec::new(alloc);
+    let mut row = Vec::with_capacity(alloc, ROW_ROOM)?;
     O::print_entry(entry, &mut row)?;
     Ok((reply, row))
 }

@@ -1,6 +1,6 @@
 // Reading what stands in one word.
 
-ghost use Rattle.std.specs.Prelude.{◌≡◌, ◌≤◌, ◌<◌, ◌^◌, ℕ, List, Option, Some, None, decimal, IfSome, IfNone, IfOk, IsSomeAnd, length};
+ghost use Rattle.std.specs.Prelude.{◌≡◌, ◌≢◌, ◌≤◌, ◌<◌, ◌^◌, ℕ, List, Option, Some, None, decimal, get_or, IfSome, IfNone, IfOk, IsSomeAnd, IsTrue, length};
 ghost use Rattle.std.specs.Option.{option_map};
 ghost use Rattle.sect_words.specs.Parts.{pieces};
 ghost use Rattle.sect_words.specs.Reading.{Means, Reads, all_of, word_at};
@@ -38,7 +38,6 @@ ghost use Rattle.sect_words.specs.ReadingWords.{
 use crate::fault::Fault;
 use crate::parts::Parts;
 use crate::same::same_bytes;
-use itoa::Buffer;
 use sect_base::{
     AreaId, Block, Caller, ClassId, ConfigId, CourseId, GroupId, Items, Limit, MajorId, OfferingId,
     ReservationId, RestrictionId, SectionId, Sections, StudentId, SubpartId,
@@ -62,17 +61,27 @@ pub fn parse_number(word: &[u8]) -> Option<u64>
     ensures found { IfSome result (λ n. decimal n ≡ word.now) }
     ensures only { (n : ℕ) → n < 2 ^ 64 → decimal n ≡ word.now → IsSomeAnd result (λ read. read ≡ n) }
 {
+    if !is_plain(word) {
+        return None;
+    }
     let Ok(text) = str::from_utf8(word) else {
         return None;
     };
-    let Ok(number) = text.parse::<u64>() else {
-        return None;
-    };
-    let mut buffer = Buffer::new();
-    if buffer.format(number).as_bytes() == word {
-        Some(number)
-    } else {
-        None
+    match text.parse::<u64>() {
+        Ok(number) => Some(number),
+        Err(_) => None,
+    }
+}
+
+// Whether neither a plus nor a zero stands before other digits.
+fn is_plain(word: &[u8]) -> bool
+    ensures plain { IsTrue result → (get_or word.now 0 0 ≢ 43) × (get_or word.now 0 0 ≡ 48 → length word.now ≡ 1) }
+    ensures only { get_or word.now 0 0 ≢ 43 → (get_or word.now 0 0 ≡ 48 → length word.now ≡ 1) → IsTrue result }
+{
+    match word {
+        [b'+', ..] => false,
+        [b'0', rest @ ..] => rest.is_empty(),
+        _ => true,
     }
 }
 
