@@ -6,7 +6,8 @@ test_bodies.
   stored_answers.py --oracle FOLDER --write              writes them
   stored_answers.py --oracle FOLDER --add CRATE A..B     adds inputs of the oracle's fuzzer with these seeds to the crate's
 
-test_machine: a line that begins with `#` begins a new machine, one with `= ` asks for a report, `plan STUDENT BUDGET`,
+test_machine: in a line `{ITEM*COUNT}` is the item so many times. A line that begins with `#` begins a new machine, one with
+`+ FIRST..END ` is asked with each of these numbers in place of `#`, one with `= ` asks for a report, `plan STUDENT BUDGET`,
 `survey`, or `made N` for the lines of the survey of what `make N` makes; one with `? ` has a tree that is held against the
 request before it; each other line is a request.
 test_tables: a line `# NAME` begins a new machine and a new keeper, `< TABLE` and `< TABLE FIRST PIECE READ WRITE` begin a
@@ -19,6 +20,7 @@ other lines print an answer.
 import argparse
 import copy
 import os
+import re
 import subprocess
 import sys
 
@@ -88,6 +90,19 @@ def report(machine, words):
     return known[kind](machine, *map(int, ids))
 
 
+def unfolded(line):
+    """The line with what it has many times."""
+    return re.sub(r"\{([^{}]*)\*([0-9]+)\}", lambda fold: fold[1] * int(fold[2]), line, count=1)
+
+
+def ask_each(texts, machine, words):
+    """How many of the numbers `FIRST..END` the line behind them is answered `amended` with."""
+    numbers, line = words.split(" ", 1)
+    first, end = map(int, numbers.split(".."))
+    replies = (machine.step(*request_of(texts, line.replace("#", str(number)))) for number in range(first, end))
+    return f"{sum(texts.print_reply(reply) == 'amended' for reply in replies)} amended\n"
+
+
 def machine_answers(lines):
     import texts
     from machine import Machine
@@ -98,11 +113,13 @@ def machine_answers(lines):
             yield line + "\n"
         elif line.startswith("= "):
             yield report(machine, line[2:])
+        elif line.startswith("+ "):
+            yield ask_each(texts, machine, line[2:])
         elif line.startswith("? "):
             yield judge(texts, machine, last, line[2:]) + "\n"
         else:
             last = line
-            request = request_of(texts, line)
+            request = request_of(texts, unfolded(line))
             yield (texts.print_reply(machine.step(*request)) if request else "no request") + "\n"
 
 
@@ -110,7 +127,7 @@ def fuzzed_script(oracle, seed):
     done = subprocess.run([sys.executable, os.path.join(oracle, "fuzz.py"), "--seed", str(seed), "--lines", "60", "--plain"],
                           capture_output=True, check=True)
     lines = done.stdout.decode("latin-1").split("\n")
-    lines = [line for line in lines if line and line[0] not in "#=?" and line.isascii() and line.isprintable()]
+    lines = [line for line in lines if line and line[0] not in "#+=?" and line.isascii() and line.isprintable()]
     return f"# Random requests, {seed}.\n" + "".join(line + "\n" for line in lines)
 
 

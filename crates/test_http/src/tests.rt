@@ -10,13 +10,13 @@ use crate::{Sent, served};
 use answers::{ENROLLED, WAITING};
 use asks::{ASK, DESK, LOOK};
 use sect_base::Memory;
-use sect_crowds::unfolded;
 use sect_edge::MemKeeper;
 use sect_talk::End;
 use std::alloc::Global;
 use std::process::Abort;
 use std::sync::Wait;
 use std::test::Fail;
+use test_told::unfolded;
 
 /// A connection: the parts that it sends, in one of which `{ITEM*COUNT}` is the item so many times, the answers that it is
 /// told, and how it ends.

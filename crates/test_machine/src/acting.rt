@@ -9,6 +9,7 @@ use sect_text::print_reply;
 use sect_time::{Day, read_day};
 use sect_wire::{LineAsk, read_line};
 use std::alloc::Global;
+use test_told::unfolded;
 
 /// The day of lines that name none.
 pub fn day_of(ask: &LineAsk) -> Option<Day> {
@@ -18,14 +19,15 @@ pub fn day_of(ask: &LineAsk) -> Option<Day> {
     }
 }
 
-/// Appends the reply of a line, and behind it what differs where the line is taken back and acts again.
+/// Appends the reply of a line, unfolded, and behind it what differs where the line is taken back and acts again.
 pub fn answer(
     alloc: Global,
     machine: &mut Machine,
     text: &str,
     into: &mut Vec<u8>,
 ) -> Result<(), Memory> {
-    match read_line(alloc, text.as_bytes()) {
+    let line = unfolded(alloc, text)?;
+    match read_line(alloc, line.as_slice()) {
         Ok(ask) => answer_ask(alloc, machine, &ask, into),
         Err(_) => {
             into.extend_from_slice(b"no request\n")?;

@@ -1,5 +1,6 @@
 //! Scripts over the machine: tests alone. Each line of the input acts, is taken back and acts again, and the output has
-//! the text of its reply. A line that begins with `#` begins a new machine, and one that begins with `?` has a tree that is
+//! the text of its reply; in a line `{ITEM*COUNT}` is the item so many times. A line that begins with `#` begins a new machine, one
+//! with `+ FIRST..END ` is asked with each of these numbers in place of `#`, and is answered with how many were amended, and one that begins with `?` has a tree that is
 //! held against the request before it. One that begins with `=` asks for a report; `= plan STUDENT BUDGET` asks for the best
 //! whole schedule of a student, `= survey` for the survey, and `= made N` for a count of the lines of the survey of a machine
 //! of which the commands for N offerings were asked.
@@ -8,6 +9,7 @@
 mod acting;
 mod judging;
 mod looking;
+mod many;
 mod planning;
 mod shown;
 mod surveying;
@@ -15,6 +17,7 @@ mod surveying;
 use acting::answer;
 use judging::judge;
 use looking::look;
+use many::ask_each;
 use sect_base::Memory;
 use sect_machine::Machine;
 use sect_once::Object;
@@ -36,7 +39,7 @@ fn main(rt: HostRuntime) -> io::Result<()> {
         } else {
             print_told(rt, told(&rt, alloc, &mut machine, request.as_str(), text))?;
         }
-        if !text.starts_with(['#', '?', '=']) {
+        if !text.starts_with(['#', '+', '?', '=']) {
             request = line;
         }
     }
@@ -67,6 +70,9 @@ fn tell(
 ) -> Result<(), Memory> {
     if let Some(words) = text.strip_prefix("= ") {
         return look(rt, alloc, machine, words, into);
+    }
+    if let Some(words) = text.strip_prefix("+ ") {
+        return ask_each(alloc, machine, words, into);
     }
     if let Some(tree) = text.strip_prefix("? ") {
         return judge(alloc, machine, request, tree, into);

@@ -1,6 +1,7 @@
 // A tally's desk.
 
 mod alone;
+mod full;
 mod shared;
 
 use sect_time::Day;

@@ -3,7 +3,6 @@
 use sect_base::Memory;
 use sect_words::{print_number, print_text, read_number};
 use std::alloc::Global;
-use std::ops::Range;
 
 /// A line with a part that stands in it many times: `FRONT{ITEM*COUNT}END`.
 #[derive(Drop)]
@@ -59,18 +58,4 @@ pub fn numbered(alloc: Global, line: &str, number: u64) -> Result<Vec<u8>, Memor
         }
     }
     Ok(text)
-}
-
-/// The front, and these numbers behind it, joined by `+`.
-pub fn joined(alloc: Global, front: &str, numbers: Range<u64>) -> Result<Vec<u8>, Memory> {
-    let mut line = Vec::new(alloc);
-    print_text(front, &mut line)?;
-    let first = numbers.start;
-    for number in numbers {
-        if first < number {
-            line.push(b'+')?;
-        }
-        print_number(number, &mut line)?;
-    }
-    Ok(line)
 }
