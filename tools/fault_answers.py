@@ -5,7 +5,7 @@
   fault_answers.py --oracle FOLDER --write   writes them
 
 The second computation knows nothing of sources and sinks: of a read that fails it is handed the lines that were read whole,
-and of a write that fails the bytes before it are kept. So no piece of a source may hold the ends of two lines. The status is
+and of a write that fails the bytes before it are kept; whole commands follow one another over one keeper. So no piece of a source may hold the ends of two lines. The status is
 1 where a line differs.
 """
 import argparse
@@ -13,6 +13,7 @@ import os
 import sys
 
 CRATE = os.path.join(os.path.dirname(os.path.abspath(__file__)), '..', 'crates', 'test_faults')
+USAGE = 'usage: desk run|serve|make|audit|report|import|export|plan|survey'
 TEXTS = {0: '', 4: 'read fault', 5: 'write fault', 6: 'keeper fault', 8: 'link fault'}
 VERSION = 'desk 0.1.0\n'
 TALKS = [b'POST /students/%d/asks/1 HTTP/1.1\r\nContent-Length: 43\r\n\r\n{"verb":"enrol","student":%d,"courses":[1]}' % (s, s)
@@ -86,6 +87,8 @@ class Desk:
             self.does(words, keeper, data, ended, sink)
         except WriteFailed:
             status, text = 5, TEXTS[5]
+        except self.app.BadWords:
+            status, text = 2, USAGE
         except self.app.Status as end:
             status, text = end.number, end.text
         return told(status, text, keeper) + bars(sink.taken)
@@ -130,16 +133,20 @@ def one_run(desk, call, piece, number, words, rows, data):
 
 def answers(desk, text):
     """The lines that answer the input."""
-    words, rows, data = [], [], b''
+    words, rows, data, kept = [], [], b'', None
     for line in text.split('\n')[:-1]:
         if line[:1] in ('#', '$', '?'):
             yield line
         if line.startswith('#'):
             words, rows, data = [], [], b''
         elif line.startswith('$ '):
-            words, data = line[2:].split(), b''
+            words, data = ['' if word == '""' else word for word in line[2:].split()], b''
         elif line.startswith('| '):
             rows = rows + [line[2:].encode()]
+        elif line.startswith('? begin '):
+            kept = desk.journal.MemKeeper(rows, *([call] if call else [] for call in map(int, line[8:].split())))
+        elif line == '? once':
+            yield desk.run(words, kept, data)
         elif line.startswith('? '):
             call, piece, count = line[2:].split()
             for number in range(1, int(count) + 1):
