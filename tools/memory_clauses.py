@@ -17,7 +17,7 @@ CRATES = os.path.join(os.path.dirname(os.path.abspath(__file__)), '..', 'crates'
 OTHER = re.compile(r'^\s*(?:\(\w+ [^→]*\) → )*(IfOk|OnOk|IfSome|HasCause|HasCauseFor)\b|→ Rose \(')
 
 # Crates of tests alone.
-TESTS = ('sect_runs', 'sect_texts')
+TESTS = ('test_runs', 'test_texts')
 
 # Those of which docs/PROVED.md says why nothing is promised.
 DESCRIBED = {

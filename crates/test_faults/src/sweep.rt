@@ -4,10 +4,10 @@ use crate::serving::put_served;
 use crate::table::Table;
 use crate::told::put_ended;
 use sect_base::Memory;
-use sect_runs::{Case, RUN, keeper_of, run_over};
 use std::alloc::{AllocGlobal, Global};
 use std::sync::Wait;
 use std::thread::Threads;
+use test_runs::{Case, RUN, keeper_of, run_over};
 
 /// What fails.
 #[derive(Clone, Copy, PartialEq, Eq)]

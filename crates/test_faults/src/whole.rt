@@ -4,10 +4,10 @@ use crate::table::Table;
 use crate::told::put_ended;
 use sect_base::Memory;
 use sect_edge::MemKeeper;
-use sect_runs::{Case, RUN, keeper_of, run_over};
 use std::alloc::{AllocGlobal, Global};
 use std::sync::Wait;
 use std::thread::Threads;
+use test_runs::{Case, RUN, keeper_of, run_over};
 
 // The number of a word; 0 where it is none.
 fn number(word: Option<&str>) -> u64 {

@@ -4,6 +4,7 @@ ghost use Rattle.std.specs.Prelude.{◌≡◌, IfOk, length};
 
 use super::ends::THREE_ROWS;
 use crate::runs::{rows_of, words_of};
+use crate::{FIRST, SECOND, link_of};
 use sect_app::{Status, desk};
 use sect_base::Memory;
 use sect_edge::{Gate, MemClock, MemKeeper, MemLink, MemSink, MemSource, OpenGate};
@@ -14,36 +15,17 @@ use std::test::Fail;
 use std::thread::Threads;
 use test_tally::Meeting;
 
-/// Student 11 asks for the one place.
-const FIRST: &str =
-    "POST /students/11/asks/1 HTTP/1.1\r\nContent-Length: 43\r\n\r\n{\"verb\":\"enrol\",\"student\":11,\"courses\":[1]}";
-
-/// So does student 12.
-const SECOND: &str =
-    "POST /students/12/asks/1 HTTP/1.1\r\nContent-Length: 43\r\n\r\n{\"verb\":\"enrol\",\"student\":12,\"courses\":[1]}";
-
 /// What student 11 is told.
 const ENROLLED: &str =
     "HTTP/1.1 200 OK\r\nContent-Type: application/json\r\nContent-Length: 38\r\n\r\n{\"place\":3,\"reply\":\"enrolled 1/-/1/7\"}";
-
-/// A link to which one connection comes, which sends this. The call of `accept` with this number fails; 0 is none.
-fn link(alloc: Global, sent: &str, failing_accept: u64) -> Result<MemLink, Memory> {
-    let source = MemSource::new(sent.as_bytes().to_vec(alloc)?, 8_192, Vec::new(alloc));
-    let sink = MemSink::new(alloc, 4_000, 4_000, Vec::new(alloc))?;
-    let mut talks = Vec::new(alloc);
-    talks.push((source, sink))?;
-    let mut fail = Vec::new(alloc);
-    fail.push(failing_accept)?;
-    Ok(MemLink::new(talks, fail))
-}
 
 /// The links of the students 11 and 12, of which the second one's `accept` with this number fails.
 fn links(alloc: Global, failing_accept: u64) -> Result<Vec<MemLink>, Memory>
     ensures { IfOk result (λ links. length links.items ≡ 2) }
 {
     let mut links = Vec::new(alloc);
-    links.push(link(alloc, FIRST, 0)?)?;
-    links.push(link(alloc, SECOND, failing_accept)?)?;
+    links.push(link_of(alloc, &[FIRST], 0)?)?;
+    links.push(link_of(alloc, &[SECOND], failing_accept)?)?;
     Ok(links)
 }
 

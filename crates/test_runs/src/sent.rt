@@ -1,0 +1,25 @@
+// What students send over connections of a link in memory.
+
+use sect_base::Memory;
+use sect_edge::{MemLink, MemSink, MemSource};
+use std::alloc::Global;
+
+/// Student 11 asks for the one place.
+pub const FIRST: &str =
+    "POST /students/11/asks/1 HTTP/1.1\r\nContent-Length: 43\r\n\r\n{\"verb\":\"enrol\",\"student\":11,\"courses\":[1]}";
+
+/// So does student 12.
+pub const SECOND: &str =
+    "POST /students/12/asks/1 HTTP/1.1\r\nContent-Length: 43\r\n\r\n{\"verb\":\"enrol\",\"student\":12,\"courses\":[1]}";
+
+/// A link to which these connections come, one after another, each of which sends its text. The call of `accept` with this
+/// number fails; 0 is none.
+pub fn link_of(alloc: Global, sent: &[&str], failing_accept: u64) -> Result<MemLink, Memory> {
+    let mut talks = Vec::new(alloc);
+    for text in sent {
+        let source = MemSource::new(text.as_bytes().to_vec(alloc)?, 8_192, Vec::new(alloc));
+        let sink = MemSink::new(alloc, 4_000, 4_000, Vec::new(alloc))?;
+        talks.push((source, sink))?;
+    }
+    Ok(MemLink::new(talks, vec![in alloc; failing_accept]?))
+}
