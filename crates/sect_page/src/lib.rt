@@ -8,6 +8,3 @@ mod print;
 pub use page::{Kind, Method, Page};
 pub use phrases::each_status_has_its_phrase;
 pub use print::{no_memory, print_page};
-
-#[cfg(test)]
-mod tests;

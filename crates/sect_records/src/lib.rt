@@ -8,6 +8,3 @@ mod read;
 mod records;
 
 pub use records::Records;
-
-#[cfg(test)]
-mod tests;

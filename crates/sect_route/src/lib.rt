@@ -7,6 +7,3 @@ mod target;
 
 pub use routes::Routes;
 pub use target::Target;
-
-#[cfg(test)]
-mod tests;

@@ -1,4 +1,5 @@
-//! Ids, times, objects in memory, rows and commands, each once with ample memory: tests alone.
+//! Ids, times, objects in memory, rows and commands, rows of a table, heads, paths and pages, each once with ample memory:
+//! tests alone.
 #![tactic(auto)]
 
 #[cfg(test)]

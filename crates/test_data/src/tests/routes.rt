@@ -1,7 +1,7 @@
 // Paths of targets, and of none.
-use super::*;
 use sect_base::{Caller, Id, Memory, OfferingId, SectionId, StudentId};
 use sect_command::Query;
+use sect_route::{Routes, Target};
 use std::test::Fail;
 
 fn ask(caller: Caller, number: u64) -> Option<Target> {

@@ -1,7 +1,7 @@
 // Answers, byte for byte.
-use super::*;
 use http::StatusCode;
 use sect_base::Memory;
+use sect_page::{Kind, Method, Page, print_page};
 use std::test::Fail;
 
 #[test]

@@ -1,7 +1,7 @@
 // Rows as they come, and those at the end.
-use super::*;
 use csv::ByteRecord;
 use sect_base::Memory;
+use sect_records::Records;
 use std::alloc::Global;
 use std::test::Fail;
 
