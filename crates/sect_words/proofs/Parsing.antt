@@ -38,5 +38,5 @@ printed {E = E} n digits text r is_plain same is told =
     let first : get_or text 0 0 ≢ 43 = subst (λ t. get_or t 0 0 ≢ 43) (sym same) is_plain.0 in
     let lead : get_or text 0 0 ≡ 48 → length text ≡ 1 = subst (λ t. get_or t 0 0 ≡ 48 → length t ≡ 1) (sym same) is_plain.1 in
     let p : ((AllDigits 10 text × (0 < length text) × (digits_value 10 text < 2 ^ 64)) × (n ≡ digits_value 10 text)) =
-        subst (λ q. OkIff q (AllDigits 10 text × (0 < length text) × (digits_value 10 text < 2 ^ 64)) (digits_value 10 text)) is (parse_plain model 64 text r told first) in
+    subst (λ q. OkIff q (AllDigits 10 text × (0 < length text) × (digits_value 10 text < 2 ^ 64)) (digits_value 10 text)) is (parse_plain model 64 text r told first) in
     ap decimal p.1 ∙ decimal-digits_value model text p.0.0 p.0.1 lead p.0.2 ∙ same
