@@ -1,5 +1,4 @@
 -- A text that is a number's is parsed as that number, and no other text is.
-use Rattle.std.proofs.Common.{◌≡◌, sym}
 use Rattle.sect_words.proofs.Parsing.{IsUtf8-decimal, parsed, plain, printed}
 use Rattle.sect_words.proofs.readable.parse_number.Goals as goal
 
