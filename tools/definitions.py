@@ -1,22 +1,32 @@
 """Writes docs/DEFINITIONS.md: each definition with its file and its sentence, in an order in which they can be read.
+And docs/FIND.md: where each rule, refusal, command, limit, format, route and status stands.
 
-python3 tools/definitions.py            writes the document
+python3 tools/definitions.py            writes the documents
 python3 tools/definitions.py --missing  lists the definitions without a sentence
-python3 tools/definitions.py --check    compares the document with what would be written; the status is 1 where they differ
+python3 tools/definitions.py --check    compares the documents with what would be written; the status is 1 where they differ
+
+Where a name of tools/find_it.py stands nowhere, it is told, the status is 1 and nothing is written.
 """
 import os
 import re
 import sys
 
+from find_it import GROUPS, INTRODUCTION as FIND_INTRODUCTION
+from reading_order import CHAPTERS, INSIDE, INTRODUCTION, SENTENCES
+
 ROOT = os.path.join(os.path.dirname(os.path.abspath(__file__)), '..')
+CRATES = os.path.join(ROOT, 'crates')
+
+
+def read(*path):
+    with open(os.path.join(ROOT, *path)) as file:
+        return file.read()
 
 
 def definitions(path):
-    """Names and sentences of a file of specs/, in its order."""
+    """Names, sentences and first lines of the definitions in a file of specs/, in its order."""
     found, comment, mutual, module = [], [], False, False
-    with open(os.path.join(ROOT, 'crates', path)) as file:
-        lines = file.read().split('\n')[1:]
-    for line in lines:
+    for line in read('crates', path).split('\n')[1:]:
         text = line.strip()
         if text.startswith('-- ----') or not text:
             comment = []
@@ -33,48 +43,115 @@ def definitions(path):
         if not m and mutual:
             m = re.match(r'^  (?:abbrev |unfoldable )?pub (data )?([^\s:({]+)', line)
         if m and m[2] not in ('mod', 'use'):
-            found.append((m[2], ' '.join(comment)))
+            found.append((m[2], ' '.join(comment), re.sub(r'^(abbrev |unfoldable )?pub (record |data )?| where$', '', text)))
         comment = []
     return found
 
 
-def main():
-    missing = sys.argv[1:] == ['--missing']
-    from reading_order import CHAPTERS, INSIDE, INTRODUCTION, SENTENCES
+def told(path):
+    """The definitions of a file that the document lists."""
+    found = [d for d in definitions(path) if '-' not in d[0]]
+    return [d for d in found if d[1]] if path == 'sect_model/specs/Script.antt' else found
+
+
+def definitions_text():
     out = [INTRODUCTION]
-    seen = set(INSIDE)
     for title, text, files in CHAPTERS:
         out.append(f'## {title}\n\n{text}\n')
         for path in files:
-            seen.add(path)
-            found = [d for d in definitions(path) if '-' not in d[0]]
-            if path == 'sect_model/specs/Script.antt':
-                found = [d for d in found if d[1]]
+            found = told(path)
             if not found:
                 continue
             out.append(f'In `crates/{path}`:\n')
-            for name, sentence in found:
+            for name, sentence, _ in found:
                 sentence = sentence or SENTENCES.get((path, name), '')
-                if not sentence and missing:
-                    print(path, name)
                 out.append(f'- `{name}`: {sentence}.' if sentence else f'- `{name}`')
             out.append('')
+    return '\n'.join(out).rstrip() + '\n'
+
+
+def missing_sentences():
+    return [(path, name) for _, _, files in CHAPTERS for path in files for name, sentence, _ in told(path)
+            if not (sentence or SENTENCES.get((path, name), ''))]
+
+
+def outside_the_order():
+    """Files of definitions that no chapter lists."""
+    seen = set(INSIDE).union(path for _, _, files in CHAPTERS for path in files)
     for crate in ('sect_base', 'sect_time', 'sect_catalog', 'sect_people', 'sect_reserve', 'sect_model'):
-        for name in sorted(os.listdir(os.path.join(ROOT, 'crates', crate, 'specs'))):
+        for name in sorted(os.listdir(os.path.join(CRATES, crate, 'specs'))):
             path = f'{crate}/specs/{name}'
             if path not in seen and definitions(path) and not name.startswith(('Lib', 'Examples')):
-                print('not in the order:', path, file=sys.stderr)
-    document = os.path.join(ROOT, 'docs', 'DEFINITIONS.md')
-    text = '\n'.join(out).rstrip() + '\n'
-    if sys.argv[1:] == ['--check']:
-        with open(document) as file:
-            if file.read() != text:
-                print('docs/DEFINITIONS.md is not what tools/definitions.py writes')
-                return 1
-    elif not missing:
-        with open(document, 'w') as file:
-            file.write(text)
-    return 0
+                yield path
 
 
-sys.exit(main())
+def stands(path, names):
+    """Whether the file is there, and has what the pattern says."""
+    return os.path.isfile(os.path.join(CRATES, path)) and re.search(names, read('crates', path), re.M)
+
+
+def lost():
+    """What the rows of find_it.py name and what stands nowhere."""
+    headings = re.findall(r'^##+ (.*)$', read('docs', 'MANUAL.md'), re.M)
+    for _, rows in GROUPS:
+        for what, heading, means, does, test in rows:
+            if heading not in headings:
+                yield what, f'docs/MANUAL.md: {heading}'
+            for names, pattern in ((means, r'^ *(?:abbrev |unfoldable )?pub (?:record |data )?{}(?=[\s:(]|$)'), (does, r'\bfn {}\b'), ([test] if test else [], '{}')):
+                for name in names:
+                    path, name = name.split(': ', 1)
+                    if not stands(path, pattern.format(re.escape(name))):
+                        yield what, f'{path}: {name}'
+
+
+def by_file(names):
+    """Names with their files, the file once."""
+    files = {}
+    for name in names:
+        path, name = name.split(': ', 1)
+        files.setdefault(path, []).append(f'`{name}`')
+    return '; '.join(f'{", ".join(names)} in {path}' for path, names in files.items())
+
+
+def link(heading):
+    place = re.sub(r'[^\w\- ]', '', heading.lower()).replace(' ', '-')
+    return f'[{heading}](MANUAL.md#{place})'
+
+
+def find_text():
+    out = [FIND_INTRODUCTION]
+    for title, rows in GROUPS:
+        out.append(f'## {title}\n\n| What | Manual | Meaning | Code | Test |\n|---|---|---|---|---|')
+        for what, heading, means, does, test in rows:
+            path, text = test.replace('|', '\\|').split(': ', 1) if test else ('', '')
+            out.append(f'| {what} | {link(heading)} | {by_file(means)} | {by_file(does)} | ' + (f'{path}: `{text}` |' if test else 'none |'))
+        out.append('')
+    return '\n'.join(out).rstrip() + '\n'
+
+
+def main():
+    if sys.argv[1:] == ['--missing']:
+        for path, name in missing_sentences():
+            print(path, name)
+        return 0
+    for path in outside_the_order():
+        print('not in the order:', path, file=sys.stderr)
+    absent = list(lost())
+    for what, name in absent:
+        print(f'tools/find_it.py, {what}: not found, {name}')
+    if absent:
+        return 1
+    status = 0
+    for name, text in (('DEFINITIONS.md', definitions_text()), ('FIND.md', find_text())):
+        path = os.path.join(ROOT, 'docs', name)
+        if sys.argv[1:] != ['--check']:
+            with open(path, 'w') as file:
+                file.write(text)
+        elif not os.path.isfile(path) or read('docs', name) != text:
+            print(f'docs/{name} is not what tools/definitions.py writes')
+            status = 1
+    return status
+
+
+if __name__ == '__main__':
+    sys.exit(main())
