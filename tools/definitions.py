@@ -1,5 +1,5 @@
-"""Writes docs/DEFINITIONS.md: each definition with its file and its sentence, in an order in which they can be read.
-And docs/FIND.md: where each rule, refusal, command, limit, format, route and status stands.
+"""Writes docs/DEFINITIONS.md: each definition with its file and its sentence, in an order in which they can be read, and an
+index of the names. And docs/FIND.md: where each rule, refusal, command, limit, format, route and status stands.
 
 python3 tools/definitions.py            writes the documents
 python3 tools/definitions.py --missing  lists the definitions without a sentence
@@ -12,7 +12,7 @@ import re
 import sys
 
 from find_it import GROUPS, INTRODUCTION as FIND_INTRODUCTION
-from reading_order import CHAPTERS, INSIDE, INTRODUCTION, SENTENCES
+from reading_order import CHAPTERS, INDEX, INSIDE, INTRODUCTION, SENTENCES
 
 ROOT = os.path.join(os.path.dirname(os.path.abspath(__file__)), '..')
 CRATES = os.path.join(ROOT, 'crates')
@@ -67,7 +67,19 @@ def definitions_text():
                 sentence = sentence or SENTENCES.get((path, name), '')
                 out.append(f'- `{name}`: {sentence}.' if sentence else f'- `{name}`')
             out.append('')
-    return '\n'.join(out).rstrip() + '\n'
+    return '\n'.join(out + index()).rstrip() + '\n'
+
+
+def index():
+    """The names of the document from A to Z, each with its first line and its file."""
+    names = {(name, path, line) for _, _, files in CHAPTERS for path in files for name, _, line in told(path)}
+    out, letter = [f'## From A to Z\n\n{INDEX}\n'], ''
+    for name, path, line in sorted(names, key=lambda n: (n[0].upper(), n)):
+        if name[0].isascii() and name[0].upper() != letter:
+            letter = name[0].upper()
+            out += [''] * out[-1].startswith('- ') + [f'### {letter}\n']
+        out.append(f'- `{line}`, {path}')
+    return out
 
 
 def missing_sentences():

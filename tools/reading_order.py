@@ -4,12 +4,14 @@ INTRODUCTION = """# The definitions
 
 What the desk means is written in the files below, apart from the code, as functions and records that compute. Contracts
 cite them as equations: what a call answers *is* what the definition gives. They stand here in an order in which each
-uses only what came before it. A name with a question in its sentence ("whether ..") is a truth value; a `record` with a
+uses only what came before it; an index from A to Z is at the end. A name with a question in its sentence ("whether ..") is a truth value; a `record` with a
 condition in each field is a claim that has a proof where it is used.
 
 Numbers are whole numbers without bound, lists are plain lists, and an id is a number with its kind. The rows, commands,
 replies and views themselves are plain structs and enums in the `src/` of their crates; definitions see them field by field.
 """
+
+INDEX = 'Each name with the first line of its definition, and its file in `crates/`. Names that begin with a sign stand at the end.'
 
 MODEL = 'sect_model/specs/'
 
