@@ -5,7 +5,8 @@ python3 tools/definitions.py            writes the documents
 python3 tools/definitions.py --missing  lists the definitions without a sentence
 python3 tools/definitions.py --check    compares the documents with what would be written; the status is 1 where they differ
 
-Where a name of tools/find_it.py stands nowhere, it is told, the status is 1 and nothing is written.
+Where a name of tools/find_it.py stands nowhere, or a piece of code in docs/CALLING.md not in the file that it names, it is
+told, the status is 1 and nothing is written.
 """
 import os
 import re
@@ -116,6 +117,13 @@ def lost():
                         yield what, f'{path}: {name}'
 
 
+def misquoted():
+    """The files that docs/CALLING.md quotes otherwise than they are."""
+    for path, code in re.findall(r'^From `crates/([^`]*)`:\n\n```rust\n(.*?)^```', read('docs', 'CALLING.md'), re.M | re.S):
+        if not stands(path, re.escape(code)):
+            yield path
+
+
 def by_file(names):
     """Names with their files, the file once."""
     files = {}
@@ -151,7 +159,10 @@ def main():
     absent = list(lost())
     for what, name in absent:
         print(f'tools/find_it.py, {what}: not found, {name}')
-    if absent:
+    strange = list(misquoted())
+    for path in strange:
+        print('docs/CALLING.md quotes what does not stand in', path)
+    if absent or strange:
         return 1
     status = 0
     for name, text in (('DEFINITIONS.md', definitions_text()), ('FIND.md', find_text())):
