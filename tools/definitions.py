@@ -17,6 +17,7 @@ from reading_order import CHAPTERS, INDEX, INSIDE, INTRODUCTION, SENTENCES
 
 ROOT = os.path.join(os.path.dirname(os.path.abspath(__file__)), '..')
 CRATES = os.path.join(ROOT, 'crates')
+DEFINED = r'^ *(?:abbrev |unfoldable )?pub (?:record |data )?{}(?=[\s:(]|$)'
 
 
 def read(*path):
@@ -110,7 +111,8 @@ def lost():
         for what, heading, means, does, test in rows:
             if heading not in headings:
                 yield what, f'docs/MANUAL.md: {heading}'
-            for names, pattern in ((means, r'^ *(?:abbrev |unfoldable )?pub (?:record |data )?{}(?=[\s:(]|$)'), (does, r'\bfn {}\b'), ([test] if test else [], '{}')):
+            tests = [test] if test else []
+            for names, pattern in ((means, DEFINED), (does, r'\bfn {}\b'), (tests, '{}')):
                 for name in names:
                     path, name = name.split(': ', 1)
                     if not stands(path, pattern.format(re.escape(name))):
