@@ -53,7 +53,7 @@ fn main(rt: HostRuntime) -> io::Result<()> {
         }
         match &mut tables {
             Some(tables) => tables.take(rt, alloc, line)?,
-            None => script.take(rt, alloc, line)?,
+            None => script.take(rt, &rt, alloc, line)?,
         }
     }
     Ok(())
@@ -68,13 +68,20 @@ struct Script {
 
 impl Script {
     // Prints what comes of a line.
-    fn take(&mut self, rt: HostRuntime, alloc: Global, line: &str) -> io::Result<()> {
+    fn take(
+        &mut self,
+        rt: HostRuntime,
+        threads: &(impl Threads + Sync),
+        alloc: Global,
+        line: &str,
+    ) -> io::Result<()> {
         if line.starts_with('#') {
             self.machine = Machine::empty(alloc);
             return println!(rt; "{line}");
         }
         let request = self.request.as_str();
-        print_told(rt, told(&rt, alloc, &mut self.machine, request, line))?;
+        let told = told(threads, alloc, &mut self.machine, request, line);
+        print_told(rt, told)?;
         if !line.starts_with(['+', '?', '=']) {
             self.request.clear();
             self.request.push_str(line)?;
