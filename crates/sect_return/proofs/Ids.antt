@@ -103,7 +103,7 @@ module _ (before : List OfferingRow) (o : OfferingRow) (h : passed before o ≡ 
   is_known id = list_any (same_kind id) (flat_map row_ids before) || stands_twice (row_ids o) id
 
   -- an id of the row stands in no earlier row, and once in this one
-  fresh : (id : ℕ × ℕ) → Member (row_ids o) id → (list_any (same_kind id) (flat_map row_ids before) ≡ false) × (stands_twice (row_ids o) id ≡ false)
+  pub fresh : (id : ℕ × ℕ) → Member (row_ids o) id → (list_any (same_kind id) (flat_map row_ids before) ≡ false) × (stands_twice (row_ids o) id ≡ false)
   fresh id m =
       let none = none_found is_known (row_ids o) (sym (none-map (λ (x : ℕ × ℕ). x.1) (find is_known (row_ids o))) ∙ sym (none-map Known (known_id catalogue o)) ∙ none-left (option_map Known (known_id catalogue o)) _ h) id m in
       (Members.neither-left (list_any (same_kind id) (flat_map row_ids before)) (stands_twice (row_ids o) id) none, Members.neither-right (list_any (same_kind id) (flat_map row_ids before)) (stands_twice (row_ids o) id) none)

@@ -17,4 +17,9 @@ pub mod Ids
 pub mod Sorted
 pub mod StateTables
 pub mod Ascending
+pub mod Runs
+pub mod OfferingsAgain
 pub mod StudentsAgain
+pub mod RequestsAgain
+pub mod ReservationsAgain
+pub mod TablesAgain

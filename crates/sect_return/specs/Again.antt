@@ -1,5 +1,5 @@
 -- A table's commands asked again.
-use Rattle.std.specs.Prelude.{◌≡◌, ℕ, List, [], ◌∷◌, ⊤}
+use Rattle.std.specs.Prelude.{◌≡◌, ℕ, List, [], ◌∷◌, flat_map, ⊤}
 use Rattle.sect_base.specs.declared.limit.Caller.{Caller}
 use Rattle.sect_base.specs.declared.limit.Caller.TheVariants.{Registrar}
 use Rattle.sect_command.specs.declared.command.Command.{Command}
@@ -38,3 +38,21 @@ Returns w table day =
 -- so do those of the students of the state of each history whose replies are the machine's, on any day
 abbrev pub StudentsReturn : Type 0
 StudentsReturn = (entries : List (Entry Command Reply)) (day : ℕ) → IsReplay stepped empty_state entries → Returns (state_of entries).world tables.Students day
+
+-- the tables in the order in which each names only what those before it made
+abbrev pub tables_in_order : List Table
+tables_in_order = tables.Offerings ∷ tables.Students ∷ tables.Requests ∷ tables.Reservations ∷ []
+
+-- the commands of all tables of a world
+abbrev pub asks_tables : World → List Command
+asks_tables w = flat_map (λ table. asks_rows (rows_view w table)) tables_in_order
+
+-- asked of the empty state on a day, they are each amended, and lead to a world with the same rows in each table
+abbrev pub AllReturn : World → ℕ → Type 0
+AllReturn w day =
+    AllAmended empty_state day (asks_tables w)
+    × ((table : Table) → rows_view (state_behind empty_state day (asks_tables w)).world table ≡ rows_view w table)
+
+-- so it is with the tables of the state of each history whose replies are the machine's, on any day
+abbrev pub TablesReturn : Type 0
+TablesReturn = (entries : List (Entry Command Reply)) (day : ℕ) → IsReplay stepped empty_state entries → AllReturn (state_of entries).world day

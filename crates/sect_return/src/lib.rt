@@ -5,4 +5,4 @@ mod laws;
 mod states;
 
 pub use laws::a_table_reads_back;
-pub use states::{a_state_is_checked, a_state_reads_back, students_return};
+pub use states::{a_state_is_checked, a_state_reads_back, students_return, tables_return};

@@ -1,6 +1,6 @@
 // The laws of the states of histories. The functions do nothing: the contract of each is a law.
 
-ghost use Rattle.sect_return.specs.Again.{StudentsReturn};
+ghost use Rattle.sect_return.specs.Again.{StudentsReturn, TablesReturn};
 ghost use Rattle.sect_return.specs.Checked.{StatesAreChecked};
 ghost use Rattle.sect_return.specs.States.{StatesReadBack};
 
@@ -21,4 +21,11 @@ pub fn a_state_reads_back()
 /// and lead to a world with the same rows of students.
 pub fn students_return()
     ensures { StudentsReturn }
+{}
+
+/// The commands of all tables of the state of each history, first those of offerings, then of students, of requests and of
+/// reservations, asked of the empty state on any day, are each amended, and lead to a world with the same rows in each table;
+/// which sections are cancelled is no part of a table.
+pub fn tables_return()
+    ensures { TablesReturn }
 {}
