@@ -11,7 +11,6 @@ use Rattle.sect_base.specs.declared.limit.Limit.{Limit}
 use Rattle.sect_catalog.specs.Catalogue.{find_offering, sections_in}
 use Rattle.sect_catalog.specs.Limits.{capped_config, capped_course, capped_section, capped_subpart, with_limit}
 use Rattle.sect_model.proofs.CapChange.{any-map}
-use Rattle.sect_model.proofs.Members
 use Rattle.sect_model.proofs.Members.{all-at, all-of, both-left, find-left, find-map, known-test, member-filter, not_both}
 use Rattle.sect_model.proofs.PutLemmas.{all-put}
 use Rattle.sect_model.specs.Change.{expire, put_limit, put_offering}

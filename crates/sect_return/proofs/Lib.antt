@@ -16,6 +16,7 @@ pub mod Histories
 pub mod Ids
 pub mod Sorted
 pub mod StateTables
+pub mod Logs
 pub mod Ascending
 pub mod Runs
 pub mod OfferingsAgain

@@ -91,11 +91,14 @@ nothing_found test [] h = refl
 nothing_found test (x ∷ xs) h = ap (λ b. is_none (cond b (Some x) (find test xs))) (h x (inl refl)) ∙ nothing_found test xs (λ y m. h y (inr m))
 
 -- a row that passed its check behind some rows passes it behind others, where its ids are new and the sections few
-passes_behind : (before others : List OfferingRow) (o : OfferingRow) → passed before o ≡ true → ((id : ℕ × ℕ) → Member (row_ids o) id → list_any (same_kind id) (flat_map row_ids others) ≡ false)
+passes_behind : (before others : List OfferingRow) (o : OfferingRow) → passed before o ≡ true
+    → ((id : ℕ × ℕ) → Member (row_ids o) id → list_any (same_kind id) (flat_map row_ids others) ≡ false)
     → length (all_sections others) + length (sections_of o) ≤ 20000 → passed others o ≡ true
 passes_behind before others o h new few =
-    no_fault (known_id (record { rows = before; cancelled = [] }) o) (known_id (record { rows = others; cancelled = [] }) o) (length (all_sections before)) (length (all_sections others)) o
-    (none-map (λ (id : ℕ × ℕ). id.1) (find known (row_ids o)) ∙ nothing_found known (row_ids o) (λ id m. neither (list_any (same_kind id) (flat_map row_ids others)) (stands_twice (row_ids o) id) (new id m) (fresh before o h id m).1))
+    no_fault (known_id (record { rows = before; cancelled = [] }) o) (known_id (record { rows = others; cancelled = [] }) o) (length (all_sections before))
+    (length (all_sections others)) o
+    (none-map (λ (id : ℕ × ℕ). id.1) (find known (row_ids o)) ∙ nothing_found known (row_ids o)
+    (λ id m. neither (list_any (same_kind id) (flat_map row_ids others)) (stands_twice (row_ids o) id) (new id m) (fresh before o h id m).1))
     few h
   where
     known : ℕ × ℕ → Bool
@@ -120,7 +123,8 @@ apart_turned : (a b : OfferingRow) → are_apart a b ≡ true → are_apart b a 
 apart_turned a b h =
     all-of (λ id. not (list_any (same_kind id) (row_ids b))) (row_ids a) (λ id m.
     if_false (list_any (same_kind id) (row_ids b)) (Members.none-of (same_kind id) (row_ids b) (λ j k.
-    same_turned id j ∙ Members.none-at (same_kind j) (row_ids a) (not_true (list_any (same_kind j) (row_ids a)) (all-at (λ i. not (list_any (same_kind i) (row_ids a))) (row_ids b) h j k)) id m)))
+    same_turned id j ∙ Members.none-at (same_kind j) (row_ids a)
+    (not_true (list_any (same_kind j) (row_ids a)) (all-at (λ i. not (list_any (same_kind i) (row_ids a))) (row_ids b) h j k)) id m)))
 
 -- a row is apart from each of those behind which it passed
 apart_from : (before : List OfferingRow) (o : OfferingRow) → passed before o ≡ true → (a : OfferingRow) → Member before a → are_apart a o ≡ true
@@ -129,7 +133,8 @@ apart_from before o h a m =
     if_false (list_any (same_kind id) (row_ids a)) (Members.none-of (same_kind id) (row_ids a) (λ j k.
     Members.none-at (same_kind id) (flat_map row_ids before) (fresh before o h id i).0 j (Members.member-of_flat_map row_ids before a j m k))))
 
-each_apart : (before rows : List OfferingRow) → are_checked_after before rows ≡ true → (a : OfferingRow) → Member before a → list_all (are_apart a) rows ≡ true
+each_apart : (before rows : List OfferingRow) → are_checked_after before rows ≡ true → (a : OfferingRow) → Member before a
+    → list_all (are_apart a) rows ≡ true
 each_apart before [] h a m = refl
 each_apart before (o ∷ os) h a m =
     both (are_apart a o) (list_all (are_apart a) os) (apart_from before o (both-left (passed before o) (are_checked_after (before ++ o ∷ []) os) h) a m)
@@ -139,19 +144,22 @@ all_apart : (before rows : List OfferingRow) → are_checked_after before rows �
 all_apart before [] h = refl
 all_apart before (o ∷ os) h =
     let rest = both-right (passed before o) (are_checked_after (before ++ o ∷ []) os) h in
-    both (list_all (are_apart o) os) (each_two are_apart os) (each_apart (before ++ o ∷ []) os rest o (Members.member-right before (o ∷ []) o (inl refl))) (all_apart (before ++ o ∷ []) os rest)
+    both (list_all (are_apart o) os) (each_two are_apart os) (each_apart (before ++ o ∷ []) os rest o (Members.member-right before (o ∷ []) o (inl refl)))
+    (all_apart (before ++ o ∷ []) os rest)
 
 -- ---- how many sections there are
 
 -- those of the rows and of one more
-one_more : (before : List OfferingRow) (o : OfferingRow) → length (flat_map sections_of (before ++ o ∷ [])) ≡ length (all_sections before) + length (sections_of o)
+one_more : (before : List OfferingRow) (o : OfferingRow)
+    → length (flat_map sections_of (before ++ o ∷ [])) ≡ length (all_sections before) + length (sections_of o)
 one_more before o =
     ap length (flat_map-append sections_of before (o ∷ []))
     ∙ length-append (flat_map sections_of before) (flat_map sections_of (o ∷ []))
     ∙ (λ i. length (sym (row-by-row before) i) + length (append-nil (sections_of o) i))
 
 few_behind : (before : List OfferingRow) (o : OfferingRow) → passed before o ≡ true → length (all_sections before) + length (sections_of o) ≤ 20000
-few_behind before o h = not_above (length (all_sections before) + length (sections_of o)) (unfound (nat_lt 20000 (length (all_sections before) + length (sections_of o))) (length (all_sections before) + length (sections_of o)) sixth)
+few_behind before o h = not_above (length (all_sections before) + length (sections_of o))
+    (unfound (nat_lt 20000 (length (all_sections before) + length (sections_of o))) (length (all_sections before) + length (sections_of o)) sixth)
   where
     unfound : (b : Bool) (n : ℕ) → is_none (cond b (Some n) None) ≡ true → b ≡ false
     unfound true n k = absurd (not_both false k refl)
@@ -168,7 +176,8 @@ few_behind before o h = not_above (length (all_sections before) + length (sectio
         (none-right (above 10 (length o.configs ∷ [])) _
         (none-right (above 10 (length o.courses ∷ [])) _ (faultless before o h).3))))
 
-few_sections : (before rows : List OfferingRow) → are_checked_after before rows ≡ true → length (flat_map sections_of before) ≤ 20000 → length (flat_map sections_of (before ++ rows)) ≤ 20000
+few_sections : (before rows : List OfferingRow) → are_checked_after before rows ≡ true → length (flat_map sections_of before) ≤ 20000
+    → length (flat_map sections_of (before ++ rows)) ≤ 20000
 few_sections before [] h few = subst (λ rows. length (flat_map sections_of rows) ≤ 20000) (sym (append-nil before)) few
 few_sections before (o ∷ os) h few =
     subst (λ rows. length (flat_map sections_of rows) ≤ 20000) (append_assoc before (o ∷ []) os)
@@ -178,13 +187,15 @@ few_sections before (o ∷ os) h few =
 -- ---- checked rows in order
 
 -- rows that pass alone, of which no two have an id in common, are checked
-checked_again : (before rows : List OfferingRow) → list_all (passed []) rows ≡ true → each_two are_apart rows ≡ true → ((a : OfferingRow) → Member before a → list_all (are_apart a) rows ≡ true)
+checked_again : (before rows : List OfferingRow) → list_all (passed []) rows ≡ true → each_two are_apart rows ≡ true
+    → ((a : OfferingRow) → Member before a → list_all (are_apart a) rows ≡ true)
     → length (flat_map sections_of (before ++ rows)) ≤ 20000 → are_checked_after before rows ≡ true
 checked_again before [] alone two apart few = refl
 checked_again before (o ∷ os) alone two apart few =
     both (passed before o) (are_checked_after (before ++ o ∷ []) os)
     (passes_behind [] before o (both-left (passed [] o) (list_all (passed []) os) alone) new (omega (arith, few, fewer, one_more before o)))
-    (checked_again (before ++ o ∷ []) os (both-right (passed [] o) (list_all (passed []) os) alone) (both-right (list_all (are_apart o) os) (each_two are_apart os) two) (λ a m.
+    (checked_again (before ++ o ∷ []) os (both-right (passed [] o) (list_all (passed []) os) alone)
+    (both-right (list_all (are_apart o) os) (each_two are_apart os) two) (λ a m.
     ⊎_elim (λ k. both-right (are_apart a o) (list_all (are_apart a) os) (apart a k)) (λ k. last a k) (Members.member-append before (o ∷ []) a m))
     (subst (λ rows. length (flat_map sections_of rows) ≤ 20000) (sym (append_assoc before (o ∷ []) os)) few))
   where
@@ -193,11 +204,18 @@ checked_again before (o ∷ os) alone two apart few =
         Members.none-of (same_kind id) (flat_map row_ids before) (λ j k.
         let a = Members.member-flat_map row_ids before j k in
         Members.none-at (same_kind id) (row_ids a.0)
-        (not_true (list_any (same_kind id) (row_ids a.0)) (all-at (λ i. not (list_any (same_kind i) (row_ids a.0))) (row_ids o) (both-left (are_apart a.0 o) (list_all (are_apart a.0) os) (apart a.0 a.1)) id m)) j a.2)
+        (not_true (list_any (same_kind id) (row_ids a.0)) (all-at (λ i. not (list_any (same_kind i) (row_ids a.0))) (row_ids o)
+        (both-left (are_apart a.0 o) (list_all (are_apart a.0) os) (apart a.0 a.1)) id m)) j a.2)
 
     fewer : length (flat_map sections_of (before ++ o ∷ [])) ≤ length (flat_map sections_of (before ++ o ∷ os))
     fewer =
-        omega (arith, ap length (flat_map-append sections_of (before ++ o ∷ []) os), length-append (flat_map sections_of (before ++ o ∷ [])) (flat_map sections_of os), ap (λ rows. length (flat_map sections_of rows)) (append_assoc before (o ∷ []) os))
+        omega (
+          arith,
+          ap length (flat_map-append sections_of (before ++ o ∷ []) os),
+          length-append (flat_map sections_of (before ++ o ∷ []))
+              (flat_map sections_of os),
+          ap (λ rows. length (flat_map sections_of rows)) (append_assoc before (o ∷ []) os),
+        )
 
     last : (a : OfferingRow) → Member (o ∷ []) a → list_all (are_apart a) os ≡ true
     last a (inl e) = subst (λ x. list_all (are_apart x) os ≡ true) e (both-left (list_all (are_apart o) os) (each_two are_apart os) two)
@@ -216,9 +234,11 @@ sorted_checked rows h =
 
 -- ---- the commands
 
-not_refused : (before : List OfferingRow) (o : OfferingRow) (day : ℕ) → passed before o ≡ true → refusal_of (quiet (world_with day before [] [])) registrar (commands.Offering o) ≡ None
+not_refused : (before : List OfferingRow) (o : OfferingRow) (day : ℕ) → passed before o ≡ true
+    → refusal_of (quiet (world_with day before [] [])) registrar (commands.Offering o) ≡ None
 unfolding refusal_of
-not_refused before o day h = ap (λ f. option_or (option_map (λ t. Row (offering_fault t)) f) None) (none_is (fault_of (record { rows = before; cancelled = [] }) o) h)
+not_refused before o day h = ap (λ f. option_or (option_map (λ t. Row (offering_fault t)) f) None)
+    (none_is (fault_of (record { rows = before; cancelled = [] }) o) h)
 
 -- checked rows, one after another
 pub offerings_run : (rows before : List OfferingRow) (start day : ℕ) → are_checked_after before rows ≡ true
@@ -231,6 +251,7 @@ offerings_run (o ∷ os) before start day h =
         world_with (max start day) (before ++ o ∷ []) [] [],
         amends (world_with start before [] []) day (commands.Offering o) (world_with (max start day) (before ++ o ∷ []) [] [])
             (not_refused before o (max start day) (both-left (passed before o) (are_checked_after (before ++ o ∷ []) os) h)) refl,
-        subst (λ rows. Runs (world_with (max start day) (before ++ o ∷ []) [] []) day (map asks_offering os) (world_with more.0 rows [] [])) (append_assoc before (o ∷ []) os) more.1,
+        subst (λ rows. Runs (world_with (max start day) (before ++ o ∷ []) [] []) day (map asks_offering os) (world_with more.0 rows [] []))
+            (append_assoc before (o ∷ []) os) more.1,
       ),
     )

@@ -20,7 +20,11 @@ any_mapped test f (x ∷ xs) = ap (λ b. test (f x) || b) (any_mapped test f xs)
 -- where no key stands twice, neither those before an element nor those behind it have its key
 pub apart_middle : {X : Type 0} (key : X → ℕ) (xs : List X) (x : X) (ys : List X) → all_differ (map key (xs ++ x ∷ ys)) ≡ true
     → (list_any (λ y. key y == key x) xs ≡ false) × (list_any (λ y. key y == key x) ys ≡ false)
-apart_middle key [] x ys h = (refl, sym (any_mapped (λ m. m == key x) key ys) ∙ not_true (list_any (λ m. m == key x) (map key ys)) (both-left (not (list_any (λ m. m == key x) (map key ys))) (all_differ (map key ys)) h))
+apart_middle key [] x ys h = (
+  refl,
+  sym (any_mapped (λ m. m == key x) key ys)
+      ∙ not_true (list_any (λ m. m == key x) (map key ys)) (both-left (not (list_any (λ m. m == key x) (map key ys))) (all_differ (map key ys)) h),
+)
 apart_middle {X = X} key (z ∷ zs) x ys h =
     let more = apart_middle key zs x ys (both-right (not (list_any (λ m. m == key z) (map key (zs ++ x ∷ ys)))) (all_differ (map key (zs ++ x ∷ ys))) h) in
     ((λ i. other i || more.0 i), more.1)
@@ -28,7 +32,8 @@ apart_middle {X = X} key (z ∷ zs) x ys h =
     other : (key z == key x) ≡ false
     other =
         not_true (key z == key x) (eqb-other (key x) (key z) (if_false (key x == key z)
-        (none-at (λ m. m == key z) (map key (zs ++ x ∷ ys)) (not_true (list_any (λ m. m == key z) (map key (zs ++ x ∷ ys))) (both-left (not (list_any (λ m. m == key z) (map key (zs ++ x ∷ ys)))) (all_differ (map key (zs ++ x ∷ ys))) h))
+        (none-at (λ m. m == key z) (map key (zs ++ x ∷ ys)) (not_true (list_any (λ m. m == key z) (map key (zs ++ x ∷ ys)))
+        (both-left (not (list_any (λ m. m == key z) (map key (zs ++ x ∷ ys)))) (all_differ (map key (zs ++ x ∷ ys))) h))
         (key x) (member-of_map key (zs ++ x ∷ ys) x (member-right zs (x ∷ ys) x (inl refl))))))
 
 -- each two elements pass the test
@@ -69,9 +74,12 @@ module _ {X : Type 0} (key : X → ℕ) where
   any_sorted test id [] = refl
   any_sorted test id (x ∷ xs) = any_insert test id x (sorted_by key xs) ∙ ap (λ b. test (id x) || b) (any_sorted test id xs)
 
-  differ_insert : (id : X → ℕ) (x : X) (xs : List X) → not (list_any (λ m. m == id x) (map id xs)) ≡ true → all_differ (map id xs) ≡ true → all_differ (map id (insert_by key x xs)) ≡ true
+  differ_insert : (id : X → ℕ) (x : X) (xs : List X) → not (list_any (λ m. m == id x) (map id xs)) ≡ true → all_differ (map id xs) ≡ true
+      → all_differ (map id (insert_by key x xs)) ≡ true
   differ_insert id x [] new differ = refl
-  differ_insert id x (y ∷ ys) new differ = by (nat_le (key x) (key y)) (differ_insert id x ys (apart (id y == id x) (list_any (λ m. m == id x) (map id ys)) new).1 (both-right (not (list_any (λ m. m == id y) (map id ys))) _ differ))
+  differ_insert id x (y ∷ ys) new differ = by (nat_le (key x) (key y))
+      (differ_insert id x ys (apart (id y == id x) (list_any (λ m. m == id x) (map id ys)) new).1
+      (both-right (not (list_any (λ m. m == id y) (map id ys))) _ differ))
     where
       apart : (a b : Bool) → not (a || b) ≡ true → (not a ≡ true) × (not b ≡ true)
       apart true b h = absurd (cc)
@@ -86,7 +94,9 @@ module _ {X : Type 0} (key : X → ℕ) where
       by false more =
           both (not (list_any (λ m. m == id y) (map id (insert_by key x ys)))) (all_differ (map id (insert_by key x ys)))
           (ap not (any_insert (λ m. m == id y) id x ys)
-          ∙ none (id x == id y) (list_any (λ m. m == id y) (map id ys)) (eqb-other (id y) (id x) (apart (id y == id x) (list_any (λ m. m == id x) (map id ys)) new).0) (both-left (not (list_any (λ m. m == id y) (map id ys))) _ differ))
+          ∙ none (id x == id y) (list_any (λ m. m == id y) (map id ys))
+          (eqb-other (id y) (id x) (apart (id y == id x) (list_any (λ m. m == id x) (map id ys)) new).0)
+          (both-left (not (list_any (λ m. m == id y) (map id ys))) _ differ))
           more
 
   -- that no number stands twice
@@ -135,7 +145,8 @@ module _ {X : Type 0} (key : X → ℕ) where
   counted test [] = refl
   counted test (x ∷ xs) = by (test x) (counted test xs) ∙ sym (sum_by-cons (λ y. cond (test y) 1 0) x xs)
     where
-      by : (b : Bool) → length (filter test xs) ≡ sum_by (λ y. cond (test y) 1 0) xs → length (cond b (x ∷ filter test xs) (filter test xs)) ≡ cond b 1 0 + sum_by (λ y. cond (test y) 1 0) xs
+      by : (b : Bool) → length (filter test xs) ≡ sum_by (λ y. cond (test y) 1 0) xs
+          → length (cond b (x ∷ filter test xs) (filter test xs)) ≡ cond b 1 0 + sum_by (λ y. cond (test y) 1 0) xs
       by true more = omega (arith, more)
       by false more = omega (arith, more)
 
@@ -145,20 +156,24 @@ module _ {X : Type 0} (key : X → ℕ) where
 
   -- ---- what holds of each two
 
-  two_insert : (test : X → X → Bool) → ((x y : X) → test x y ≡ true → test y x ≡ true) → (x : X) (xs : List X) → list_all (test x) xs ≡ true → each_two test xs ≡ true → each_two test (insert_by key x xs) ≡ true
+  two_insert : (test : X → X → Bool) → ((x y : X) → test x y ≡ true → test y x ≡ true) → (x : X) (xs : List X) → list_all (test x) xs ≡ true
+      → each_two test xs ≡ true → each_two test (insert_by key x xs) ≡ true
   two_insert test turn x [] one all = refl
   two_insert test turn x (y ∷ ys) one all =
-      by (nat_le (key x) (key y)) (two_insert test turn x ys (both-right (test x y) (list_all (test x) ys) one) (both-right (list_all (test y) ys) (each_two test ys) all))
+      by (nat_le (key x) (key y)) (two_insert test turn x ys (both-right (test x y) (list_all (test x) ys) one)
+      (both-right (list_all (test y) ys) (each_two test ys) all))
     where
       by : (b : Bool) → each_two test (insert_by key x ys) ≡ true → each_two test (cond b (x ∷ y ∷ ys) (y ∷ insert_by key x ys)) ≡ true
       by true more = both (list_all (test x) (y ∷ ys)) (each_two test (y ∷ ys)) one all
       by false more =
           both (list_all (test y) (insert_by key x ys)) (each_two test (insert_by key x ys))
           (all-insert key (test y) x ys
-          ∙ both (test y x) (list_all (test y) ys) (turn x y (both-left (test x y) (list_all (test x) ys) one)) (both-left (list_all (test y) ys) (each_two test ys) all)) more
+          ∙ both (test y x) (list_all (test y) ys) (turn x y (both-left (test x y) (list_all (test x) ys) one))
+          (both-left (list_all (test y) ys) (each_two test ys) all)) more
 
   -- a test of each two that may be turned
-  pub two_sorted : (test : X → X → Bool) → ((x y : X) → test x y ≡ true → test y x ≡ true) → (xs : List X) → each_two test xs ≡ true → each_two test (sorted_by key xs) ≡ true
+  pub two_sorted : (test : X → X → Bool) → ((x y : X) → test x y ≡ true → test y x ≡ true) → (xs : List X) → each_two test xs ≡ true
+      → each_two test (sorted_by key xs) ≡ true
   two_sorted test turn [] all = refl
   two_sorted test turn (x ∷ xs) all =
       two_insert test turn x (sorted_by key xs) (all-sorted key (test x) xs ∙ both-left (list_all (test x) xs) (each_two test xs) all)
@@ -181,7 +196,8 @@ module _ {X : Type 0} (key : X → ℕ) where
   insert_swap x y [] other = chosen (nat_le (key x) (key y)) (nat_le (key y) (key x)) (one_way (key x) (key y) other) (x ∷ y ∷ []) (y ∷ x ∷ [])
   insert_swap x y (z ∷ zs) other = by (nat_le (key x) (key z)) (nat_le (key y) (key z)) refl refl (insert_swap x y zs other)
     where
-      by : (p q : Bool) → nat_le (key x) (key z) ≡ p → nat_le (key y) (key z) ≡ q → insert_by key x (insert_by key y zs) ≡ insert_by key y (insert_by key x zs)
+      by : (p q : Bool) → nat_le (key x) (key z) ≡ p → nat_le (key y) (key z) ≡ q
+          → insert_by key x (insert_by key y zs) ≡ insert_by key y (insert_by key x zs)
           → insert_by key x (cond q (y ∷ z ∷ zs) (z ∷ insert_by key y zs)) ≡ insert_by key y (cond p (x ∷ z ∷ zs) (z ∷ insert_by key x zs))
       by true true a b more =
           (λ i. cond (nat_le (key x) (key y)) (x ∷ y ∷ z ∷ zs) (y ∷ cond (a i) (x ∷ z ∷ zs) (z ∷ insert_by key x zs)))
@@ -199,7 +215,8 @@ module _ {X : Type 0} (key : X → ℕ) where
           ∙ sym (λ i. cond (b i) (y ∷ z ∷ insert_by key x zs) (z ∷ insert_by key y (insert_by key x zs)))
 
   -- an element with a new key, wherever it was put
-  pub put_sorted : (by : X → ℕ) (x : X) (xs : List X) → list_any (λ y. key y == key x) xs ≡ false → sorted_by key (put_behind by x xs) ≡ insert_by key x (sorted_by key xs)
+  pub put_sorted : (by : X → ℕ) (x : X) (xs : List X) → list_any (λ y. key y == key x) xs ≡ false
+      → sorted_by key (put_behind by x xs) ≡ insert_by key x (sorted_by key xs)
   put_sorted by x [] new = refl
   put_sorted by x (y ∷ ys) new = at (nat_le (by y) (by x)) (put_sorted by x ys (neither-right (key y == key x) (list_any (λ z. key z == key x) ys) new))
     where

@@ -19,7 +19,6 @@ use Rattle.sect_model.specs.Change.{expire, place_of, put_day, reservation_from}
 use Rattle.sect_model.specs.Data.{OfferingRow, Reservation, ReservationId, SectionId, Student, StudentRow, SubpartRow}
 use Rattle.sect_model.specs.Fits.{changed}
 use Rattle.sect_model.specs.Kept.{KeptState}
-use Rattle.sect_model.specs.Step.{step}
 use Rattle.sect_model.specs.World.{State, World, empty_state}
 use Rattle.sect_model.specs.declared.change.Change.{Change}
 use Rattle.sect_model.specs.declared.change.Change.TheVariants.{Offering, Student as new_student, Requests, Reserve, Unreserve, Expiry, Restrict, Unrestrict, Cap as new_cap, Cancelled, Day, Enrol, Leave}

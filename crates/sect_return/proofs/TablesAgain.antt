@@ -57,15 +57,19 @@ module _ (w : World) (k : KeptWorld w) (checked : Checked w) (day : ℕ) where
   offerings : (last : ℕ) × Runs (world_with 0 [] [] []) day (map asks_offering rows) (world_with last rows [] [])
   offerings = offerings_run rows [] 0 day rows_checked
 
-  with_students : (start : ℕ) → (last : ℕ) × Runs (world_with start rows [] []) day (map asks_student (map (λ s. s.row) students)) (world_with last rows (map fresh (map (λ s. s.row) students)) [])
+  with_students : (start : ℕ)
+      → (last : ℕ) × Runs (world_with start rows [] []) day (map asks_student (map (λ s. s.row) students))
+      (world_with last rows (map fresh (map (λ s. s.row) students)) [])
   with_students start = rows_run w rows start day checked.few k.students_differ (leb-true (length w.students) 50000 k.few_students)
 
   with_requests : (start : ℕ) → (last : ℕ)
-      × Runs (world_with start rows (map fresh (map (λ s. s.row) students)) []) day (flat_map asks_view (map (λ s. record { student = s.row.id; asks = s.asks }) students)) (world_with last rows students [])
+      × Runs (world_with start rows (map fresh (map (λ s. s.row) students)) []) day
+      (flat_map asks_view (map (λ s. record { student = s.row.id; asks = s.asks }) students)) (world_with last rows students [])
   with_requests start =
       requests_run rows students [] start day
       (all-sorted student_id (λ s. is_none (fault_of s.asks (map (λ c. c.id) (all_courses rows)))) w.students
-      ∙ all-of (λ s. is_none (fault_of s.asks (map (λ c. c.id) (all_courses rows)))) w.students (λ s m. sorted_fault w.catalogue.rows s.asks ∙ all-at (asks_pass w) w.students k.asks_pass s m))
+      ∙ all-of (λ s. is_none (fault_of s.asks (map (λ c. c.id) (all_courses rows)))) w.students
+      (λ s m. sorted_fault w.catalogue.rows s.asks ∙ all-at (asks_pass w) w.students k.asks_pass s m))
       (differ_sorted student_id student_id w.students k.students_differ)
 
   with_reservations : (start : ℕ) → (last : ℕ) × (all : List Reservation) × (sorted_by reservation_id all ≡ sorted_by reservation_id reservations)
@@ -77,20 +81,26 @@ module _ (w : World) (k : KeptWorld w) (checked : Checked w) (day : ℕ) where
       ap (λ n. nat_le n 50) (count_sorted reservation_id (λ x. x.offering.0 == r.offering.0) w.reservations)
       ∙ all-at (λ r. nat_le (length (reservations_of w r.offering)) 50) w.reservations k.few_reservations r m))
       (all-sorted reservation_id (row_passes (world_with 0 rows [] [])) w.reservations
-      ∙ all-of (row_passes (world_with 0 rows [] [])) w.reservations (λ r m. found_sorted w.catalogue.rows ids_differ (is_faultless r) r.offering (all-at (row_passes w) w.reservations checked.rows_pass r m)))
+      ∙ all-of (row_passes (world_with 0 rows [] [])) w.reservations
+      (λ r m. found_sorted w.catalogue.rows ids_differ (is_faultless r) r.offering (all-at (row_passes w) w.reservations checked.rows_pass r m)))
       (all-sorted reservation_id (λ r. includes_fit (world_with 0 rows [] []) r.offering r.includes) w.reservations
       ∙ all-of (λ r. includes_fit (world_with 0 rows [] []) r.offering r.includes) w.reservations (λ r m.
-      found_sorted w.catalogue.rows ids_differ (lists_own r.includes) r.offering (all-at (λ r. includes_fit w r.offering r.includes) w.reservations k.reservations_fit r m)))
+      found_sorted w.catalogue.rows ids_differ (lists_own r.includes) r.offering
+      (all-at (λ r. includes_fit w r.offering r.includes) w.reservations k.reservations_fit r m)))
       reservations [] [] start day refl refl
     where
       ids_differ : all_differ (map (λ o. o.id.0) w.catalogue.rows) ≡ true
       ids_differ = checked_differ w.catalogue.rows k.rows_pass
 
-  same_rows : (day : ℕ) (all : List Reservation) → sorted_by reservation_id all ≡ sorted_by reservation_id reservations → (table : Table) → rows_view (world_with day rows students all) table ≡ rows_view w table
+  same_rows : (day : ℕ) (all : List Reservation) → sorted_by reservation_id all ≡ sorted_by reservation_id reservations → (table : Table)
+      → rows_view (world_with day rows students all) table ≡ rows_view w table
   same_rows day all same tables.Offerings = ap Offerings (sorted_stays offering_id rows (ascends_sorted offering_id w.catalogue.rows))
-  same_rows day all same tables.Students = ap (λ ss. Students (map (λ (s : Student). s.row) ss)) (sorted_stays student_id students (ascends_sorted student_id w.students))
-  same_rows day all same tables.Requests = ap (λ ss. Requests (map (λ (s : Student). record { student = s.row.id; asks = s.asks }) ss)) (sorted_stays student_id students (ascends_sorted student_id w.students))
-  same_rows day all same tables.Reservations = ap Reservations (same ∙ sorted_stays reservation_id reservations (ascends_sorted reservation_id w.reservations))
+  same_rows day all same tables.Students = ap (λ ss. Students (map (λ (s : Student). s.row) ss))
+      (sorted_stays student_id students (ascends_sorted student_id w.students))
+  same_rows day all same tables.Requests = ap (λ ss. Requests (map (λ (s : Student). record { student = s.row.id; asks = s.asks }) ss))
+      (sorted_stays student_id students (ascends_sorted student_id w.students))
+  same_rows day all same tables.Reservations = ap Reservations
+      (same ∙ sorted_stays reservation_id reservations (ascends_sorted reservation_id w.reservations))
 
   all_return : AllReturn w day
   all_return =
@@ -100,9 +110,11 @@ module _ (w : World) (k : KeptWorld w) (checked : Checked w) (day : ℕ) where
       let d = with_reservations c.0 in
       let last = world_with d.0 rows students d.1 in
       let third = runs_append (map asks_reservation reservations) [] (world_with c.0 rows students []) last last day d.3 refl in
-      let second = runs_append (flat_map asks_view (map (λ (s : Student). record { student = s.row.id; asks = s.asks }) students)) (map asks_reservation reservations ++ [])
+      let second = runs_append (flat_map asks_view (map (λ (s : Student). record { student = s.row.id; asks = s.asks }) students))
+      (map asks_reservation reservations ++ [])
       (world_with b.0 rows (map fresh (map (λ (s : Student). s.row) students)) []) (world_with c.0 rows students []) last day c.1 third in
-      let first = runs_append (map asks_student (map (λ (s : Student). s.row) students)) _ (world_with a.0 rows [] []) (world_with b.0 rows (map fresh (map (λ (s : Student). s.row) students)) []) last day b.1 second in
+      let first = runs_append (map asks_student (map (λ (s : Student). s.row) students)) _ (world_with a.0 rows [] [])
+      (world_with b.0 rows (map fresh (map (λ (s : Student). s.row) students)) []) last day b.1 second in
       let run = runs_append (map asks_offering rows) _ (world_with 0 [] [] []) (world_with a.0 rows [] []) last day a.1 first in
       let given = runs_give (asks_tables w) (world_with 0 [] [] []) last day run in
       (given.0, λ table. ap (λ v. rows_view v table) given.1 ∙ same_rows d.0 d.1 d.2 table)

@@ -27,9 +27,13 @@ commands_in given = map (λ g. g.command) given
 abbrev pub Gives : Step → List Command → Type 0
 Gives step commands = (commands_in step.1 ≡ commands) × (step.0.fault ≡ None)
 
--- the whole text of a table is read as these commands, with a term and without one
+-- the whole text is read as these commands, with a term and without one
+abbrev pub IsReadAs : Table → List ℕ → List Command → Type 0
+IsReadAs table text commands = (term : Option ℕ) → Gives (read_so_far table term text true) commands
+
+-- so is the text of a table
 abbrev pub ReadsAs : Table → View → List Command → Type 0
-ReadsAs table view commands = (term : Option ℕ) → Gives (read_so_far table term (table_text table view) true) commands
+ReadsAs table view commands = IsReadAs table (table_text table view) commands
 
 -- the requests of a view have texts
 abbrev pub FitsAsks : AsksView → Type 0

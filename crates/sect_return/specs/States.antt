@@ -1,5 +1,6 @@
 -- The tables of a history's state.
-use Rattle.std.specs.Prelude.{◌≤◌, ◌^◌, List, [], length, map, flat_map}
+use Rattle.std.specs.Prelude.{ℕ, ◌≤◌, ◌^◌, List, [], length, map, flat_map}
+use Rattle.std.specs.List.{AllZip}
 use Rattle.sect_command.specs.declared.command.Command.{Command}
 use Rattle.sect_command.specs.declared.reply.Reply.{Reply}
 use Rattle.sect_command.specs.declared.view.Query.TheVariants.{Rows}
@@ -9,9 +10,11 @@ use Rattle.sect_command.specs.declared.view.View.TheVariants.{Offerings, Request
 use Rattle.sect_history.specs.Step.{state_of, stepped}
 use Rattle.sect_model.specs.Look.{look}
 use Rattle.sect_model.specs.World.{empty_state}
-use Rattle.sect_once.specs.History.{IsReplay}
+use Rattle.sect_once.specs.History.{IsReplay, NeverFull, history}
 use Rattle.sect_once.specs.declared.entry.Entry.{Entry}
+use Rattle.sect_once.specs.declared.entry.Note.{Note}
 use Rattle.sect_read.specs.Fits.{FitsList}
+use Rattle.sect_read.specs.Laws.{IsRow}
 use Rattle.sect_rows.specs.Laws.{HasCommand}
 use Rattle.sect_return.specs.Asked.{asks_offering, asks_reservation, asks_student, asks_view}
 use Rattle.sect_return.specs.Back.{ReadsAs}
@@ -29,3 +32,9 @@ abbrev pub StatesReadBack : Type 0
 StatesReadBack =
     (entries : List (Entry Command Reply)) (table : Table) → IsReplay stepped empty_state entries → FitsList HasCommand entries → length entries ≤ 2 ^ 20
     → ReadsAs table (look (state_of entries) (Rows table)) (asks_rows (look (state_of entries) (Rows table)))
+
+-- so it is with the history of a log that was never full, whose entries have these rows
+abbrev pub LogsReadBack : Type 0
+LogsReadBack =
+    (log : List (Note Command Reply)) (rows : List (List ℕ)) (table : Table) → IsReplay stepped empty_state (history log) → NeverFull IsRow log → AllZip IsRow (history log) rows
+    → ReadsAs table (look (state_of (history log)) (Rows table)) (asks_rows (look (state_of (history log)) (Rows table)))
