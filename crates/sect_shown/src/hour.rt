@@ -1,0 +1,12 @@
+// A time at which a student is taught.
+
+use sect_base::{CourseId, SectionId};
+use sect_time::Meeting;
+
+/// A meeting of a section that a student attends, with the course by which it is held.
+#[derive(Clone, Copy, PartialEq, Eq, Debug)]
+pub struct Hour {
+    pub course: CourseId,
+    pub section: SectionId,
+    pub meeting: Meeting,
+}
