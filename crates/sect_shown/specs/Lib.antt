@@ -1,3 +1,4 @@
 pub mod Demand
 pub mod Hours
+pub mod Shown
 pub mod Week

@@ -1,8 +1,9 @@
 // What is wanted of each course.
 
-ghost use Rattle.std.specs.Prelude.{◌≡◌, ◌==◌, ◌++◌, OnOk, OnErr, filter, length};
+ghost use Rattle.std.specs.Prelude.{◌≡◌, ◌==◌, ◌++◌, OnOk, OnErr, filter, flat_map, length, take};
 ghost use Rattle.std.specs.List.{list_any};
 ghost use Rattle.sect_people.specs.Fault.{lists_course};
+ghost use Rattle.sect_report.specs.Report.{listed_text};
 ghost use Rattle.sect_shown.specs.Demand.{asks_for, demand_line, waits_for};
 
 use sect_base::{CourseId, Memory};
@@ -10,9 +11,42 @@ use sect_command::{AsksView, OpenCourse, WaitView};
 use sect_people::Ask;
 use sect_report::{Word, print_line};
 
-/// Appends the line of a course: how many of the students ask for it, how many hold it, how many of the entries wait for it, and
-/// its limit. After `Memory` the bytes are as before.
-pub fn print_demand(
+/// Appends the lines of the courses, or one that says that there are none. After `Memory` a part of them may stand at the end.
+pub fn print_courses(
+    asks: &[AsksView],
+    entries: &[WaitView],
+    courses: &[OpenCourse],
+    into: &mut Vec<u8>,
+) -> Result<(), Memory>
+    ensures text { OnOk result (into.new.items ≡ into.old.items ++ listed_text (demand_line asks.now entries.now) courses.now) }
+    ensures front { take (length into.old.items) into.new.items ≡ into.old.items }
+{
+    if courses.is_empty() {
+        print_line(&[Word::Name("none")], into)
+    } else {
+        print_each(asks, entries, courses, into)
+    }
+}
+
+// Appends the lines of the courses.
+fn print_each(
+    asks: &[AsksView],
+    entries: &[WaitView],
+    courses: &[OpenCourse],
+    into: &mut Vec<u8>,
+) -> Result<(), Memory>
+    ensures text { OnOk result (into.new.items ≡ into.old.items ++ flat_map (demand_line asks.now entries.now) courses.now) }
+    ensures front { take (length into.old.items) into.new.items ≡ into.old.items }
+{
+    for course in courses {
+        print_course(asks, entries, *course, into)?;
+    }
+    Ok(())
+}
+
+// Appends the line of a course: how many of the students ask for it, how many hold it, how many of the entries wait for it, and
+// its limit. After `Memory` the bytes are as before.
+fn print_course(
     asks: &[AsksView],
     entries: &[WaitView],
     course: OpenCourse,

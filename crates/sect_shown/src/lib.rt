@@ -1,11 +1,13 @@
-// What a clerk is shown: what is wanted of each course, and the week of a student.
+// What a clerk is shown of a history: what is wanted of each course, and the week of a student.
 #![tactic(auto)]
 
+mod courses;
 mod demand;
 mod hour;
 mod hours;
+mod rank;
+mod shown;
 mod week;
 
-pub use demand::print_demand;
 pub use hour::Hour;
-pub use week::print_timetable;
+pub use shown::{print_demand, print_timetable};

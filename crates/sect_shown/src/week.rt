@@ -20,7 +20,7 @@ const WEEK_SLOTS: u16 = 2016;
 
 /// Appends the week of a student who holds these choices of the offerings: a line for each time, day by day in order of
 /// time, with the weeks, the course and the section. After `Memory` a part of it may stand at the end.
-pub fn print_timetable(
+pub fn print_week(
     alloc: Global,
     rows: &[OfferingRow],
     student: StudentId,
