@@ -1,2 +1,4 @@
+pub mod Examples
 pub mod Explained
 pub mod Reason
+pub mod Replied
