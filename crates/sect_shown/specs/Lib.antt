@@ -1,4 +1,5 @@
 pub mod Demand
+pub mod Examples
 pub mod Hours
 pub mod Shown
 pub mod Week

@@ -3,6 +3,7 @@
 
 mod courses;
 mod demand;
+pub mod examples;
 mod hour;
 mod hours;
 mod rank;

@@ -1,5 +1,5 @@
 -- the hours of those so far, behind the others
-use Rattle.std.proofs.Common.{◌≡◌, ◌++◌, take, flat_map}
+use Rattle.std.proofs.Common.{◌≡◌, take, flat_map}
 use Rattle.sect_shown.specs.Hours.{offering_hours}
 use Rattle.sect_shown.proofs.hours.hours_of.Given as goal
 
