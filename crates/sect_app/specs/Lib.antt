@@ -1,3 +1,4 @@
+pub mod Returns
 pub mod Machine
 pub mod Serving
 pub mod Status

@@ -11,11 +11,12 @@ use Rattle.sect_usage.specs.declared.words.Words.TheVariants as asked
 use Rattle.sect_usage.specs.Help.{help_text, version_text}
 use Rattle.sect_tell.specs.Audit.{Audits}
 use Rattle.sect_tell.specs.Told.{TellsHistory}
-use Rattle.sect_tell.specs.Views.{IsExport, IsPlan, IsReport, IsSurvey}
+use Rattle.sect_tell.specs.Views.{IsPlan, IsReport, IsSurvey}
 use Rattle.sect_asking.specs.Desk.{RunsLines, StaysShut}
 use Rattle.sect_intake.specs.Machine.{Imports}
 use Rattle.sect_script.specs.Statuses.{Says}
 use Rattle.sect_making.specs.Made.{Makes}
+use Rattle.sect_app.specs.Returns.{ComesBack}
 
 module _ {K : Type 0} (rows : K → Option (List (List ℕ))) (faults : K → ℕ) where
   -- the lines were asked of the machine's history, which is good throughout
@@ -38,7 +39,7 @@ module _ {K : Type 0} (rows : K → Option (List (List ℕ))) (faults : K → �
   DeskDoes (asked.Report query) keeper back left left' taken taken' days status =
       TellsHistory rows faults (IsReport query) keeper back taken taken' status ⊎ DeskStaysShut keeper back left left' taken taken' status
   DeskDoes (asked.Export table) keeper back left left' taken taken' days status =
-      TellsHistory rows faults (IsExport table) keeper back taken taken' status ⊎ DeskStaysShut keeper back left left' taken taken' status
+      TellsHistory rows faults (ComesBack table) keeper back taken taken' status ⊎ DeskStaysShut keeper back left left' taken taken' status
   DeskDoes (asked.Plan student budget) keeper back left left' taken taken' days status =
       TellsHistory rows faults (IsPlan student budget) keeper back taken taken' status ⊎ DeskStaysShut keeper back left left' taken taken' status
   DeskDoes asked.Survey keeper back left left' taken taken' days status =

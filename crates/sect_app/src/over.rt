@@ -1,21 +1,29 @@
 // What is done for the words.
-ghost use Rattle.std.specs.Prelude.{◌≡◌, ◌≢◌, ◌<◌, ◌≤◌, ℕ, true, false, None, length};
+ghost use Rattle.std.specs.Prelude.{◌≡◌, ◌≢◌, ◌⊎◌, ◌<◌, ◌≤◌, ℕ, true, false, List, None, Option, length};
 ghost use Rattle.std.specs.Io.KnownBytes.{IsAtEnd};
 ghost use Rattle.sect_edge.specs.Causes.{Rose};
+ghost use Rattle.sect_history.specs.Step.{stepped};
+ghost use Rattle.sect_model.specs.World.{empty_state};
+ghost use Rattle.sect_wire.specs.Laws.{IsRow};
 ghost use Rattle.sect_script.specs.declared.status.Status.{Status};
 ghost use Rattle.sect_usage.specs.declared.words.Words.{Words};
 ghost use Rattle.sect_script.specs.Statuses.{Says};
+ghost use Rattle.sect_asking.specs.Desk.{StaysShut};
+ghost use Rattle.sect_tell.specs.Told.{TellsHistory};
+ghost use Rattle.sect_app.specs.Returns.{ComesBack};
 ghost use Rattle.sect_app.specs.Top.{first_days, reads as reads_source, sessions_in};
 ghost use Rattle.sect_app.specs.Machine.{DeskDoes};
 ghost use Rattle.sect_making.specs.Made.{Makes};
 ghost use Rattle.sect_usage.specs.Laws.{IsInRange};
 
 use sect_asking::run;
+use sect_command::Table;
 use sect_edge::{Clock, Failed, Keeper, Sink, Source};
 use sect_history::laws::replays_are_good;
 use sect_intake::import_table;
 use sect_machine::Machine;
 use sect_making::make;
+use sect_return::{a_state_reads_back, tables_return};
 use sect_script::{Status, write_all};
 use sect_tell::{Export, Plan, Report, Survey, audit, tell};
 use sect_usage::{Words, help_of, version};
@@ -53,13 +61,34 @@ pub(crate) fn do_asked<R: Threads + Sync, S: Source, T: Sink, K: Keeper, C: Cloc
         Words::Serve { .. } => unreachable!(),
         Words::Audit => audit(rt, alloc, sink, keeper),
         Words::Report(query) => tell(rt, alloc, sink, keeper, &Report(query)),
-        Words::Export(table) => tell(rt, alloc, sink, keeper, &Export(table)),
+        Words::Export(table) => export_table(rt, alloc, table, sink, keeper),
         Words::Plan { student, budget } => tell(rt, alloc, sink, keeper, &Plan { student, budget }),
         Words::Survey => tell(rt, alloc, sink, keeper, &Survey),
         Words::Make(offerings) => (make_on(alloc, offerings, sink, clock), keeper),
         Words::Help(topic) => (say(help_of(topic), sink), keeper),
         Words::Version => (say(version(), sink), keeper),
     }
+}
+
+// Writes the rows of a table of the keeper's history.
+fn export_table<R: Threads + Sync, T: Sink, K: Keeper>(
+    rt: &R,
+    alloc: Global,
+    table: Table,
+    sink: &mut T,
+    keeper: K,
+) -> (Status, K)
+    ensures exports { (left : Option (List ℕ)) → TellsHistory K.rows K.faults (ComesBack table) keeper result.1 (T.taken sink.old) (T.taken sink.new) result.0
+        ⊎ StaysShut empty_state stepped IsRow K.rows K.faults keeper result.1 left left (T.taken sink.old) (T.taken sink.new) result.0 }
+    ensures shut { result.0 ≡ Status.KeeperFault → sink.new ≡ sink.old }
+    ensures bad_entry { (row : ℕ) → result.0 ≡ Status.BadEntry row → sink.new ≡ sink.old }
+    ensures write_fault { result.0 ≡ Status.WriteFault → Rose (T.faults sink.old) (T.faults sink.new) }
+    ensures keeper_fault { result.0 ≡ Status.KeeperFault → Rose (K.faults keeper) (K.faults result.1) }
+    ensures others { result.0 ≢ Status.BadWords × (result.0 ≢ Status.LinkFault) × (result.0 ≢ Status.ReadFault) }
+{
+    a_state_reads_back();
+    tables_return();
+    tell(rt, alloc, sink, keeper, &Export(table))
 }
 
 // Makes the offerings on the clock's day, and writes the summary.
