@@ -233,7 +233,7 @@ CHAPTERS = [
      ['sect_serve/specs/' + n + '.antt' for n in ('Talks', 'Working', 'Serving')] + ['sect_places/specs/Printed.antt']),
     ('What the desk does',
      'What is done for the words of the command line.',
-     ['sect_app/specs/' + n + '.antt' for n in ('Top', 'Machine', 'Serving', 'Status')]),
+     ['sect_app/specs/' + n + '.antt' for n in ('Top', 'Returns', 'Machine', 'Serving', 'Status')]),
     ('The journal',
      'What a crash may leave of a disk, the text of a journal and its rows.',
      ['sect_journal/specs/' + n + '.antt' for n in ('Disk', 'Text', 'Standing', 'Opening', 'Runs')]),
