@@ -1,0 +1,52 @@
+-- What is said of a line that is no request.
+use Rattle.std.specs.Prelude.{◌≡◌, ◌↔◌, ℕ, ◌+◌, ◌-◌, ◌==◌, ◌||◌, nat_lt, Bool, true, false, List, [], ◌∷◌, ◌++◌, length, map, if◌then◌else◌, codes, decimal, take}
+use Rattle.std.specs.List.{list_any}
+use Rattle.std.specs.Str.{bytes_eq}
+use Rattle.sect_read.specs.declared.line.LineAsk.{LineAsk}
+use Rattle.sect_read.specs.Lines.{IsLine}
+use Rattle.sect_words.specs.Parts.{pieces}
+use Rattle.sect_words.specs.ReadingWords.{is_nothing}
+use Rattle.sect_check.specs.declared.form.Form.{Form}
+use Rattle.sect_check.specs.Expected.{form_text}
+use Rattle.sect_check.specs.Walks.{Walk, passed, stopped, line_walk}
+
+-- a byte as it is shown: `?` stands for one that a terminal would act on
+abbrev pub shown : ℕ → ℕ
+shown byte = if nat_lt byte 32 || byte == 127 then 63 else byte
+
+-- the byte stands in the word
+abbrev pub has : ℕ → List ℕ → Bool
+has byte word = list_any (λ b. b == byte) word
+
+-- the word begins with a byte order mark
+abbrev pub is_marked : List ℕ → Bool
+is_marked word = bytes_eq (take 3 word) (239 ∷ (187 ∷ (191 ∷ [])))
+
+-- what a reader may not see in a word
+unfoldable pub remark_of : List ℕ → List ℕ
+remark_of word =
+    if is_nothing word then codes "; there are two spaces, or one at an end of the line" else
+    (if is_marked word then codes "; it begins with a byte order mark" else
+    (if has 9 word then codes "; it has a tab" else
+    (if has 13 word then codes "; it has a carriage return" else [])))
+
+-- what is said of the line with this number and so many words, where these words are left from the first that has not this form
+abbrev pub stop_text : ℕ → ℕ → List (List ℕ) → Form → List ℕ
+stop_text line all [] form =
+    codes "line " ++ (decimal line ++ (codes " word " ++ (decimal (all + 1) ++ (codes " is missing: expected " ++ (form_text form ++ codes "\n")))))
+stop_text line all (word ∷ words) form =
+    codes "line " ++ (decimal line ++ (codes " word " ++ (decimal (all - length words) ++ (codes " \"" ++ (map shown word ++ (codes "\": expected "
+    ++ (form_text form ++ (remark_of word ++ codes "\n"))))))))
+
+-- the same of a walk over its words
+abbrev pub walk_text : ℕ → ℕ → Walk → List ℕ
+walk_text line all (passed words) = []
+walk_text line all (stopped words form) = stop_text line all words form
+
+-- what is said of the line with this number, where its words aren't those of a request
+abbrev pub complaint_of : ℕ → List ℕ → List ℕ
+complaint_of number line = walk_text number (length (pieces 32 line)) (line_walk line)
+
+-- nothing is said of a line exactly where it is a request
+abbrev pub NamesOthers : Type 0
+NamesOthers = (number : ℕ) (line : List ℕ) → (complaint_of number line ≡ []) ↔ ((ask : LineAsk) × IsLine line ask)

@@ -1,0 +1,4 @@
+pub mod Complaints
+pub mod Expected
+pub mod Fits
+pub mod Walks

@@ -1,0 +1,156 @@
+// The words behind that of a command.
+
+ghost use Rattle.std.specs.Prelude.{◌≡◌, codes};
+ghost use Rattle.sect_check.specs.Walks.{Walks, arguments_walk, drop_walk, enrol_walk, expire_walk, limit_walk, offering_walk, requests_walk, reserve_walk, restrict_walk, student_walk, swap_walk, unwait_walk, wait_walk};
+
+use crate::form::{Form, Halt, Kind};
+use crate::groups::{
+    Ask, ConfigName, ConfigRow, CourseRow, CurriculumName, Give, GroupName, SectionName, Take, want,
+};
+use crate::walk::{each, key, level, mark, option, word};
+use sect_words::Parts;
+use std::alloc::Global;
+
+#[tactic(auto, unfolding(crate::specs::Walks::offering_walk))]
+fn offering(alloc: Global, words: &mut Parts) -> Result<(), Halt>
+    ensures { Walks result words.new (offering_walk words.old) }
+{
+    word(alloc, Form::Id, words)?;
+    each::<CourseRow>(alloc, words)?;
+    each::<ConfigRow>(alloc, words)
+}
+
+#[tactic(auto, unfolding(crate::specs::Walks::student_walk))]
+fn student(alloc: Global, words: &mut Parts) -> Result<(), Halt>
+    ensures { Walks result words.new (student_walk words.old) }
+{
+    word(alloc, Form::Id, words)?;
+    key(b"max", Form::Max, words)?;
+    word(alloc, Form::MostCredits, words)?;
+    each::<GroupName>(alloc, words)?;
+    each::<CurriculumName>(alloc, words)
+}
+
+#[tactic(auto, unfolding(crate::specs::Walks::requests_walk))]
+fn requests(alloc: Global, words: &mut Parts) -> Result<(), Halt>
+    ensures { Walks result words.new (requests_walk words.old) }
+{
+    word(alloc, Form::Id, words)?;
+    each::<Ask>(alloc, words)
+}
+
+#[tactic(auto, unfolding(crate::specs::Walks::reserve_walk))]
+fn reserve(alloc: Global, words: &mut Parts) -> Result<(), Halt>
+    ensures { Walks result words.new (reserve_walk words.old) }
+{
+    word(alloc, Form::Id, words)?;
+    word(alloc, Form::Id, words)?;
+    word(alloc, Form::Audience, words)?;
+    word(alloc, Form::Limit, words)?;
+    word(alloc, Form::OptionalDay, words)?;
+    option(alloc, b"from", Form::Day, words)?;
+    each::<ConfigName>(alloc, words)?;
+    each::<SectionName>(alloc, words)?;
+    mark(b"over", words);
+    mark(b"overlap", words);
+    mark(b"must", words);
+    Ok(())
+}
+
+#[tactic(auto, unfolding(crate::specs::Walks::expire_walk))]
+fn expire(alloc: Global, words: &mut Parts) -> Result<(), Halt>
+    ensures { Walks result words.new (expire_walk words.old) }
+{
+    word(alloc, Form::Id, words)?;
+    word(alloc, Form::OptionalDay, words)
+}
+
+#[tactic(auto, unfolding(crate::specs::Walks::restrict_walk))]
+fn restrict(alloc: Global, words: &mut Parts) -> Result<(), Halt>
+    ensures { Walks result words.new (restrict_walk words.old) }
+{
+    word(alloc, Form::Id, words)?;
+    word(alloc, Form::Id, words)?;
+    word(alloc, Form::Audience, words)?;
+    each::<ConfigName>(alloc, words)?;
+    each::<SectionName>(alloc, words)
+}
+
+#[tactic(auto, unfolding(crate::specs::Walks::limit_walk))]
+fn limit(alloc: Global, words: &mut Parts) -> Result<(), Halt>
+    ensures { Walks result words.new (limit_walk words.old) }
+{
+    level(words)?;
+    word(alloc, Form::Id, words)?;
+    word(alloc, Form::Limit, words)
+}
+
+#[tactic(auto, unfolding(crate::specs::Walks::enrol_walk))]
+fn enrol(alloc: Global, words: &mut Parts) -> Result<(), Halt>
+    ensures { Walks result words.new (enrol_walk words.old) }
+{
+    word(alloc, Form::Id, words)?;
+    want(alloc, words)?;
+    option(alloc, b"budget", Form::UpTo(20_000), words)
+}
+
+#[tactic(auto, unfolding(crate::specs::Walks::drop_walk))]
+fn give_up(alloc: Global, words: &mut Parts) -> Result<(), Halt>
+    ensures { Walks result words.new (drop_walk words.old) }
+{
+    word(alloc, Form::Id, words)?;
+    word(alloc, Form::Id, words)
+}
+
+#[tactic(auto, unfolding(crate::specs::Walks::swap_walk))]
+fn swap(alloc: Global, words: &mut Parts) -> Result<(), Halt>
+    ensures { Walks result words.new (swap_walk words.old) }
+{
+    word(alloc, Form::Id, words)?;
+    each::<Give>(alloc, words)?;
+    each::<Take>(alloc, words)?;
+    option(alloc, b"budget", Form::UpTo(20_000), words)
+}
+
+#[tactic(auto, unfolding(crate::specs::Walks::wait_walk))]
+fn wait(alloc: Global, words: &mut Parts) -> Result<(), Halt>
+    ensures { Walks result words.new (wait_walk words.old) }
+{
+    word(alloc, Form::Id, words)?;
+    want(alloc, words)?;
+    option(alloc, b"give", Form::Id, words)?;
+    option(alloc, b"class", Form::UpTo(9), words)
+}
+
+#[tactic(auto, unfolding(crate::specs::Walks::unwait_walk))]
+fn unwait(alloc: Global, words: &mut Parts) -> Result<(), Halt>
+    ensures { Walks result words.new (unwait_walk words.old) }
+{
+    word(alloc, Form::Id, words)?;
+    word(alloc, Form::Number, words)
+}
+
+/// Passes what stands behind the word of a command of this kind.
+#[tactic(auto, unfolding(crate::specs::Walks::arguments_walk))]
+pub(crate) fn arguments(alloc: Global, kind: Kind, words: &mut Parts) -> Result<(), Halt>
+    ensures { Walks result words.new (arguments_walk kind words.old) }
+{
+    match kind {
+        Kind::Offering => offering(alloc, words),
+        Kind::Student => student(alloc, words),
+        Kind::Requests => requests(alloc, words),
+        Kind::Reserve => reserve(alloc, words),
+        Kind::Unreserve => word(alloc, Form::Id, words),
+        Kind::Expire => expire(alloc, words),
+        Kind::Restrict => restrict(alloc, words),
+        Kind::Unrestrict => word(alloc, Form::Id, words),
+        Kind::Limit => limit(alloc, words),
+        Kind::Cancel => word(alloc, Form::Id, words),
+        Kind::Enrol => enrol(alloc, words),
+        Kind::Drop => give_up(alloc, words),
+        Kind::Swap => swap(alloc, words),
+        Kind::Wait => wait(alloc, words),
+        Kind::Unwait => unwait(alloc, words),
+        Kind::Batch => word(alloc, Form::Ids, words),
+    }
+}

@@ -1,0 +1,12 @@
+//! The words of the clerk's command line, and what they ask for.
+#![tactic(auto)]
+
+mod help;
+mod items;
+pub mod laws;
+mod verb;
+mod words;
+
+pub use help::{help_of, version};
+pub use verb::{Topic, Verb};
+pub use words::{Words, read_words};
