@@ -30,13 +30,21 @@ remark_of word =
     (if has 9 word then codes "; it has a tab" else
     (if has 13 word then codes "; it has a carriage return" else [])))
 
+-- the word with this number, counted from 1, has not the form that is expected there
+abbrev pub word_text : ℕ → ℕ → List ℕ → Form → List ℕ
+word_text line number word form =
+    codes "line " ++ (decimal line ++ (codes " word " ++ (decimal number ++ (codes " \"" ++ (map shown word ++ (codes "\": expected "
+    ++ (form_text form ++ (remark_of word ++ codes "\n"))))))))
+
+-- the word with this number, counted from 1, is missing where this form is expected
+unfoldable pub missing_text : ℕ → ℕ → Form → List ℕ
+missing_text line number form =
+    codes "line " ++ (decimal line ++ (codes " word " ++ (decimal number ++ (codes " is missing: expected " ++ (form_text form ++ codes "\n")))))
+
 -- what is said of the line with this number and so many words, where these words are left from the first that has not this form
 abbrev pub stop_text : ℕ → ℕ → List (List ℕ) → Form → List ℕ
-stop_text line all [] form =
-    codes "line " ++ (decimal line ++ (codes " word " ++ (decimal (all + 1) ++ (codes " is missing: expected " ++ (form_text form ++ codes "\n")))))
-stop_text line all (word ∷ words) form =
-    codes "line " ++ (decimal line ++ (codes " word " ++ (decimal (all - length words) ++ (codes " \"" ++ (map shown word ++ (codes "\": expected "
-    ++ (form_text form ++ (remark_of word ++ codes "\n"))))))))
+stop_text line all [] form = missing_text line (all + 1) form
+stop_text line all (word ∷ words) form = word_text line (all - length words) word form
 
 -- the same of a walk over its words
 abbrev pub walk_text : ℕ → ℕ → Walk → List ℕ

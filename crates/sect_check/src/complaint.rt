@@ -1,8 +1,7 @@
 // What is said of a line that is no request.
 
-ghost use Rattle.std.specs.Prelude.{◌≡◌, ◌+◌, ◌-◌, ◌++◌, ◌∷◌, [], ℕ, List, IfOk, OnOk, codes, decimal, length, map};
-ghost use Rattle.sect_check.specs.Complaints.{complaint_of, has as has_byte, is_marked as is_marked_word, remark_of, shown as shown_as, stop_text};
-ghost use Rattle.sect_check.specs.Expected.{form_text};
+ghost use Rattle.std.specs.Prelude.{◌≡◌, ◌+◌, ◌++◌, IfOk, OnOk, decimal, length, map};
+ghost use Rattle.sect_check.specs.Complaints.{complaint_of, has as has_byte, is_marked as is_marked_word, missing_text, remark_of, shown as shown_as, stop_text, word_text};
 
 use crate::form::{Form, Halt};
 use crate::line::request;
@@ -10,17 +9,23 @@ use crate::text::print_form;
 use sect_base::Memory;
 use sect_words::{Parts, print_number, print_text};
 
-// How many words are left.
-fn count(words: Parts) -> Result<u64, Memory>
-    ensures { IfOk result (λ n. n ≡ length words) }
+// The number behind this one.
+fn next(number: u64) -> Result<u64, Memory>
+    ensures { IfOk result (λ n. n ≡ number + 1) }
 {
-    let mut words = words;
+    match number.checked_add(1) {
+        Some(next) => Ok(next),
+        None => Err(Memory),
+    }
+}
+
+// How many words are left.
+fn count(words: &mut Parts) -> Result<u64, Memory>
+    ensures { IfOk result (λ n. n ≡ length words.old) }
+{
     let mut count: u64 = 0;
     while words.next().is_some() {
-        match count.checked_add(1) {
-            Some(more) => count = more,
-            None => return Err(Memory),
-        }
+        count = next(count)?;
     }
     Ok(count)
 }
@@ -77,50 +82,60 @@ fn print_remark(word: &[u8], into: &mut Vec<u8>) -> Result<(), Memory>
     }
 }
 
-// Appends that the word behind these many is missing.
-fn print_missing(line: u64, all: u64, form: Form, into: &mut Vec<u8>) -> Result<(), Memory>
-    ensures { OnOk result (into.new.items ≡ into.old.items ++ stop_text line all [] form) }
+// Appends a text and a number.
+fn print_count(text: &str, number: u64, into: &mut Vec<u8>) -> Result<(), Memory>
+    ensures { OnOk result (into.new.items ≡ into.old.items ++ (text.now ++ decimal number)) }
 {
-    let Some(number) = all.checked_add(1) else {
-        return Err(Memory);
-    };
-    print_place(line, number, into)?;
-    print_text(" is missing: expected ", into)?;
-    print_form(form, into)?;
-    print_text("\n", into)
+    print_text(text, into)?;
+    print_number(number, into)
 }
 
-// Appends the numbers of a line and of a word.
-fn print_place(line: u64, word: u64, into: &mut Vec<u8>) -> Result<(), Memory>
-    ensures { OnOk result (into.new.items ≡ into.old.items ++ (codes "line " ++ (decimal line ++ (codes " word " ++ decimal word)))) }
+// Appends that the word with this number is missing.
+#[tactic(auto, unfolding(crate::specs::Complaints::missing_text))]
+fn print_missing(line: u64, number: u64, form: Form, into: &mut Vec<u8>) -> Result<(), Memory>
+    ensures { OnOk result (into.new.items ≡ into.old.items ++ missing_text line number form) }
 {
-    print_text("line ", into)?;
-    print_number(line, into)?;
-    print_text(" word ", into)?;
-    print_number(word, into)
+    print_count("line ", line, into)?;
+    print_count(" word ", number, into)?;
+    print_text(" is missing: expected ", into)?;
+    print_form(form, into)?;
+    print_text("\n", into)?;
+    Ok(())
 }
 
 // Appends that a word, with this number, has not this form.
-fn print_word(line: u64, number: u64, word: &[u8], form: Form, into: &mut Vec<u8>) -> Result<(), Memory>
-    ensures { OnOk result (into.new.items ≡ into.old.items ++ (codes "line " ++ (decimal line ++ (codes " word " ++ (decimal number ++ (codes " \"" ++ (map shown_as word.now ++ (codes "\": expected "
-        ++ (form_text form ++ (remark_of word.now ++ codes "\n")))))))))) }
+fn print_word(
+    line: u64,
+    number: u64,
+    word: &[u8],
+    form: Form,
+    into: &mut Vec<u8>,
+) -> Result<(), Memory>
+    ensures { OnOk result (into.new.items ≡ into.old.items ++ word_text line number word.now form) }
 {
-    print_place(line, number, into)?;
+    print_count("line ", line, into)?;
+    print_count(" word ", number, into)?;
     print_text(" \"", into)?;
     print_shown(word, into)?;
     print_text("\": expected ", into)?;
     print_form(form, into)?;
     print_remark(word, into)?;
-    print_text("\n", into)
+    print_text("\n", into)?;
+    Ok(())
 }
 
 // Appends what is said of a line with so many words, where these are left from the first that has not this form.
-fn print_stop(line: u64, all: u64, words: Parts, form: Form, into: &mut Vec<u8>) -> Result<(), Memory>
-    ensures { OnOk result (into.new.items ≡ into.old.items ++ stop_text line all words form) }
+fn print_stop(
+    line: u64,
+    all: u64,
+    words: &mut Parts,
+    form: Form,
+    into: &mut Vec<u8>,
+) -> Result<(), Memory>
+    ensures { OnOk result (into.new.items ≡ into.old.items ++ stop_text line all words.old form) }
 {
-    let mut words = words;
     match words.next() {
-        None => print_missing(line, all, form, into),
+        None => print_missing(line, next(all)?, form, into),
         Some(word) => {
             let behind = count(words)?;
             print_word(line, all.saturating_sub(behind), word, form, into)
@@ -133,11 +148,11 @@ fn print_stop(line: u64, all: u64, words: Parts, form: Form, into: &mut Vec<u8>)
 pub fn print_complaint(number: u64, line: &[u8], into: &mut Vec<u8>) -> Result<(), Memory>
     ensures { OnOk result (into.new.items ≡ into.old.items ++ complaint_of number line.now) }
 {
-    let all = count(Parts::new(line, b' '))?;
+    let all = count(&mut Parts::new(line, b' '))?;
     let mut words = Parts::new(line, b' ');
     match request(*into.allocator(), &mut words) {
         Ok(()) => Ok(()),
-        Err(Halt::Bad(form)) => print_stop(number, all, words, form, into),
+        Err(Halt::Bad(form)) => print_stop(number, all, &mut words, form, into),
         Err(Halt::Memory) => Err(Memory),
     }
 }

@@ -2,8 +2,8 @@
 use Rattle.std.proofs.Common.{◌≡◌, ◌+◌, length}
 use Rattle.sect_check.proofs.complaint.count.Given as goal
 
-abbrev pub decreases-loop-words : goal.decreases-loop-words
-decreases-loop-words l = length l.words
+abbrev pub decreases-loop-count : goal.decreases-loop-count
+decreases-loop-count l = length l.words
 
-abbrev pub invariant-loop-words : goal.invariant-loop-words
-invariant-loop-words l = l.count + length l.words ≡ length l.fn.words
+abbrev pub invariant-loop-count : goal.invariant-loop-count
+invariant-loop-count l = l.count + length l.words ≡ length l.fn.words
