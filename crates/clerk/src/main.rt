@@ -3,8 +3,8 @@
 
 use sect_app::{number_of, print_status};
 use sect_clerk::clerk;
-use sect_system::{StdSink, StdSource};
 use sect_script::Status;
+use sect_system::{StdSink, StdSource};
 use std::io::Write;
 use std::process::ExitCode;
 use std::{env, io};

@@ -16,7 +16,8 @@ module _ (starts : List (List ℕ) → Bool) (walk : List (List ℕ) → Walk) w
   pub reach_start : (words : List (List ℕ)) → Reaches words (each_walk starts walk words)
   reach_start words = record { turns = length words + 1; enough = omega arith; same = refl }
 
-  turn : (n : ℕ) (words : List (List ℕ)) → starts words ≡ true → some_walk starts walk (suc n) words ≡ walk_on (walk words) (λ rest. some_walk starts walk n rest)
+  turn : (n : ℕ) (words : List (List ℕ)) → starts words ≡ true
+      → some_walk starts walk (suc n) words ≡ walk_on (walk words) (λ rest. some_walk starts walk n rest)
   turn n words e = ap (λ b. if b then walk_on (walk words) (λ rest. some_walk starts walk n rest) else passed words) e
 
   step_by : (n : ℕ) (words rest : List (List ℕ)) (whole : Walk) → length words < n → some_walk starts walk n words ≡ whole
@@ -29,11 +30,13 @@ module _ (starts : List (List ℕ) → Bool) (walk : List (List ℕ) → Walk) w
   }
 
   -- one more group was passed
-  pub reach_step : (words rest : List (List ℕ)) (whole : Walk) → Reaches words whole → starts words ≡ true → walk words ≡ passed rest → length rest < length words
+  pub reach_step : (words rest : List (List ℕ)) (whole : Walk) → Reaches words whole → starts words ≡ true → walk words ≡ passed rest
+      → length rest < length words
       → Reaches rest whole
   reach_step words rest whole r e is shorter = step_by r.turns words rest whole r.enough r.same e is shorter
 
-  end_by : (n : ℕ) (words : List (List ℕ)) (whole : Walk) → length words < n → some_walk starts walk n words ≡ whole → starts words ≡ false → whole ≡ passed words
+  end_by : (n : ℕ) (words : List (List ℕ)) (whole : Walk) → length words < n → some_walk starts walk n words ≡ whole → starts words ≡ false
+      → whole ≡ passed words
   end_by zero words whole enough same e = absurd (omega (arith, enough))
   end_by (suc n) words whole enough same e = sym same ∙ ap (λ b. if b then walk_on (walk words) (λ rest. some_walk starts walk n rest) else passed words) e
 

@@ -1,3 +1,5 @@
 pub mod Agree
+pub mod Commands
 pub mod Each
+pub mod Lines
 pub mod Said

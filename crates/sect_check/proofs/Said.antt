@@ -4,14 +4,14 @@ use Rattle.std.specs.Prelude.{Result, Ok, Err}
 use Rattle.sect_read.specs.declared.fault.WireFault.{WireFault}
 use Rattle.sect_read.specs.declared.line.LineAsk.{LineAsk}
 use Rattle.sect_read.specs.ReadingLines.{line_of}
-use Rattle.sect_check.proofs.Agree.{Ends, ends_line, passes_requests}
-use Rattle.sect_check.specs.Complaints.{NamesOthers, complaint_of, missing_text, walk_text}
+use Rattle.sect_check.proofs.Lines.{Ends, ends_line, passes_requests}
+use Rattle.sect_check.specs.Complaints.{NamesOthers, complaint_of, missing_text, walk_text, word_text}
 use Rattle.sect_check.specs.Walks.{Walk, line_walk, passed, stopped}
 use Rattle.sect_words.specs.Parts.{pieces}
 
 -- nothing is said only of a walk that was passed
 passed_if : (number all : ℕ) (w : Walk) → walk_text number all w ≡ [] → (words : List (List ℕ)) × (w ≡ passed words)
-unfolding missing_text
+unfolding missing_text word_text
 passed_if number all (passed words) e = (words, refl)
 passed_if number all (stopped [] form) e = absurd (cc)
 passed_if number all (stopped (word ∷ words) form) e = absurd (cc)

@@ -30,16 +30,20 @@ remark_of word =
     (if has 9 word then codes "; it has a tab" else
     (if has 13 word then codes "; it has a carriage return" else [])))
 
+-- the form that is expected
+unfoldable pub expected_text : Form → List ℕ
+expected_text form = codes ": expected " ++ form_text form
+
 -- the word with this number, counted from 1, has not the form that is expected there
-abbrev pub word_text : ℕ → ℕ → List ℕ → Form → List ℕ
+unfoldable pub word_text : ℕ → ℕ → List ℕ → Form → List ℕ
 word_text line number word form =
-    codes "line " ++ (decimal line ++ (codes " word " ++ (decimal number ++ (codes " \"" ++ (map shown word ++ (codes "\": expected "
-    ++ (form_text form ++ (remark_of word ++ codes "\n"))))))))
+    codes "line " ++ (decimal line ++ (codes " word " ++ (decimal number ++ (codes " \"" ++ (map shown word ++ (codes "\""
+    ++ (expected_text form ++ (remark_of word ++ codes "\n"))))))))
 
 -- the word with this number, counted from 1, is missing where this form is expected
 unfoldable pub missing_text : ℕ → ℕ → Form → List ℕ
 missing_text line number form =
-    codes "line " ++ (decimal line ++ (codes " word " ++ (decimal number ++ (codes " is missing: expected " ++ (form_text form ++ codes "\n")))))
+    codes "line " ++ (decimal line ++ (codes " word " ++ (decimal number ++ (codes " is missing" ++ (expected_text form ++ codes "\n")))))
 
 -- what is said of the line with this number and so many words, where these words are left from the first that has not this form
 abbrev pub stop_text : ℕ → ℕ → List (List ℕ) → Form → List ℕ

@@ -29,7 +29,8 @@ unfoldable pub form_text : Form → List ℕ
 form_text forms.DayMark = codes "@ and a day, as @2025-08-01"
 form_text forms.Caller = codes "r and a registrar's number, or s and a student's id"
 form_text forms.Number = codes "a number of 64 bits, without a sign and without a zero in front"
-form_text forms.Command = codes "a command: offering, student, requests, reserve, unreserve, expire, restrict, unrestrict, limit, cancel, enrol, drop, swap, wait, unwait or batch"
+form_text forms.Command =
+    codes "a command: offering, student, requests, reserve, unreserve, expire, restrict, unrestrict, limit, cancel, enrol, drop, swap, wait, unwait or batch"
 form_text forms.Id = codes "an id: a number of 32 bits, without a sign and without a zero in front"
 form_text forms.Ids = codes "ids joined by +, or - for none"
 form_text forms.OptionalId = codes "an id, or - for none"

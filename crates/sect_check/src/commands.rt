@@ -1,7 +1,22 @@
 // The words behind that of a command.
 
 ghost use Rattle.std.specs.Prelude.{◌≡◌, codes};
-ghost use Rattle.sect_check.specs.Walks.{Walks, arguments_walk, drop_walk, enrol_walk, expire_walk, limit_walk, offering_walk, requests_walk, reserve_walk, restrict_walk, student_walk, swap_walk, unwait_walk, wait_walk};
+ghost use Rattle.sect_check.specs.Walks.{
+  Walks,
+  arguments_walk,
+  drop_walk,
+  enrol_walk,
+  expire_walk,
+  limit_walk,
+  offering_walk,
+  requests_walk,
+  reserve_walk,
+  restrict_walk,
+  student_walk,
+  swap_walk,
+  unwait_walk,
+  wait_walk,
+};
 
 use crate::form::{Form, Halt, Kind};
 use crate::groups::{

@@ -1,7 +1,17 @@
 // What is said of a line that is no request.
 
 ghost use Rattle.std.specs.Prelude.{◌≡◌, ◌+◌, ◌++◌, IfOk, OnOk, decimal, length, map};
-ghost use Rattle.sect_check.specs.Complaints.{complaint_of, has as has_byte, is_marked as is_marked_word, missing_text, remark_of, shown as shown_as, stop_text, word_text};
+ghost use Rattle.sect_check.specs.Complaints.{
+  complaint_of,
+  expected_text,
+  has as has_byte,
+  is_marked as is_marked_word,
+  missing_text,
+  remark_of,
+  shown as shown_as,
+  stop_text,
+  word_text,
+};
 
 use crate::form::{Form, Halt};
 use crate::line::request;
@@ -90,6 +100,15 @@ fn print_count(text: &str, number: u64, into: &mut Vec<u8>) -> Result<(), Memory
     print_number(number, into)
 }
 
+// Appends the form that is expected.
+#[tactic(auto, unfolding(crate::specs::Complaints::expected_text))]
+fn print_expected(form: Form, into: &mut Vec<u8>) -> Result<(), Memory>
+    ensures { OnOk result (into.new.items ≡ into.old.items ++ expected_text form) }
+{
+    print_text(": expected ", into)?;
+    print_form(form, into)
+}
+
 // Appends that the word with this number is missing.
 #[tactic(auto, unfolding(crate::specs::Complaints::missing_text))]
 fn print_missing(line: u64, number: u64, form: Form, into: &mut Vec<u8>) -> Result<(), Memory>
@@ -97,13 +116,14 @@ fn print_missing(line: u64, number: u64, form: Form, into: &mut Vec<u8>) -> Resu
 {
     print_count("line ", line, into)?;
     print_count(" word ", number, into)?;
-    print_text(" is missing: expected ", into)?;
-    print_form(form, into)?;
+    print_text(" is missing", into)?;
+    print_expected(form, into)?;
     print_text("\n", into)?;
     Ok(())
 }
 
 // Appends that a word, with this number, has not this form.
+#[tactic(auto, unfolding(crate::specs::Complaints::word_text))]
 fn print_word(
     line: u64,
     number: u64,
@@ -117,8 +137,8 @@ fn print_word(
     print_count(" word ", number, into)?;
     print_text(" \"", into)?;
     print_shown(word, into)?;
-    print_text("\": expected ", into)?;
-    print_form(form, into)?;
+    print_text("\"", into)?;
+    print_expected(form, into)?;
     print_remark(word, into)?;
     print_text("\n", into)?;
     Ok(())

@@ -2,9 +2,29 @@
 
 ghost use Rattle.std.specs.Prelude.{◌≡◌, ◌<◌, ◌≤◌, ◌||◌, IfOk, codes, length};
 ghost use Rattle.sect_read.specs.ReadingCommands.{take_starts};
-ghost use Rattle.sect_read.specs.ReadingRows.{ask_starts, config_starts, course_starts, curriculum_starts, give_starts, group_starts, section_starts, subpart_starts};
+ghost use Rattle.sect_read.specs.ReadingRows.{
+  ask_starts,
+  config_starts,
+  course_starts,
+  curriculum_starts,
+  give_starts,
+  group_starts,
+  section_starts,
+  subpart_starts,
+};
 ghost use Rattle.sect_check.specs.declared.form.Form.TheVariants as forms;
-ghost use Rattle.sect_check.specs.Walks.{Walks, ask_walk, config_walk, course_ask_walk, course_walk, pair_walk, section_walk, subpart_walk, take_walk, want_walk};
+ghost use Rattle.sect_check.specs.Walks.{
+  Walks,
+  ask_walk,
+  config_walk,
+  course_ask_walk,
+  course_walk,
+  pair_walk,
+  section_walk,
+  subpart_walk,
+  take_walk,
+  want_walk,
+};
 
 use crate::form::{Form, Halt};
 use crate::walk::{Group, each, mark, option, pair, word};

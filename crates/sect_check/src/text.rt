@@ -13,20 +13,41 @@ fn print_kind(kind: Kind, into: &mut Vec<u8>) -> Result<(), Memory>
     ensures { OnOk result (into.new.items ≡ into.old.items ++ kind_text kind) }
 {
     match kind {
-        Kind::Offering => print_text("offering ID course ID LIMIT CREDITS .. config ID LIMIT subpart ID section ID LIMIT PARENT MEETINGS ..", into),
-        Kind::Student => print_text("student ID max N [group ID ..] [curriculum AREA:CLASS:MAJORS ..]", into),
-        Kind::Requests => print_text("requests STUDENT [course IDS [wait] [substitute] | free MEETING ..]", into),
-        Kind::Reserve => print_text("reserve ID OFFERING AUDIENCE LIMIT EXPIRY [from DAY] [config ID ..] [section ID ..] [over] [overlap] [must]", into),
+        Kind::Offering => print_text(
+            "offering ID course ID LIMIT CREDITS .. config ID LIMIT subpart ID section ID LIMIT PARENT MEETINGS ..",
+            into,
+        ),
+        Kind::Student => print_text(
+            "student ID max N [group ID ..] [curriculum AREA:CLASS:MAJORS ..]",
+            into,
+        ),
+        Kind::Requests => print_text(
+            "requests STUDENT [course IDS [wait] [substitute] | free MEETING ..]",
+            into,
+        ),
+        Kind::Reserve => print_text(
+            "reserve ID OFFERING AUDIENCE LIMIT EXPIRY [from DAY] [config ID ..] [section ID ..] [over] [overlap] [must]",
+            into,
+        ),
         Kind::Unreserve => print_text("unreserve ID", into),
         Kind::Expire => print_text("expire ID EXPIRY", into),
-        Kind::Restrict => print_text("restrict ID OFFERING AUDIENCE [config ID ..] [section ID ..]", into),
+        Kind::Restrict => print_text(
+            "restrict ID OFFERING AUDIENCE [config ID ..] [section ID ..]",
+            into,
+        ),
         Kind::Unrestrict => print_text("unrestrict ID", into),
         Kind::Limit => print_text("limit course|config|section ID LIMIT", into),
         Kind::Cancel => print_text("cancel SECTION", into),
         Kind::Enrol => print_text("enrol STUDENT IDS [only IDS] [rank N] [budget N]", into),
         Kind::Drop => print_text("drop STUDENT COURSE", into),
-        Kind::Swap => print_text("swap STUDENT [give COURSE ..] [take IDS [only IDS] [rank N] ..] [budget N]", into),
-        Kind::Wait => print_text("wait STUDENT IDS [only IDS] [rank N] [give COURSE] [class N]", into),
+        Kind::Swap => print_text(
+            "swap STUDENT [give COURSE ..] [take IDS [only IDS] [rank N] ..] [budget N]",
+            into,
+        ),
+        Kind::Wait => print_text(
+            "wait STUDENT IDS [only IDS] [rank N] [give COURSE] [class N]",
+            into,
+        ),
         Kind::Unwait => print_text("unwait STUDENT TICKET", into),
         Kind::Batch => print_text("batch IDS", into),
     }
@@ -56,9 +77,18 @@ pub(crate) fn print_form(form: Form, into: &mut Vec<u8>) -> Result<(), Memory>
     match form {
         Form::DayMark => print_text("@ and a day, as @2025-08-01", into),
         Form::Caller => print_text("r and a registrar's number, or s and a student's id", into),
-        Form::Number => print_text("a number of 64 bits, without a sign and without a zero in front", into),
-        Form::Command => print_text("a command: offering, student, requests, reserve, unreserve, expire, restrict, unrestrict, limit, cancel, enrol, drop, swap, wait, unwait or batch", into),
-        Form::Id => print_text("an id: a number of 32 bits, without a sign and without a zero in front", into),
+        Form::Number => print_text(
+            "a number of 64 bits, without a sign and without a zero in front",
+            into,
+        ),
+        Form::Command => print_text(
+            "a command: offering, student, requests, reserve, unreserve, expire, restrict, unrestrict, limit, cancel, enrol, drop, swap, wait, unwait or batch",
+            into,
+        ),
+        Form::Id => print_text(
+            "an id: a number of 32 bits, without a sign and without a zero in front",
+            into,
+        ),
         Form::Ids => print_text("ids joined by +, or - for none", into),
         Form::OptionalId => print_text("an id, or - for none", into),
         Form::Limit => print_text("a limit: a number of 32 bits, or - for no limit", into),
@@ -66,9 +96,18 @@ pub(crate) fn print_form(form: Form, into: &mut Vec<u8>) -> Result<(), Memory>
         Form::MostCredits => print_text("the most credits, from 0 to 65535", into),
         Form::Day => print_text("a day, as 2025-08-01", into),
         Form::OptionalDay => print_text("a day, as 2025-08-01, or - for none", into),
-        Form::Meeting => print_text("a meeting: DAYS/HHMM-HHMM/WEEKS, as MW/0900-1015/1-15", into),
-        Form::Meetings => print_text("meetings DAYS/HHMM-HHMM/WEEKS joined by +, as MW/0900-1015/1-15, or - for none", into),
-        Form::Audience => print_text("students:IDS, group:ID, curriculum:AREA:CLASSES:MAJORS or course:ID", into),
+        Form::Meeting => print_text(
+            "a meeting: DAYS/HHMM-HHMM/WEEKS, as MW/0900-1015/1-15",
+            into,
+        ),
+        Form::Meetings => print_text(
+            "meetings DAYS/HHMM-HHMM/WEEKS joined by +, as MW/0900-1015/1-15, or - for none",
+            into,
+        ),
+        Form::Audience => print_text(
+            "students:IDS, group:ID, curriculum:AREA:CLASSES:MAJORS or course:ID",
+            into,
+        ),
         Form::Curriculum => print_text("a curriculum: AREA:CLASS:MAJORS", into),
         Form::UpTo(most) => print_most(most, into),
         Form::Max => print_text("max", into),

@@ -72,7 +72,11 @@ pub(crate) fn key(key: &[u8], form: Form, words: &mut Parts) -> Result<(), Halt>
     ensures walks { Walks result words.new (key_walk key.now form words.old) }
     ensures longest { length words.new ≤ length words.old }
 {
-    if words.takes(key) { Ok(()) } else { Err(Halt::Bad(form)) }
+    if words.takes(key) {
+        Ok(())
+    } else {
+        Err(Halt::Bad(form))
+    }
 }
 
 /// Passes a key and a word of this form, where the key stands there.

@@ -85,7 +85,8 @@ split_at number first (line ∷ lines) (here, rest) e =
 
 -- ---- what a run would do
 
-ahead_of : (left : Option (List ℕ)) (lines : List Line) (P Q : List Line → Type 0) → ((rest : List Line) → P rest → Q rest) → Ahead left lines P → Ahead left lines Q
+ahead_of : (left : Option (List ℕ)) (lines : List Line) (P Q : List Line → Type 0) → ((rest : List Line) → P rest → Q rest) → Ahead left lines P
+    → Ahead left lines Q
 ahead_of None lines P Q f h = tt
 ahead_of (Some input) lines P Q f (rest, is, holds) = (rest, is, f rest holds)
 
@@ -104,7 +105,8 @@ few_before first lines s few =
     let sum : length lines ≡ length s.before + length (s.bad ∷ s.after) = ap length s.whole ∙ length-append s.before (s.bad ∷ s.after) in
     omega (arith, sum, few)
 
-refused_would : (left : Option (List ℕ)) (first : ℕ) (lines : List Line) (P : List Line → Type 0) → length lines ≤ LINES_LIMIT → AllByRecursion IsShort lines → Ahead left lines P
+refused_would : (left : Option (List ℕ)) (first : ℕ) (lines : List Line) (P : List Line → Type 0) → length lines ≤ LINES_LIMIT
+    → AllByRecursion IsShort lines → Ahead left lines P
     → refused_first None 1 lines ≡ Some first → RunWould (statuses.BadLine first 0) left
 refused_would left first lines P few short input e =
     let s : Split 1 first lines = split_at 1 first lines short e in
@@ -116,7 +118,8 @@ next_is_bad before rest (bad, more, is, inl many) = (bad, more, is, inl many)
 next_is_bad before rest (bad, more, is, inr long) = (bad, more, is, inr (λ short known. long short tt))
 
 would_by : (left : Option (List ℕ)) (lines : List Line) (end : RunEnd) (first : Option ℕ) → length lines ≤ LINES_LIMIT → AllByRecursion IsShort lines
-    → Ahead left lines (IsRest AnyText end (length lines)) → HasNumber end (length lines) → refused_first None 1 lines ≡ first → RunWould (check_status first end) left
+    → Ahead left lines (IsRest AnyText end (length lines)) → HasNumber end (length lines) → refused_first None 1 lines ≡ first
+        → RunWould (check_status first end) left
 would_by left lines ends.Done None few short input number e = (lines, few, all_taken 1 lines short e, input)
 would_by left lines ends.Done (Some first) few short input number e = refused_would left first lines _ few short input e
 would_by left lines (ends.BadLine bad field) None few short input number e =

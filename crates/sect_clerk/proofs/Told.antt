@@ -29,7 +29,8 @@ tells (line ∷ lines) old new bytes (mid, first, more, (short, here), rest, is)
 
 module _ (left left' taken taken' : Option (List ℕ)) (new : Checker) (end : RunEnd) where
   -- the lines of a run that says what is to be said of them were checked
-  pub checked : Ran AnyText ChecksLine left left' taken taken' (record { lines = 0; first = None }) new end → Checks left left' taken taken' (check_status new.first end)
+  pub checked : Ran AnyText ChecksLine left left' taken taken' (record { lines = 0; first = None }) new end
+      → Checks left left' taken taken' (check_status new.first end)
   checked r =
       let t : Tells (record { lines = 0; first = None }) new r.lines r.bytes = tells r.lines _ new r.bytes r.answered in
       record {

@@ -4,7 +4,16 @@ ghost use Rattle.std.specs.Prelude.{◌≡◌, ◌+◌, ◌++◌, ◌≢◌, ℕ
 ghost use Rattle.std.specs.Io.KnownBytes.{IsAtEnd};
 ghost use Rattle.sect_edge.specs.Causes.{Rose};
 ghost use Rattle.sect_script.specs.declared.status.Status.{Status};
-ghost use Rattle.sect_clerk.specs.Checked.{AnyText, Checks, ChecksLine, NamesTheRefused, RunWould, check_status as status_after, first_after as refused_after, said_of};
+ghost use Rattle.sect_clerk.specs.Checked.{
+  AnyText,
+  Checks,
+  ChecksLine,
+  NamesTheRefused,
+  RunWould,
+  check_status as status_after,
+  first_after as refused_after,
+  said_of,
+};
 ghost use Rattle.sect_asking.specs.Asks.{is_passed_over as is_over};
 
 use sect_base::Memory;

@@ -40,12 +40,7 @@ pub fn clerk<S: Source, T: Sink>(
 }
 
 // Does what is asked for.
-fn do_asked<S: Source, T: Sink>(
-    alloc: Global,
-    asked: Words,
-    source: &mut S,
-    sink: &mut T,
-) -> Status
+fn do_asked<S: Source, T: Sink>(alloc: Global, asked: Words, source: &mut S, sink: &mut T) -> Status
     ensures does { ClerkDoes asked (S.left source.old) (S.left source.new) (T.taken sink.old) (T.taken sink.new) result }
     ensures unread { reads_source asked ≡ false → source.new ≡ source.old }
     ensures end { reads_source asked ≡ true → result ≡ Status.Done → IsAtEnd (S.left source.new) }

@@ -5,8 +5,7 @@ ghost use Rattle.sect_clerk_words.specs.Help.{help_text, version_text};
 
 use crate::verb::{Topic, Verb};
 
-const CLERK_HELP: &[u8] =
-    b"clerk: helps those who work at the desk, and changes nothing.\n\
+const CLERK_HELP: &[u8] = b"clerk: helps those who work at the desk, and changes nothing.\n\
 \n\
 Commands:\n\
   clerk check           reads requests from standard input, one a line, and names each line that desk run would refuse\n\
