@@ -1,5 +1,5 @@
 pub mod Agree
-pub mod Commands
 pub mod Each
-pub mod Lines
+pub mod OfCommands
+pub mod OfLines
 pub mod Said

@@ -4,7 +4,7 @@ use Rattle.std.specs.Prelude.{Result, Ok, Err}
 use Rattle.sect_read.specs.declared.fault.WireFault.{WireFault}
 use Rattle.sect_read.specs.declared.line.LineAsk.{LineAsk}
 use Rattle.sect_read.specs.ReadingLines.{line_of}
-use Rattle.sect_check.proofs.Lines.{Ends, ends_line, passes_requests}
+use Rattle.sect_check.proofs.OfLines.{Ends, ends_line, passes_requests}
 use Rattle.sect_check.specs.Complaints.{NamesOthers, complaint_of, missing_text, walk_text, word_text}
 use Rattle.sect_check.specs.Walks.{Walk, line_walk, passed, stopped}
 use Rattle.sect_words.specs.Parts.{pieces}

@@ -19,7 +19,7 @@ use Rattle.sect_check.specs.declared.form.Kind.{Kind}
 use Rattle.sect_check.specs.Fits.{fits, kind_of}
 use Rattle.sect_check.specs.Walks.{Walk, arguments_walk, day_by, day_walk, end_walk, front_walk, kind_at, kind_walk, line_walk, passed, PassesRequests, request_walk, stopped, walk_on, word_walk}
 use Rattle.sect_check.proofs.Agree.{Agree, agree_then, agree_made, agree_number, agree_caller}
-use Rattle.sect_check.proofs.Commands.{agree_offering, agree_student, agree_requests, agree_reserve, agree_expire, agree_restrict, agree_limit_command, agree_enrol, agree_drop, agree_swap, agree_wait, agree_unwait, agree_unreserve, agree_unrestrict, agree_cancel, agree_batch}
+use Rattle.sect_check.proofs.OfCommands.{agree_offering, agree_student, agree_requests, agree_reserve, agree_expire, agree_restrict, agree_limit_command, agree_enrol, agree_drop, agree_swap, agree_wait, agree_unwait, agree_unreserve, agree_unrestrict, agree_cancel, agree_batch}
 
 -- ---- lines
 
