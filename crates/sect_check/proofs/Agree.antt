@@ -89,7 +89,7 @@ pub agree_ids : {X : Type 0} (f : ℕ → X) (words : List (List ℕ))
 unfolding fits list_of
 agree_ids f words = agree_word forms.Ids (list_of 43 (λ word. option_map f (u32_of word)))
     (λ word. either (bytes_eq word dash) (Some []) (Some []) (all_of u32_of (pieces 43 word)) (all_of
-        (λ word. option_map f (u32_of word)) (pieces 43 word)) refl (all_is f (pieces 43 word)))
+    (λ word. option_map f (u32_of word)) (pieces 43 word)) refl (all_is f (pieces 43 word)))
     words
 
 -- an id, or none
@@ -153,7 +153,7 @@ agree_up most words = agree_word (forms.UpTo most) (between_of 1 most) (λ word.
 
 pub must_by : {Y : Type 0} (b : Bool) (words later : List (List ℕ)) (form : Form) (f : List (List ℕ) → Walk) (g : List (List ℕ) → Option (Y × List (List ℕ)))
     → ((rest : List (List ℕ)) → Agree (f rest) (g rest)) → Agree (walk_on (if b then passed later else stopped words form) f)
-        ((if b then Some later else None) >>= g)
+    ((if b then Some later else None) >>= g)
 must_by true words later form f g next = next later
 must_by false words later form f g next = tt
 

@@ -21,7 +21,7 @@ pub agree_subpart : (words : List (List ℕ)) → subpart_starts words ≡ true 
 unfolding subpart_walk subpart_at
 agree_subpart words e = agree_key (codes "subpart") words _ _ e
     (agree_then _ _ _ _ (agree_id subpart_id (later_parts words))
-        (λ id a. agree_made _ _ _ (agree_each section_starts section_walk section_row_at agree_section a)))
+    (λ id a. agree_made _ _ _ (agree_each section_starts section_walk section_row_at agree_section a)))
 
 pub agree_config : (words : List (List ℕ)) → config_starts words ≡ true → Agree (config_walk words) (config_row_at words)
 unfolding config_walk config_row_at
@@ -136,13 +136,13 @@ pub agree_restrict : (words : List (List ℕ)) → Agree (restrict_walk words) (
 unfolding restrict_walk restrict_command_at restrict_at
 agree_restrict words = agree_made _ _ _ (agree_then _ _ _ _ (agree_id restriction_id words) (λ id a. agree_then _ _ _ _ (agree_id offering_id a)
     (λ offering b. agree_then _ _ _ _ (agree_audience b) (λ audience c. agree_then _ _ _ _ (agree_configs c)
-        (λ configs d. agree_made _ _ _ (agree_sections d))))))
+    (λ configs d. agree_made _ _ _ (agree_sections d))))))
 
 pub cap_by : {X : Type 0} (a b c : Bool) (later words : List (List ℕ)) (x y z : Option (X × List (List ℕ))) → Agree (word_walk forms.Id later) x
     → Agree (word_walk forms.Id later) y
     → Agree (word_walk forms.Id later) z
     → Agree (walk_on (if a || (b || c) then passed later else stopped words forms.Level)
-        (λ level. word_walk forms.Id level)) (if a then x else (if b then y else (if c then z else None)))
+    (λ level. word_walk forms.Id level)) (if a then x else (if b then y else (if c then z else None)))
 cap_by true b c later words x y z p q r = p
 cap_by false true c later words x y z p q r = q
 cap_by false false true later words x y z p q r = r

@@ -119,7 +119,7 @@ next_is_bad before rest (bad, more, is, inr long) = (bad, more, is, inr (λ shor
 
 would_by : (left : Option (List ℕ)) (lines : List Line) (end : RunEnd) (first : Option ℕ) → length lines ≤ LINES_LIMIT → AllByRecursion IsShort lines
     → Ahead left lines (IsRest AnyText end (length lines)) → HasNumber end (length lines) → refused_first None 1 lines ≡ first
-        → RunWould (check_status first end) left
+    → RunWould (check_status first end) left
 would_by left lines ends.Done None few short input number e = (lines, few, all_taken 1 lines short e, input)
 would_by left lines ends.Done (Some first) few short input number e = refused_would left first lines _ few short input e
 would_by left lines (ends.BadLine bad field) None few short input number e =
