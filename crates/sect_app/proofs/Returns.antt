@@ -1,5 +1,5 @@
 -- What an export writes comes back, by the laws of tables.
-use Rattle.std.specs.Prelude.{◌≡◌, ◌⊎◌, ℕ, List, Option}
+use Rattle.std.specs.Prelude.{◌⊎◌, ℕ, List, Option}
 use Rattle.std.proofs.Common.{inl, inr, subst, sym}
 use Rattle.sect_command.specs.declared.command.Command.{Command}
 use Rattle.sect_command.specs.declared.reply.Reply.{Reply}
