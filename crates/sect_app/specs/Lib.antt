@@ -1,5 +1,7 @@
+pub mod Faulted
 pub mod Returns
 pub mod Machine
 pub mod Serving
 pub mod Status
 pub mod Top
+pub mod Valid

@@ -1,6 +1,7 @@
 //! Every command of the desk: what is done for its words.
 #![tactic(auto)]
 
+pub mod laws;
 mod over;
 mod serving;
 mod status;

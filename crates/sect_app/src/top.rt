@@ -10,6 +10,7 @@ ghost use Rattle.sect_usage.specs.Grammar.{words_of};
 ghost use Rattle.sect_app.specs.Machine.{DeskDoes};
 ghost use Rattle.sect_app.specs.Serving.{ServesOver};
 ghost use Rattle.sect_app.specs.Top.{IsUnfaulted, first_days, reads_for, sessions_for, sessions_in as sessions_of};
+ghost use Rattle.sect_app.specs.Valid.{IsDoneOrMemory, IsValid, NoneRose};
 
 use crate::over::{do_asked, first_of};
 use crate::serving::serve_desk;
@@ -73,8 +74,13 @@ where
     ensures write_fault { result.0 ≡ Status.WriteFault → Rose (T.faults sink.old) (T.faults sink.new) }
     ensures keeper_fault { result.0 ≡ Status.KeeperFault → IfSome result.1 (λ back. Rose (K.faults keeper) (K.faults back)) }
     ensures link_fault { result.0 ≡ Status.LinkFault → SomeRose L.faults links.items result.2.items }
-    ensures complete { (Rose (S.faults source.old) (S.faults source.new) → ⊥) → (Rose (T.faults sink.old) (T.faults sink.new) → ⊥)
-        → IfSome result.1 (λ back. Rose (K.faults keeper) (K.faults back) → ⊥) → (SomeRose L.faults links.items result.2.items → ⊥) → IsUnfaulted result.0 }
+    ensures complete { NoneRose S.faults T.faults L.faults K.faults source.old source.new sink.old sink.new links.items result.2.items keeper result.1
+        → IsUnfaulted result.0 }
+
+    // Valid input ends Done, or for want of memory.
+    ensures valid { (asked : Words) → words_of (map string_bytes words.now) ≡ Some asked → IsValid asked (K.rows keeper) (S.left source.old)
+        → NoneRose S.faults T.faults L.faults K.faults source.old source.new sink.old sink.new links.items result.2.items keeper result.1
+        → IsDoneOrMemory result.0 }
 
     ensures back { result.0 ≢ Status.Memory → IsSome result.1 }
 {
