@@ -72,7 +72,10 @@ split_by number first line lines (b ∷ bs) is short more e = record {
   bad = line;
   after = lines;
   whole = refl;
-  place = let same : Some number ≡ Some first = sym (stays number (number + 1) lines) ∙ e in cc;
+  place =
+      let same : Some number ≡ Some first = sym (stays number (number + 1) lines) ∙ e in
+      let here : number ≡ first = cc in
+      omega (arith, here);
   taken = tt;
   refused = λ known. let none : said_of number (text_of line) ≡ [] = (names_refused number (text_of line)).1 known in
       absurd (let no : b ∷ bs ≡ [] = is ∙ none in cc);
