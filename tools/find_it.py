@@ -16,6 +16,7 @@ INTRODUCTION = (
 RULES = 'sect_model/specs/Rules.antt: '
 WHY = 'Why there is no place'
 MACHINE = 'test_machine/stdin: '
+IMPORTS = 'test_tables/stdin: '
 REFUSALS = 'sect_model/specs/Refusals.antt: '
 REFUSED = 'Refusals'
 OFFERING = 'sect_catalog/specs/Fault.antt: '
@@ -273,18 +274,18 @@ GROUPS = [
     ]),
     ('Tables', [
         ('The headers', TABLES, ['sect_sheet/specs/Tables.antt: header', 'sect_tables/specs/Headers.antt: names_of'],
-         ['sect_tables/src/header.rt: header_difference'], MACHINE + "# No rows, a header alone, and headers that aren't there."),
+         ['sect_tables/src/header.rt: header_difference'], IMPORTS + "# No rows, a header alone, and headers that aren't there."),
         ('A row of offerings', TABLES, ['sect_lines/specs/Lines.antt: section_line', 'sect_sheet/specs/Tables.antt: section_fields'],
          ['sect_lines/src/section.rt: read_section', 'sect_sheet/src/catalog.rt: write_section'],
-         MACHINE + '# A term of four tables, taken out again, and imported twice.'),
+         IMPORTS + '# A term of four tables, taken out again, and imported twice.'),
         ('A row of students', TABLES, ['sect_lines/specs/Lines.antt: student_line', 'sect_sheet/specs/Tables.antt: student_fields'],
-         ['sect_lines/src/student.rt: read_student', 'sect_sheet/src/people.rt: write_student'], MACHINE + '# Texts that say one student.'),
+         ['sect_lines/src/student.rt: read_student', 'sect_sheet/src/people.rt: write_student'], IMPORTS + '# Texts that say one student.'),
         ('A row of requests', TABLES, ['sect_lines/specs/Lines.antt: ask_line', 'sect_sheet/specs/Tables.antt: ask_fields'],
-         ['sect_lines/src/ask.rt: read_ask', 'sect_sheet/src/people.rt: write_ask'], MACHINE + '# Random requests, 8002.'),
+         ['sect_lines/src/ask.rt: read_ask', 'sect_sheet/src/people.rt: write_ask'], IMPORTS + '# Random requests, 8002.'),
         ('A row of reservations', TABLES, ['sect_lines/specs/Lines.antt: reservation_line',
          'sect_sheet/specs/Tables.antt: reservation_fields'], ['sect_lines/src/reservation.rt: read_reservation',
          'sect_sheet/src/people.rt: write_reservation'],
-         MACHINE + '# A table of reservations from before first days, and weeks by days of the term.'),
+         IMPORTS + '# A table of reservations from before first days, and weeks by days of the term.'),
         ('Weeks by days of the term', TABLES, ['sect_words/specs/Times.antt: term_meeting_of'],
          ['sect_words/src/read_terms.rt: read_term_meeting', 'sect_time/src/weeks.rt: weeks_of'],
          FAULTS + '# weeks by days want the first day of the term'),
@@ -292,7 +293,7 @@ GROUPS = [
          ['sect_records/src/records.rt: feed'], 'test_data/src/tests/records.rt: pieces_show_their_rows'),
         ('The commands of a table, the first bad row', TABLES, ['sect_tables/specs/Rows.antt: rows_read',
          'sect_csv/specs/Intake.antt: fault_of'], ['sect_tables/src/reading.rt: take', 'sect_csv/src/import.rt: feed'],
-         MACHINE + '# The first bad row, with its field: what was complete before it is given.'),
+         IMPORTS + '# The first bad row, with its field: what was complete before it is given.'),
         ('`import`', TABLES, ['sect_intake/specs/Machine.antt: ImportsTable'], ['sect_intake/src/machine.rt: import_table'],
          FAULTS + '# a table is imported twice, also behind a byte order mark, and exported'),
         ('`export`', TABLES, ['sect_sheet/specs/Tables.antt: table_text'], ['sect_sheet/src/table.rt: export'],

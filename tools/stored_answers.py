@@ -1,16 +1,16 @@
 #!/usr/bin/env python3
-"""What a second computation of the desk in Python answers to the input of test_machine, test_usage and test_bodies.
+"""What a second computation of the desk in Python answers to the input of test_machine, test_tables, test_usage and
+test_bodies.
 
   stored_answers.py --oracle FOLDER                      compares the stored answers with the second computation's
   stored_answers.py --oracle FOLDER --write              writes them
-  stored_answers.py --oracle FOLDER --add KIND A..B      adds inputs of the oracle's fuzzer with these seeds: `scripts` and
-                                                         `tables` to test_machine, `words` to test_usage
+  stored_answers.py --oracle FOLDER --add CRATE A..B     adds inputs of the oracle's fuzzer with these seeds to the crate's
 
 test_machine: in a line `{ITEM*COUNT}` is the item so many times. A line that begins with `#` begins a new machine, one with
 `+ FIRST..END ` is asked with each of these numbers in place of `#`, one with `= ` asks for a report, `plan STUDENT BUDGET`,
 `survey`, or `made N` for the lines of the survey of what `make N` makes; one with `? ` has a tree that is held against the
 request before it; each other line is a request.
-Behind its line `== tables`, a line `# NAME` begins a new machine and a new keeper, `< TABLE` and `< TABLE FIRST PIECE READ WRITE` begin a
+test_tables: a line `# NAME` begins a new machine and a new keeper, `< TABLE` and `< TABLE FIRST PIECE READ WRITE` begin a
 text of that table, whose lines follow, `> TABLE` asks for an export.
 test_usage: each line is a list of words with bars between them, and `(none)` is the list without words; its answer ends
 with what `clap` finds.
@@ -103,17 +103,7 @@ def ask_each(texts, machine, words):
     return f"{sum(texts.print_reply(reply) == 'amended' for reply in replies)} amended\n"
 
 
-TABLES_MARK = "== tables"
-
-
 def machine_answers(lines):
-    at = lines.index(TABLES_MARK)
-    yield from script_answers(lines[:at])
-    yield TABLES_MARK + "\n"
-    yield from table_answers.answers(lines[at + 1:])
-
-
-def script_answers(lines):
     import texts
     from machine import Machine
     machine, last = Machine(), ""
@@ -280,30 +270,24 @@ def body_answers(lines):
             yield answer_told(line) + "\n"
 
 
-ANSWERS = {"test_machine": machine_answers, "test_usage": usage_answers, "test_bodies": body_answers}
-
-
-def add(oracle, kind, seeds):
-    """Adds inputs of the fuzzer with these seeds."""
-    low, high = map(int, seeds.split(".."))
-    crate, fuzzed = {"scripts": ("test_machine", lambda seed: fuzzed_script(oracle, seed)),
-                     "tables": ("test_machine", table_answers.fuzzed), "words": ("test_usage", fuzzed_words)}[kind]
-    more = "".join(fuzzed(seed) for seed in range(low, high + 1))
-    before, mark, behind = read(crate, "stdin"), "", ""
-    if kind == "scripts":
-        before, mark, behind = before.partition(TABLES_MARK + "\n")
-    write(crate, "stdin", before + more + mark + behind)
+ANSWERS = {"test_machine": machine_answers, "test_tables": table_answers.answers, "test_usage": usage_answers,
+           "test_bodies": body_answers}
 
 
 def main():
     parser = argparse.ArgumentParser()
     parser.add_argument("--oracle", required=True)
     parser.add_argument("--write", action="store_true")
-    parser.add_argument("--add", nargs=2, metavar=("KIND", "SEEDS"))
+    parser.add_argument("--add", nargs=2, metavar=("CRATE", "SEEDS"))
     given = parser.parse_args()
     sys.path.insert(0, given.oracle)
     if given.add:
-        add(given.oracle, *given.add)
+        crate, seeds = given.add
+        low, high = map(int, seeds.split(".."))
+        fuzzed = {"test_machine": lambda seed: fuzzed_script(given.oracle, seed), "test_tables": table_answers.fuzzed,
+                  "test_usage": fuzzed_words}[crate]
+        more = [fuzzed(seed) for seed in range(low, high + 1)]
+        write(crate, "stdin", read(crate, "stdin") + "".join(more))
     status = 0
     for crate, answers in ANSWERS.items():
         told = "".join(answers(read(crate, "stdin").split("\n")[:-1]))

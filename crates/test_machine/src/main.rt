@@ -4,14 +4,6 @@
 //! held against the request before it. One that begins with `=` asks for a report; `= plan STUDENT BUDGET` asks for the best
 //! whole schedule of a student, `= survey` for the survey, and `= made N` for a count of the lines of the survey of a machine
 //! of which the commands for N offerings were asked.
-//!
-//! Behind the line `== tables` tables are imported and exported. A line `# NAME` begins a new machine and a new keeper, and
-//! `# N NAME` a keeper whose append number N fails. A line `< TABLE` begins a text of that table, whose lines follow; the output
-//! has each command with its row, what the machine replies to it, and how the import ended. A line
-//! `< TABLE FIRST PIECE READ WRITE` begins one that is imported over the keeper with numbers from FIRST on, out of a source that
-//! gives PIECE bytes at most and whose read number READ fails, into a sink whose write number WRITE fails; 0 is none. The output
-//! has how the import ended, the lines that were written, and how many rows the keeper has. A line `> TABLE` asks for an export.
-//! In a text `\r` is a carriage return, `\x` with two digits a byte, and `\.` at the end of a line leaves out its line feed.
 #![tactic(auto)]
 
 mod acting;
@@ -21,7 +13,6 @@ mod many;
 mod planning;
 mod shown;
 mod surveying;
-mod tables;
 
 use acting::answer;
 use judging::judge;
@@ -33,61 +24,26 @@ use sect_once::Object;
 use std::alloc::Global;
 use std::io;
 use std::thread::Threads;
-use tables::Tables;
 use test_told::print_told;
 
 fn main(rt: HostRuntime) -> io::Result<()> {
     let alloc = rt.alloc();
-    let mut script = Script {
-        machine: Machine::empty(alloc),
-        request: String::new(alloc),
-    };
-    let mut tables = None;
+    let mut machine = Machine::empty(alloc);
+    let mut request = String::new(alloc);
     for line in rt.lines(alloc) {
         let line = line?;
-        let line = line.as_str();
-        if line == "== tables" {
-            println!(rt; "{line}")?;
-            tables = Some(Tables::new(alloc));
-            continue;
+        let text = line.as_str();
+        if text.starts_with('#') {
+            machine = Machine::empty(alloc);
+            println!(rt; "{text}")?;
+        } else {
+            print_told(rt, told(&rt, alloc, &mut machine, request.as_str(), text))?;
         }
-        match &mut tables {
-            Some(tables) => tables.take(rt, alloc, line)?,
-            None => script.take(rt, &rt, alloc, line)?,
+        if !text.starts_with(['#', '+', '?', '=']) {
+            request = line;
         }
     }
     Ok(())
-}
-
-// The machine of a script, and the last request.
-#[derive(Drop)]
-struct Script {
-    machine: Machine,
-    request: String,
-}
-
-impl Script {
-    // Prints what comes of a line.
-    fn take(
-        &mut self,
-        rt: HostRuntime,
-        threads: &(impl Threads + Sync),
-        alloc: Global,
-        line: &str,
-    ) -> io::Result<()> {
-        if line.starts_with('#') {
-            self.machine = Machine::empty(alloc);
-            return println!(rt; "{line}");
-        }
-        let request = self.request.as_str();
-        let told = told(threads, alloc, &mut self.machine, request, line);
-        print_told(rt, told)?;
-        if !line.starts_with(['+', '?', '=']) {
-            self.request.clear();
-            self.request.push_str(line)?;
-        }
-        Ok(())
-    }
 }
 
 // What is printed for a line, where the request before it is known.

@@ -1,6 +1,6 @@
 // What is told of an import over a keeper.
 
-use super::run::Ended;
+use crate::run::Ended;
 use sect_base::Memory;
 use sect_edge::MemKeeper;
 use sect_script::Status;

@@ -1,7 +1,7 @@
 // Imports over keepers in memory.
 
-use super::case::Case;
-use super::imported::term;
+use crate::case::Case;
+use crate::imported::term;
 use sect_base::Memory;
 use sect_edge::{MemClock, MemKeeper, MemSink, MemSource};
 use sect_intake::import_table;
