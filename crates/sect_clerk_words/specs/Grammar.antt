@@ -1,8 +1,7 @@
 -- What the words of the clerk's command line ask for.
-use Rattle.std.specs.Prelude.{ℕ, ◌&&◌, Bool, false, List, [], ◌∷◌, if◌then◌else◌, Option, None, Some, codes}
+use Rattle.std.specs.Prelude.{ℕ, List, [], ◌∷◌, if◌then◌else◌, Option, None, Some, codes}
 use Rattle.std.specs.Str.{bytes_eq}
-use Rattle.sect_usage.specs.Grammar.{allows, is_help, one_keeper, where_none}
-use Rattle.sect_usage.specs.Items.{Item, items_of, positionals}
+use Rattle.sect_usage.specs.Grammar.{is_help, where_none}
 use Rattle.sect_clerk_words.specs.declared.verb.Verb.{Verb}
 use Rattle.sect_clerk_words.specs.declared.verb.Verb.TheVariants as verbs
 use Rattle.sect_clerk_words.specs.declared.verb.Topic.TheVariants as topics
@@ -13,17 +12,9 @@ use Rattle.sect_clerk_words.specs.declared.words.Words.TheVariants as asked
 unfoldable pub verb_of : List ℕ → Option Verb
 verb_of word = if bytes_eq word (codes "check") then Some verbs.Check else None
 
--- the command has the option
-unfoldable pub takes : Verb → List ℕ → Bool
-takes verbs.Check name = false
-
--- what a command asks for by items that it allows
-unfoldable pub asked_for : Verb → List Item → Option Words
-asked_for verbs.Check items = where_none (Some asked.Check) (positionals items)
-
--- what a command asks for by these items
-unfoldable pub asked_by : Verb → List Item → Option Words
-asked_by verb items = if allows (takes verb) items && one_keeper items then asked_for verb items else None
+-- what a command asks for by itself
+abbrev pub asked_alone : Verb → Words
+asked_alone verbs.Check = asked.Check
 
 -- a word that stands in place of a command
 unfoldable pub lone_of : List ℕ → Option Words
@@ -34,7 +25,7 @@ lone_of word =
 -- what the words ask for, by the command that the first is, where it is one
 abbrev pub words_by : Option Verb → List ℕ → List (List ℕ) → Option Words
 words_by None word words = where_none (lone_of word) words
-words_by (Some verb) word words = if is_help words then Some (asked.Help (topics.Command verb)) else asked_by verb (items_of words)
+words_by (Some verb) word words = if is_help words then Some (asked.Help (topics.Command verb)) else where_none (Some (asked_alone verb)) words
 
 -- what the words ask for
 unfoldable pub words_of : List (List ℕ) → Option Words

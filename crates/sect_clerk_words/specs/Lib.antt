@@ -1,4 +1,3 @@
 pub mod Grammar
 pub mod Help
 pub mod Laws
-pub mod Seen

@@ -2,7 +2,6 @@
 #![tactic(auto)]
 
 mod help;
-mod items;
 pub mod laws;
 mod verb;
 mod words;

@@ -1,7 +1,7 @@
-// The commands and their options.
+// The commands.
 
 ghost use Rattle.std.specs.Prelude.{◌≡◌};
-ghost use Rattle.sect_clerk_words.specs.Grammar.{takes as takes_name, verb_of};
+ghost use Rattle.sect_clerk_words.specs.Grammar.{verb_of};
 
 use sect_words::same_bytes;
 
@@ -28,15 +28,5 @@ pub(crate) fn read_verb(word: &[u8]) -> Option<Verb>
         Some(Verb::Check)
     } else {
         None
-    }
-}
-
-/// Whether the command has the option.
-#[tactic(auto, unfolding(crate::specs::Grammar::takes))]
-pub(crate) fn takes(verb: Verb, _name: &[u8]) -> bool
-    ensures { result ≡ takes_name verb _name.now }
-{
-    match verb {
-        Verb::Check => false,
     }
 }
