@@ -349,6 +349,8 @@ GROUPS = [
          MACHINE + '# What is left in a section is reserved for others, and a section is full: one line wants each of them once.'),
         ('`audit`', '`audit`', ['sect_tell/specs/Audit.antt: Audits'], ['sect_tell/src/audits.rt: audit',
          'sect_machine/src/recheck.rt: recheck'], FAULTS + '# the sink of what is told: audit'),
+        ('`clerk check`', '`clerk check`', ['sect_clerk/specs/Checked.antt: Checks', 'sect_check/specs/Complaints.antt: complaint_of'],
+         ['sect_clerk/src/checker.rt: check'], 'clerk/stdin: # Lines as a registrar may type them'),
         ('`make`', '`make`', ['sect_making/specs/Generated.antt: generated'], ['sect_making/src/maker.rt: make'],
          FAULTS + '# the sink of what is told: make 1'),
         ('Opening a history', 'A term that lasts', ['sect_once/specs/History.antt: IsReplay'], ['sect_once/src/replay.rt: open'],
