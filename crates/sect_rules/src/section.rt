@@ -17,7 +17,6 @@ ghost use Rattle.sect_rules.specs.Tables.{standing_rules, space_rules, time_rule
 ghost use Rattle.sect_rules.specs.FreeTimes.{meets_free, first_free as first_free_time};
 
 use crate::moment::Moment;
-use crate::reserved::is_over;
 use sect_base::{
     ConfigId, CourseId, Level, OfferingId, ReservationId, Rule, SectionId, Sections, Want,
 };
@@ -91,9 +90,12 @@ impl Moment<'_> {
     ) -> bool
         ensures { result ≡ option_map_or (λ r. option_map_or (λ p. not (has_section r.includes p.id section)) (next_subpart self.now.at course config sections.now) false) (option_copied r.entry) false }
     {
-        match (r, self.subparts(course, config).get(sections.len())) {
-            (Some(r), Some(subpart)) => !admits_section(&r.includes, subpart.id, section),
-            _ => false,
+        match r {
+            Some(r) => match self.subparts(course, config).get(sections.len()) {
+                Some(subpart) => !admits_section(&r.includes, subpart.id, section),
+                None => false,
+            },
+            None => false,
         }
     }
 
@@ -158,14 +160,11 @@ impl Moment<'_> {
         requires { IsTrue (are_own self.now.at offering (Section section)) }
         ensures { result ≡ first_broken (space_rules self.now.at (option_copied r.entry) section) }
     {
-        let level = Level::Section(section);
-        if is_over(r) {
-            return None;
-        }
-        if self.is_full(level) {
+        let closed = self.closed(offering, r, Level::Section(section));
+        if closed.full {
             return Some((Rule::SectionFull, section.0));
         }
-        if self.is_kept(offering, r, level) {
+        if closed.reserved {
             return Some((Rule::SectionReserved, section.0));
         }
         None
