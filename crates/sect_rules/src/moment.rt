@@ -29,7 +29,7 @@ use sect_model::Enrolment;
 use sect_people::People;
 use sect_reserve::{Reservation, Restriction};
 use sect_space::World;
-use sect_time::Day;
+use sect_time::{Day, Meeting};
 use std::marker::Model;
 
 /// The world after the courses given up have left and the choices made so far were added, as the
@@ -197,16 +197,16 @@ impl<'a> Moment<'a> {
         let _ = &self.world;
     }
 
-    /// The least section of the student's other choices that this one overlaps, where neither
+    /// The least section of the student's other choices that the meetings overlap, where neither
     /// permits it.
-    pub fn least_held(&self, permitted: bool, section: SectionId) -> Option<u32>
-        ensures { result ≡ least (flat_map (λ e. overlapped self.now.at permitted section e.choice) (held_by self.now.at self.now.student)) }
+    pub fn least_held(&self, permitted: bool, meetings: &[Meeting]) -> Option<u32>
+        ensures { result ≡ least (flat_map (λ e. overlapped self.now.at permitted meetings.now e.choice) (held_by self.now.at self.now.student)) }
     {
         let held = self.world.enrolments(self.student);
         let (give, done) = (self.give, self.done);
         lesser_of(
-            self.least_kept(permitted, section, give, held),
-            self.least_made(permitted, section, done),
+            self.least_kept(permitted, meetings, give, held),
+            self.least_made(permitted, meetings, done),
         )
     }
 }

@@ -4,7 +4,7 @@ ghost use Rattle.std.specs.Prelude.{◌≡◌, ◌<◌, ◌==◌, [], ◌∷◌,
 ghost use Rattle.std.specs.Option.{option_map_or, option_and_then};
 ghost use Rattle.sect_catalog.specs.Catalogue.{find_section};
 ghost use Rattle.sect_reserve.specs.Audience.{admits_section as has_section, empty_or_any};
-ghost use Rattle.sect_model.specs.World.{offering_of, reservation_of};
+ghost use Rattle.sect_model.specs.World.{offering_of, reservation_of, meetings_of};
 ghost use Rattle.sect_model.specs.Choice.{has_parent};
 ghost use Rattle.sect_model.specs.Allowed.{free_times, meets_at};
 ghost use Rattle.sect_model.specs.Path.{next_subpart};
@@ -112,12 +112,13 @@ impl Moment<'_> {
         }
     }
 
-    /// The least position of a free time before the rank that the section meets.
-    fn least_free(&self, rank: u8, section: SectionId) -> Option<u32>
+    /// The least position of a free time before the rank that the section of these meetings meets.
+    fn least_free(&self, rank: u8, section: SectionId, meetings: &[Meeting]) -> Option<u32>
+        requires { meetings.now ≡ meetings_of self.now.at section }
         ensures { result ≡ least (map (λ f. f.0) (filter (λ f. meets_at self.now.at section f.1) (free_times self.now.at self.now.student rank))) }
     {
         let asks = self.people().asks(self.student())?;
-        first_free(self.meetings(section), u32::from(rank), 1, asks)
+        first_free(meetings, u32::from(rank), 1, asks)
     }
 
     /// The first rule on where a section stands.
@@ -180,10 +181,11 @@ impl Moment<'_> {
     ) -> Option<(Rule, u32)>
         ensures { result ≡ first_broken (time_rules self.now.at self.now.student want.now (option_copied r.entry) earlier.now section) }
     {
-        if let Some(number) = self.least_overlap(r, earlier, section) {
+        let meetings = self.meetings(section);
+        if let Some(number) = self.least_overlap(r, earlier, section, meetings) {
             return Some((Rule::Overlap, number));
         }
-        if let Some(number) = self.least_free(want.rank, section) {
+        if let Some(number) = self.least_free(want.rank, section, meetings) {
             return Some((Rule::FreeTime, number));
         }
         if !is_asked(want.only.as_slice(), section) {
