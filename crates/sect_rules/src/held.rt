@@ -65,12 +65,7 @@ fn is_by(id: ReservationId, choice: &Choice) -> bool
 }
 
 /// How many of the student's enrolments leave and are by the reservation. Where nothing is given up, none is looked at.
-pub fn given_by(
-    world: &World,
-    id: ReservationId,
-    give: &[CourseId],
-    student: StudentId,
-) -> usize
+pub fn given_by(world: &World, id: ReservationId, give: &[CourseId], student: StudentId) -> usize
     ensures { result ≡ count_by (λ e. given_up give.now e.choice.course && uses id e.choice) (held_by world.now.world student) }
 {
     if give.is_empty() {
@@ -101,8 +96,7 @@ fn is_listed(courses: &[CourseRow], id: CourseId) -> bool
 pub fn holds_kept(courses: &[CourseRow], give: &[CourseId], held: &[Enrolment]) -> bool
     ensures { result ≡ list_any (λ e. not (given_up give.now e.choice.course) && list_any (λ c. c.id.0 == e.choice.course.0) courses.now) held.now }
 {
-    held.iter()
-        .any(|e| !is_given(give, e.choice.course) && is_listed(courses, e.choice.course))
+    held.iter().any(|e| !is_given(give, e.choice.course) && is_listed(courses, e.choice.course))
 }
 
 /// Whether a choice is of one of the courses.
