@@ -106,10 +106,26 @@ impl Moment<'_> {
         ensures full { result.full ≡ not (permits_over (option_copied r.entry)) && full_at self.now.at level }
         ensures reserved { result.reserved ≡ not (permits_over (option_copied r.entry)) && kept_at self.now.at (option_copied r.entry) level }
     {
+        self.closed_with(offering, r, level, self.places(level))
+    }
+
+    /// The same, where the number of places at the level is known.
+    pub fn closed_with(
+        &self,
+        offering: OfferingId,
+        r: Option<&Reservation>,
+        level: Level,
+        places: Option<u64>,
+    ) -> Closed
+        requires own { IsTrue (are_own self.now.at offering level) }
+        requires places { places ≡ places_at self.now.at level }
+        ensures full { result.full ≡ not (permits_over (option_copied r.entry)) && full_at self.now.at level }
+        ensures reserved { result.reserved ≡ not (permits_over (option_copied r.entry)) && kept_at self.now.at (option_copied r.entry) level }
+    {
         if is_over(r) {
             return OPEN;
         }
-        match self.places(level) {
+        match places {
             Some(places) => self.closed_in(offering, r, level, places),
             None => OPEN,
         }
