@@ -6,6 +6,7 @@ mod answer;
 mod ask;
 mod desk;
 mod entry;
+mod key;
 mod object;
 mod past;
 mod replay;

@@ -3,14 +3,14 @@ ghost use Rattle.std.specs.Prelude.{◌≡◌, ◌↔◌, ◌<◌, ◌≤◌, Li
 ghost use Rattle.sect_edge.specs.Keeper.{KeepsRows};
 ghost use Rattle.sect_once.specs.declared.entry.Mark.TheVariants.{Acts};
 ghost use Rattle.sect_once.specs.History.{acted_log, IsFull, IsNew, NeverFull, TellsRows};
-ghost use Rattle.sect_once.specs.Opening.{HasActed, IsCause, IsRowCause, Opens, Reopens, Resumes, Takes, TakesNext};
+ghost use Rattle.sect_once.specs.Opening.{IsCause, IsRowCause, Opens, Reopens, Resumes, Takes, TakesNext};
 
 use crate::answer::OpenFault;
 use crate::desk::Desk;
 use crate::entry::{Entry, Mark};
 use crate::object::Object;
 use crate::past::{MOST_NOTES, Past, place_in};
-use sect_base::{Id, Memory};
+use sect_base::Memory;
 use sect_edge::Keeper;
 use std::alloc::{AllocError, Global};
 use std::snapshot::Snapshot;
@@ -30,14 +30,6 @@ impl<O: Object> Past<O> {
         self.entries.len() >= MOST_NOTES || self.is_heavy()
     }
 
-    // Whether an entry has the id.
-    fn has(&self, id: &Id) -> bool
-        ensures acted { result ≡ true → HasActed O.start O.stepped O.is_row id.now self.now.entries }
-        ensures new { result ≡ false → IsNew id.now self.now.entries }
-    {
-        self.places.contains_key(id)
-    }
-
     // Takes the entry where its reply is the object's. Else, and after want of memory, all is as before.
     fn resume(&mut self, entry: Entry<O::Command, O::Reply>, row: &[u8]) -> Result<bool, Memory>
         requires room { IsFull O.is_row (acted_log self.old.entries) → ⊥ }
@@ -55,7 +47,7 @@ impl<O: Object> Past<O> {
             self.object.undo(undo);
             return Ok(false);
         }
-        match place_in(&mut self.places, entry.id, place) {
+        match place_in(&mut self.places, &entry.id, place) {
             Ok(()) => {
                 self.row_bytes += row.len() as u64;
                 self.entries.push_reserved(entry);
