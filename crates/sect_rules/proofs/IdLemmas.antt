@@ -6,13 +6,9 @@ use Rattle.std.proofs.Common.{sym, ◌∙◌, ap, subst, inl, inr, append_assoc}
 use Rattle.std.proofs.lemmas.Bool.{eq-eqb}
 use Rattle.std.proofs.lemmas.List.{append-nil}
 use Rattle.std.proofs.lemmas.List.Elements.{filter-append}
-use Rattle.sect_base.specs.Told.{told}
-use Rattle.std.specs.Bool.{then_some}
-use Rattle.std.proofs.Common.{◌≤◌, arith}
-use Rattle.std.proofs.lemmas.Bool.Decides.{nat_tests}
-use Rattle.sect_catalog.specs.declared.row.CatalogFault.TheVariants.{Known, NoCourse, NoConfig, NoSubpart, NoSection, BadParent, TooMany}
+use Rattle.sect_catalog.specs.declared.row.CatalogFault.TheVariants.{Known}
 use Rattle.sect_catalog.specs.Catalogue.{Catalogue, all_configs, all_subparts}
-use Rattle.sect_catalog.specs.Fault.{same_kind, subpart_ids, config_ids, row_ids, stands_twice, known_id, is_empty, above, bad_parent, too_many, are_checked_after, are_checked}
+use Rattle.sect_catalog.specs.Fault.{same_kind, subpart_ids, config_ids, row_ids, stands_twice, known_id, are_checked_after, are_checked}
 use Rattle.sect_catalog.specs.Catalogue.{has_course}
 use Rattle.sect_people.specs.Order.{all_differ}
 use Rattle.sect_model.specs.World.{World, offering_of}
@@ -22,7 +18,7 @@ use Rattle.sect_model.proofs.Members
 use Rattle.sect_model.proofs.Members.{Member, all-at, all-of, any-of, both, both-left, both-right, not_both, not_true, if_false, neither-left, neither-right, find-some}
 use Rattle.sect_model.proofs.DifferLemmas.{keys_differ, differ-each, differ-join, differ-right, differ-across, single-differ, eqb-swap}
 use Rattle.sect_model.proofs.CheckedLemmas.{passed, sections_of, sections-differ, row-by-row, flat-append}
-use Rattle.sect_model.proofs.OfferingChange.{none-left, none-right, none-map}
+use Rattle.sect_model.proofs.OfferingChange.{none-left, none-map}
 
 abbrev key : ConfigRow → ℕ
 key g = g.id.0
