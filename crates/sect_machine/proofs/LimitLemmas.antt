@@ -2,8 +2,8 @@
 use Rattle.std.specs.Prelude.{◌≡◌, ℕ, suc, ◌-◌, Bool, true, false, ◌==◌, List, [], ◌∷◌, ◌++◌, length, map, find, flat_map, slice_get, Option, Some, None, refl}
 use Rattle.std.specs.List.{list_any}
 use Rattle.std.specs.Option.{option_and_then, option_map, option_map_or}
-use Rattle.std.proofs.Common.{sym, ◌∙◌, ap, arith}
-use Rattle.std.proofs.lemmas.Bool.{eq-eqb, eqb-true}
+use Rattle.std.proofs.Common.{sym, ◌∙◌, ap, arith, inl}
+use Rattle.std.proofs.lemmas.Bool.{eq-eqb}
 use Rattle.sect_base.specs.declared.limit.Cap.TheVariants.{Course as cap_course, Config as cap_config, Section as cap_section}
 use Rattle.sect_catalog.specs.Catalogue.{find_offering, has_course}
 use Rattle.sect_catalog.specs.Limits.{capped_course, with_limit}
@@ -19,8 +19,8 @@ use Rattle.sect_model.specs.Freer.{has_cap, has_section, may_open}
 use Rattle.sect_model.proofs.Members
 use Rattle.sect_model.proofs.Members.{Member, not_both}
 use Rattle.sect_model.proofs.CapChange.{any-map}
-use Rattle.sect_model.proofs.FreerIndex.{its-offering, same-id}
-use Rattle.sect_model.proofs.FreerRows.{config-row, section-row}
+use Rattle.sect_model.proofs.FreerIndex.{its-offering}
+use Rattle.sect_model.proofs.FreerRows.{config-row, one-row, section-row}
 use Rattle.sect_space.specs.declared.back.Back.{Back}
 use Rattle.sect_space.specs.Back.{back_of, cap_offering, mark_of, has_section as section_is_in}
 use Rattle.sect_space.proofs.MarkLemmas.{marked}
@@ -71,7 +71,7 @@ module _ (w : World) (k : KeptWorld w) (x : OfferingRow) (m : Member w.catalogue
       let y = Members.known (find_offering w.catalogue.rows x.id) (Members.find-some (λ o. o.id.0 == x.id.0) w.catalogue.rows x m (eq-eqb x.id.0 x.id.0 refl)) in
       let f = Members.find-member (λ o. o.id.0 == x.id.0) w.catalogue.rows y.0 y.1 in
       Members.find-map (λ o. o.id.0 == x.id.0) (with_limit cap limit) w.catalogue.rows (λ o. refl)
-      ∙ ap (option_map (with_limit cap limit)) (y.1 ∙ ap Some (sym (same-id w k x m y.0 f.0 (sym (eqb-true y.0.id.0 x.id.0 f.1)))))
+      ∙ ap (option_map (with_limit cap limit)) (y.1 ∙ ap Some (sym (one-row w.catalogue.rows k.rows_pass x y.0 m f.0 (0, x.id.0) (0, y.0.id.0) (inl refl) (inl refl) f.1)))
 
 pub limit-closed : (w : World) (cap : Cap) (limit : Limit) (before after : List Back) (e : Waiting) → KeptWorld w → Fits w (new_cap cap limit)
     → after ≡ before ++ back_of w (new_cap cap limit) ∷ [] → concerns None (last_offering (put_limit w cap limit) after) e ≡ false → may_open w e (new_cap cap limit) ≡ false

@@ -48,7 +48,7 @@ enrol_all-rows w student [] = refl
 enrol_all-rows w student (c ∷ cs) = enrol_all-rows (enrol w student c) student cs
 
 same-rows : (u v w : World) → SameRows u v → SameRows v w → SameRows u w
-same-rows u v w uv vw = vw ∙ ap (λ x. record x { roster = w.roster }) uv
+same-rows u v w uv vw = vw ∙ ap {A = World} (λ (x : World). record x { roster = w.roster }) uv
 
 same-leaving : (w v : World) (student : StudentId) (courses : List CourseId) (e : Waiting) → SameRows w v → leaving_opens v student courses e ≡ leaving_opens w student courses e
 same-leaving w v student courses e same = ap (λ x. leaving_opens x student courses e) same
