@@ -19,7 +19,7 @@ fn main(rt: HostRuntime) -> ExitCode {
     ExitCode::from(number_of(status))
 }
 
-// Prints the text of the status.
+/// Prints the text of the status.
 fn print_end(rt: HostRuntime, status: Status) -> io::Result<()> {
     if status == Status::BadWords {
         return rt.stderr().write_all(b"usage: clerk check\n");
@@ -31,7 +31,7 @@ fn print_end(rt: HostRuntime, status: Status) -> io::Result<()> {
     }
 }
 
-// The words behind the program's name. One that is no text is a bad word.
+/// The words behind the program's name. One that is no text is a bad word.
 fn words_of(rt: HostRuntime) -> Result<Vec<String>, Status> {
     let args = match env::args(&rt) {
         Ok(args) => args,
@@ -47,7 +47,7 @@ fn words_of(rt: HostRuntime) -> Result<Vec<String>, Status> {
     Ok(words)
 }
 
-// Calls the clerk over the process's own input and output.
+/// Calls the clerk over the process's own input and output.
 fn run(rt: HostRuntime, words: &[String]) -> Status {
     let mut source = StdSource::new(rt.stdin());
     let mut sink = StdSink::new(rt.stdout());

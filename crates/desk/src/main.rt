@@ -25,7 +25,7 @@ use std::sync::Wait;
 use std::thread::Threads;
 use std::{env, io};
 
-// How the program ended: as the desk did, or with a journal whose gate at this place has no byte or no whole row behind it.
+/// How the program ended: as the desk did, or with a journal whose gate at this place has no byte or no whole row behind it.
 #[derive(Drop)]
 enum End {
     Told(Status),
@@ -50,7 +50,7 @@ fn main(rt: HostRuntime) -> ExitCode {
     }
 }
 
-// Prints the text of the status.
+/// Prints the text of the status.
 fn print_end(rt: HostRuntime, status: Status) -> io::Result<()> {
     let mut text = Vec::new(rt.alloc());
     match print_status(status, &mut text) {
@@ -59,7 +59,7 @@ fn print_end(rt: HostRuntime, status: Status) -> io::Result<()> {
     }
 }
 
-// Reads the words, makes what they need and calls the desk.
+/// Reads the words, makes what they need and calls the desk.
 fn start<R: AllocGlobal + Threads + Wait + Sync>(
     rt: HostRuntime,
     threads: &R,
@@ -94,7 +94,7 @@ fn start<R: AllocGlobal + Threads + Wait + Sync>(
     }
 }
 
-// The words behind the program's name. One that is no text is a bad word.
+/// The words behind the program's name. One that is no text is a bad word.
 fn words_of(rt: HostRuntime) -> Result<Vec<String>, Status> {
     let args = match env::args(&rt) {
         Ok(args) => args,
@@ -110,7 +110,7 @@ fn words_of(rt: HostRuntime) -> Result<Vec<String>, Status> {
     Ok(words)
 }
 
-// The keeper that the words name, or one without rows.
+/// The keeper that the words name, or one without rows.
 fn keeper_of(
     rt: HostRuntime,
     db: Option<String>,
@@ -150,12 +150,12 @@ fn open_journal(rt: HostRuntime, path: &str) -> Result<AnyKeeper, End> {
     }
 }
 
-// A listener at the port of this machine alone.
+/// A listener at the port of this machine alone.
 fn listen(rt: HostRuntime, port: u16) -> Result<TcpListener, End> {
     TcpListener::bind(&rt, (Ipv4Addr::LOCALHOST, port)).map_err(|_| End::Told(Status::LinkFault))
 }
 
-// As many clocks. None where memory is wanted.
+/// As many clocks. None where memory is wanted.
 fn clocks_of(rt: HostRuntime, count: u32) -> Option<Vec<RealClock>>
     ensures { IfSome result (λ clocks. length clocks.items ≡ count) }
 {
@@ -166,7 +166,7 @@ fn clocks_of(rt: HostRuntime, count: u32) -> Option<Vec<RealClock>>
     Some(clocks)
 }
 
-// Calls the desk over the process's own input and output, and closes the keeper. Where that fails, no row is lost.
+/// Calls the desk over the process's own input and output, and closes the keeper. Where that fails, no row is lost.
 fn run<R: AllocGlobal + Threads + Wait + Sync>(
     rt: HostRuntime,
     threads: &R,
@@ -202,7 +202,7 @@ fn run<R: AllocGlobal + Threads + Wait + Sync>(
     status
 }
 
-// Whether it is told how far an import is. Answers that a terminal shows tell it themselves.
+/// Whether it is told how far an import is. Answers that a terminal shows tell it themselves.
 fn is_import_told(rt: HostRuntime, words: &[String]) -> bool {
     match read_words(words) {
         Some(Words::Import { .. }) => !rt.stdout().is_terminal(),

@@ -10,12 +10,12 @@ use sqlite_exec::work::Workspace;
 use sqlite_resolve::Compiled;
 use sqlite_schema::schema::Schema;
 
-// A value of the type may be sent to another thread.
+/// A value of the type may be sent to another thread.
 fn may_be_sent<T: Send>()
     ensures { IsSend T.row }
 {}
 
-// A database may be sent to another thread, since its parts may.
+/// A database may be sent to another thread, since its parts may.
 fn database_may_be_sent()
     ensures { IsSend database_row }
 {
@@ -27,7 +27,7 @@ fn database_may_be_sent()
     may_be_sent::<Connection<FileStore<File>>>();
 }
 
-// Each of the keepers may be sent to another thread.
+/// Each of the keepers may be sent to another thread.
 pub(crate) fn keeper_may_be_sent()
     ensures { IsSend keeper_row }
 {

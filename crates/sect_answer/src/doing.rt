@@ -20,7 +20,7 @@ use sect_report::report;
 use sect_turn::Pass;
 use std::sync::Wait;
 
-// Asks the office a command on the clock's day.
+/// Asks the office a command on the clock's day.
 fn ask<
     O: Object<Command = Command, Reply = Reply, Query = Query, View = View>,
     K: Keeper,
@@ -50,7 +50,7 @@ fn ask<
     answered(&answer, into)
 }
 
-// Looks at the object of the office.
+/// Looks at the object of the office.
 fn look<
     O: Object<Command = Command, Reply = Reply, Query = Query, View = View>,
     K: Keeper,

@@ -32,7 +32,7 @@ pub enum Errand {
     Looks(Query),
 }
 
-// The bytes of a target before its first question mark.
+/// The bytes of a target before its first question mark.
 fn path_of(target: &[u8]) -> &[u8]
     ensures { result.now ≡ path_of target.now }
 {
@@ -43,7 +43,7 @@ fn path_of(target: &[u8]) -> &[u8]
     }
 }
 
-// The command that a body says, or none. It takes memory.
+/// The command that a body says, or none. It takes memory.
 fn command_of(alloc: Global, body: &[u8]) -> Result<Option<Command>, Memory>
     ensures said { IfOk result (λ found. IfSome found (λ c. command_of body.now ≡ Ok c)) }
     ensures none { IfOk result (λ found. IfNone found ((n : ℕ) × (command_of body.now ≡ Err n))) }
@@ -55,7 +55,7 @@ fn command_of(alloc: Global, body: &[u8]) -> Result<Option<Command>, Memory>
     }
 }
 
-// What is asked for where the target is one of asks.
+/// What is asked for where the target is one of asks.
 fn ask_errand(alloc: Global, id: Id, method: &[u8], body: &[u8]) -> Result<Errand, Memory>
     requires { FitsId id }
     ensures errand { IfOk result (λ e. e ≡ errand_for method.now (command_of body.now) (Some (Ask id))) }
@@ -71,7 +71,7 @@ fn ask_errand(alloc: Global, id: Id, method: &[u8], body: &[u8]) -> Result<Erran
     }
 }
 
-// What is asked for where the target is a report's.
+/// What is asked for where the target is a report's.
 fn look_errand(query: Query, method: &[u8]) -> Errand
     ensures errand { (said : Result Command ℕ) → result ≡ errand_for method.now said (Some (Look query)) }
     ensures fits { FitsErrand result }

@@ -36,7 +36,7 @@ pub fn put(text: &[u8], into: &mut Vec<u8>)
     }
 }
 
-// No route matches.
+/// No route matches.
 pub(crate) fn no_route(into: &mut Vec<u8>) -> Page
     requires empty { into.old.items ≡ [] }
     requires room { 64 ≤ vec_capacity into.old }
@@ -46,7 +46,7 @@ pub(crate) fn no_route(into: &mut Vec<u8>) -> Page
     json_page(StatusCode::NOT_FOUND, None, false)
 }
 
-// The target has another method.
+/// The target has another method.
 pub(crate) fn other_method(method: Method, into: &mut Vec<u8>) -> Page
     requires empty { into.old.items ≡ [] }
     requires room { 64 ≤ vec_capacity into.old }
@@ -56,7 +56,7 @@ pub(crate) fn other_method(method: Method, into: &mut Vec<u8>) -> Page
     json_page(StatusCode::METHOD_NOT_ALLOWED, Some(method), false)
 }
 
-// The body says no command.
+/// The body says no command.
 pub(crate) fn no_command(into: &mut Vec<u8>) -> Page
     requires empty { into.old.items ≡ [] }
     requires room { 64 ≤ vec_capacity into.old }
@@ -66,7 +66,7 @@ pub(crate) fn no_command(into: &mut Vec<u8>) -> Page
     json_page(StatusCode::BAD_REQUEST, None, false)
 }
 
-// The page of an answer of the office.
+/// The page of an answer of the office.
 fn answer_page(answer: &Answer<Reply>) -> Page
     ensures { result ≡ (answer_said answer.now).page }
 {
@@ -78,7 +78,7 @@ fn answer_page(answer: &Answer<Reply>) -> Page
     }
 }
 
-// The page of an answer, whose text is put into the room. Only that of a request that acted can want memory.
+/// The page of an answer, whose text is put into the room. Only that of a request that acted can want memory.
 pub(crate) fn answered(answer: &Answer<Reply>, into: &mut Vec<u8>) -> Result<Page, Memory>
     requires empty { into.old.items ≡ [] }
     requires room { 64 ≤ vec_capacity into.old }

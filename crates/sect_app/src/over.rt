@@ -70,7 +70,7 @@ pub(crate) fn do_asked<R: Threads + Sync, S: Source, T: Sink, K: Keeper, C: Cloc
     }
 }
 
-// Writes the rows of a table of the keeper's history.
+/// Writes the rows of a table of the keeper's history.
 fn export_table<R: Threads + Sync, T: Sink, K: Keeper>(
     rt: &R,
     alloc: Global,
@@ -91,7 +91,7 @@ fn export_table<R: Threads + Sync, T: Sink, K: Keeper>(
     tell(rt, alloc, sink, keeper, &Export(table))
 }
 
-// Makes the offerings on the clock's day, and writes the summary.
+/// Makes the offerings on the clock's day, and writes the summary.
 fn make_on<T: Sink, C: Clock + Drop>(
     alloc: Global,
     offerings: u32,
@@ -109,7 +109,7 @@ fn make_on<T: Sink, C: Clock + Drop>(
     make(alloc, offerings, sink, &mut clock)
 }
 
-// Answers the lines of the source over the machine's history.
+/// Answers the lines of the source over the machine's history.
 fn run_desk<S: Source, T: Sink, K: Keeper, C: Clock + Drop>(
     alloc: Global,
     source: &mut S,
@@ -140,7 +140,7 @@ pub(crate) fn first_of<C: Clock + Drop>(clocks: Vec<C>) -> C
     clocks.swap_remove(0)
 }
 
-// Writes a text.
+/// Writes a text.
 fn say<T: Sink>(text: &[u8], sink: &mut T) -> Status
     ensures says { Says text.now (T.taken sink.old) (T.taken sink.new) result }
     ensures write_fault { result ≡ Status.WriteFault → Rose (T.faults sink.old) (T.faults sink.new) }

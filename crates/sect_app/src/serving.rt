@@ -56,7 +56,7 @@ where
     }
 }
 
-// The status with which serving ends.
+/// The status with which serving ends.
 fn serve_status(end: ServeEnd) -> Status
     ensures { result ≡ status_of_end end }
 {

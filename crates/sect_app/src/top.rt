@@ -98,7 +98,7 @@ where
     }
 }
 
-// How many connections each worker serves at most, where connections are served.
+/// How many connections each worker serves at most, where connections are served.
 fn sessions_in(asked: &Words) -> Option<u32>
     ensures { result ≡ sessions_of asked.now }
 {

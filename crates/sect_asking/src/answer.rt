@@ -24,7 +24,7 @@ pub fn print_answer(answer: &Answer<Reply>, into: &mut Vec<u8>) -> Result<(), Me
     Ok(())
 }
 
-// Appends the place and the reply.
+/// Appends the place and the reply.
 fn print_done(place: u32, reply: &Reply, into: &mut Vec<u8>) -> Result<(), Memory>
     ensures { OnOk result (into.new.items ≡ into.old.items ++ answer_line (Done place reply.now)) }
 {
@@ -35,7 +35,7 @@ fn print_done(place: u32, reply: &Reply, into: &mut Vec<u8>) -> Result<(), Memor
     Ok(())
 }
 
-// Appends the place that has the number.
+/// Appends the place that has the number.
 fn print_reused(place: u32, into: &mut Vec<u8>) -> Result<(), Memory>
     ensures { OnOk result (into.new.items ≡ into.old.items ++ answer_line (NumberReused place)) }
 {

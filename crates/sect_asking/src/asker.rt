@@ -72,7 +72,7 @@ impl<O: TextObject, K: Keeper, C: Clock> Asker<O, K, C> {
         self.desk.ask(id, day, command)
     }
 
-    // Puts the answer to a line that isn't passed over behind what `into` holds, which is nothing.
+    /// Puts the answer to a line that isn't passed over behind what `into` holds, which is nothing.
     fn answer_request(&mut self, line: &[u8], into: &mut Vec<u8>) -> Result<(), LineFault>
         requires empty { into.old.items ≡ [] }
         requires request { is_passed_over line.now ≡ false }
@@ -104,7 +104,7 @@ impl<O: TextObject, K: Keeper, C: Clock> Handler for Asker<O, K, C> {
     }
 }
 
-// The request of a line that isn't passed over.
+/// The request of a line that isn't passed over.
 fn read_request(alloc: Global, line: &[u8]) -> Result<LineAsk, LineFault>
     requires { is_passed_over line.now ≡ false }
     ensures found { IfOk result (λ ask. IsLine line.now ask) }
@@ -119,7 +119,7 @@ fn read_request(alloc: Global, line: &[u8]) -> Result<LineAsk, LineFault>
     }
 }
 
-// The day that a line names, or else the clock's next.
+/// The day that a line names, or else the clock's next.
 fn asked_on<C: Clock>(named: Option<Day>, clock: &mut C) -> Day
     ensures on { IsAskedOn named (C.days clock.old) (C.days clock.new) result }
     ensures text { FitsDay result }
@@ -130,7 +130,7 @@ fn asked_on<C: Clock>(named: Option<Day>, clock: &mut C) -> Day
     }
 }
 
-// Whether a line is empty, or begins with `#`.
+/// Whether a line is empty, or begins with `#`.
 fn is_passed_over(line: &[u8]) -> bool
     ensures { result ≡ is_passed_over line.now }
 {

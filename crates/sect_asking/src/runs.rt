@@ -43,7 +43,7 @@ where
     }
 }
 
-// Answers the lines of the source over the desk to which a keeper opened.
+/// Answers the lines of the source over the desk to which a keeper opened.
 fn ask_lines<O: TextObject, S: Source, T: Sink, K: Keeper, C: Clock>(
     alloc: Global,
     source: &mut S,

@@ -1,4 +1,4 @@
-// Batches: the course requests of students, each in turn.
+//! Batches: the course requests of students, each in turn.
 #![tactic(auto)]
 
 mod answering;

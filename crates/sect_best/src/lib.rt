@@ -1,4 +1,4 @@
-// The best whole schedule of a student's course requests.
+//! The best whole schedule of a student's course requests.
 #![tactic(auto)]
 
 pub mod laws;

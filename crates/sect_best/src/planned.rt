@@ -95,7 +95,7 @@ impl Planned {
     }
 }
 
-// The verdicts with one more.
+/// The verdicts with one more.
 fn judged_also(verdicts: Items<Judged>, rank: u8, verdict: Verdict) -> Result<Items<Judged>, Memory>
     requires told { AreTold verdicts }
     requires verdict { VerdictIsTold verdict }
@@ -107,7 +107,7 @@ fn judged_also(verdicts: Items<Judged>, rank: u8, verdict: Verdict) -> Result<It
     Ok(Items::from_vec(verdicts))
 }
 
-// A line for each verdict: the kept requests take the choices in turn.
+/// A line for each verdict: the kept requests take the choices in turn.
 fn lines_of(
     alloc: Global,
     choices: &[Choice],

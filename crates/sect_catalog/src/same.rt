@@ -6,7 +6,7 @@ use crate::row::{ConfigRow, CourseRow, OfferingRow, SectionRow, SubpartRow};
 use sect_base::Same;
 use sect_time::Meeting;
 
-// Whether the meetings are equal, in one order.
+/// Whether the meetings are equal, in one order.
 fn same_meetings(left: &[Meeting], right: &[Meeting]) -> bool
     ensures { IsTrue result ↔ (left.now ≡ right.now) }
 {

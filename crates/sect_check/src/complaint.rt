@@ -19,7 +19,7 @@ use crate::text::print_form;
 use sect_base::Memory;
 use sect_words::{Parts, print_number, print_text};
 
-// The number behind this one.
+/// The number behind this one.
 fn next(number: u64) -> Result<u64, Memory>
     ensures { IfOk result (λ n. n ≡ number + 1) }
 {
@@ -29,7 +29,7 @@ fn next(number: u64) -> Result<u64, Memory>
     }
 }
 
-// How many words are left.
+/// How many words are left.
 fn count(words: &mut Parts) -> Result<u64, Memory>
     ensures { IfOk result (λ n. n ≡ length words.old) }
 {
@@ -40,14 +40,14 @@ fn count(words: &mut Parts) -> Result<u64, Memory>
     Ok(count)
 }
 
-// A byte as it is shown.
+/// A byte as it is shown.
 fn shown(byte: u8) -> u8
     ensures { result ≡ shown_as byte }
 {
     if byte < 32 || byte == 127 { b'?' } else { byte }
 }
 
-// Appends a word as it is shown.
+/// Appends a word as it is shown.
 fn print_shown(word: &[u8], into: &mut Vec<u8>) -> Result<(), Memory>
     ensures { OnOk result (into.new.items ≡ into.old.items ++ map shown_as word.now) }
 {
@@ -57,14 +57,14 @@ fn print_shown(word: &[u8], into: &mut Vec<u8>) -> Result<(), Memory>
     Ok(())
 }
 
-// Whether the byte stands in the word.
+/// Whether the byte stands in the word.
 fn has(byte: u8, word: &[u8]) -> bool
     ensures { result ≡ has_byte byte word.now }
 {
     word.iter().any(|b| *b == byte)
 }
 
-// Whether the word begins with a byte order mark.
+/// Whether the word begins with a byte order mark.
 fn is_marked(word: &[u8]) -> bool
     ensures { result ≡ is_marked_word word.now }
 {
@@ -74,7 +74,7 @@ fn is_marked(word: &[u8]) -> bool
     }
 }
 
-// Appends what a reader may not see in a word.
+/// Appends what a reader may not see in a word.
 #[tactic(auto, unfolding(crate::specs::Complaints::remark_of))]
 fn print_remark(word: &[u8], into: &mut Vec<u8>) -> Result<(), Memory>
     ensures { OnOk result (into.new.items ≡ into.old.items ++ remark_of word.now) }
@@ -92,7 +92,7 @@ fn print_remark(word: &[u8], into: &mut Vec<u8>) -> Result<(), Memory>
     }
 }
 
-// Appends a text and a number.
+/// Appends a text and a number.
 fn print_count(text: &str, number: u64, into: &mut Vec<u8>) -> Result<(), Memory>
     ensures { OnOk result (into.new.items ≡ into.old.items ++ (text.now ++ decimal number)) }
 {
@@ -100,7 +100,7 @@ fn print_count(text: &str, number: u64, into: &mut Vec<u8>) -> Result<(), Memory
     print_number(number, into)
 }
 
-// Appends the form that is expected.
+/// Appends the form that is expected.
 #[tactic(auto, unfolding(crate::specs::Complaints::expected_text))]
 fn print_expected(form: Form, into: &mut Vec<u8>) -> Result<(), Memory>
     ensures { OnOk result (into.new.items ≡ into.old.items ++ expected_text form) }
@@ -109,7 +109,7 @@ fn print_expected(form: Form, into: &mut Vec<u8>) -> Result<(), Memory>
     print_form(form, into)
 }
 
-// Appends that the word with this number is missing.
+/// Appends that the word with this number is missing.
 #[tactic(auto, unfolding(crate::specs::Complaints::missing_text))]
 fn print_missing(line: u64, number: u64, form: Form, into: &mut Vec<u8>) -> Result<(), Memory>
     ensures { OnOk result (into.new.items ≡ into.old.items ++ missing_text line number form) }
@@ -122,7 +122,7 @@ fn print_missing(line: u64, number: u64, form: Form, into: &mut Vec<u8>) -> Resu
     Ok(())
 }
 
-// Appends that a word, with this number, has not this form.
+/// Appends that a word, with this number, has not this form.
 #[tactic(auto, unfolding(crate::specs::Complaints::word_text))]
 fn print_word(
     line: u64,
@@ -144,7 +144,7 @@ fn print_word(
     Ok(())
 }
 
-// Appends what is said of a line with so many words, where these are left from the first that has not this form.
+/// Appends what is said of a line with so many words, where these are left from the first that has not this form.
 fn print_stop(
     line: u64,
     all: u64,

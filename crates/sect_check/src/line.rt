@@ -11,7 +11,7 @@ use crate::walk::{fits, kind, word};
 use sect_words::Parts;
 use std::alloc::Global;
 
-// What stands behind `@` in the next word.
+/// What stands behind `@` in the next word.
 fn behind_at<'a>(words: &Parts<'a>) -> Option<&'a [u8]>
     ensures { option_map (λ text. text.now) result ≡ at_of words.now }
 {
@@ -21,7 +21,7 @@ fn behind_at<'a>(words: &Parts<'a>) -> Option<&'a [u8]>
     }
 }
 
-// Passes the day, where the line names one.
+/// Passes the day, where the line names one.
 #[tactic(auto, unfolding(crate::specs::Walks::day_walk))]
 fn day(alloc: Global, words: &mut Parts) -> Result<(), Halt>
     ensures { Walks result words.new (day_walk words.old) }
@@ -36,7 +36,7 @@ fn day(alloc: Global, words: &mut Parts) -> Result<(), Halt>
     Ok(())
 }
 
-// Passes the day, the caller and the number.
+/// Passes the day, the caller and the number.
 #[tactic(auto, unfolding(crate::specs::Walks::front_walk))]
 fn front(alloc: Global, words: &mut Parts) -> Result<(), Halt>
     ensures { Walks result words.new (front_walk words.old) }
@@ -46,7 +46,7 @@ fn front(alloc: Global, words: &mut Parts) -> Result<(), Halt>
     word(alloc, Form::Number, words)
 }
 
-// The kind of the command that the next word names.
+/// The kind of the command that the next word names.
 fn next_kind(words: &Parts) -> Option<Kind>
     ensures { result ≡ kind_at words.now }
 {
@@ -56,7 +56,7 @@ fn next_kind(words: &Parts) -> Option<Kind>
     }
 }
 
-// Passes the end of a command of this kind.
+/// Passes the end of a command of this kind.
 fn end(kind: Kind, words: &mut Parts) -> Result<(), Halt>
     ensures { Walks result words.new (end_walk kind words.old) }
 {
@@ -67,7 +67,7 @@ fn end(kind: Kind, words: &mut Parts) -> Result<(), Halt>
     }
 }
 
-// Passes a command of this kind, whose word comes first.
+/// Passes a command of this kind, whose word comes first.
 fn command(alloc: Global, kind: Option<Kind>, words: &mut Parts) -> Result<(), Halt>
     ensures { Walks result words.new (kind_walk kind words.old) }
 {

@@ -7,7 +7,7 @@ use crate::form::{Form, Kind};
 use sect_base::Memory;
 use sect_words::{print_number, print_text};
 
-// Appends the words of a command of this kind.
+/// Appends the words of a command of this kind.
 #[tactic(auto, unfolding(crate::specs::Expected::kind_text))]
 fn print_kind(kind: Kind, into: &mut Vec<u8>) -> Result<(), Memory>
     ensures { OnOk result (into.new.items ≡ into.old.items ++ kind_text kind) }
@@ -53,7 +53,7 @@ fn print_kind(kind: Kind, into: &mut Vec<u8>) -> Result<(), Memory>
     }
 }
 
-// Appends a number from 1 to this one, in words.
+/// Appends a number from 1 to this one, in words.
 fn print_most(most: u32, into: &mut Vec<u8>) -> Result<(), Memory>
     ensures { OnOk result (into.new.items ≡ into.old.items ++ (codes "a number from 1 to " ++ decimal most)) }
 {
@@ -61,7 +61,7 @@ fn print_most(most: u32, into: &mut Vec<u8>) -> Result<(), Memory>
     print_number(most, into)
 }
 
-// Appends the end of a command of this kind, in words.
+/// Appends the end of a command of this kind, in words.
 fn print_end(kind: Kind, into: &mut Vec<u8>) -> Result<(), Memory>
     ensures { OnOk result (into.new.items ≡ into.old.items ++ (codes "the end of the line, or a word in this order: " ++ kind_text kind)) }
 {

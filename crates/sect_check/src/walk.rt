@@ -14,7 +14,7 @@ use sect_time::{Day, Meeting};
 use sect_words::{Fault, Parts, Readable, read_between, same_bytes};
 use std::alloc::Global;
 
-// Whether a value was read.
+/// Whether a value was read.
 fn is_read<T: Drop>(read: Result<T, Fault>) -> Result<bool, Memory>
     ensures { (value : Option T) → Means read value → IfOk result (λ found. found ≡ is_some value) }
 {

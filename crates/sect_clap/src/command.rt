@@ -49,12 +49,12 @@ fn plan_command<'a>(alloc: Global) -> Result<Command<'a>, AllocError> {
     named(alloc, "plan")?.arg(setting(alloc, "budget"))
 }
 
-// A command over a keeper, with a word behind it.
+/// A command over a keeper, with a word behind it.
 fn named<'a>(alloc: Global, name: &'a str) -> Result<Command<'a>, AllocError> {
     kept(alloc, name)?.arg(word(alloc, FIRST_WORD).required(true))
 }
 
-// A command over a keeper.
+/// A command over a keeper.
 fn kept<'a>(alloc: Global, name: &'a str) -> Result<Command<'a>, AllocError> {
     let db = setting(alloc, "db").conflicts_with("journal")?;
     Command::new(alloc, name)
@@ -62,12 +62,12 @@ fn kept<'a>(alloc: Global, name: &'a str) -> Result<Command<'a>, AllocError> {
         .arg(setting(alloc, "journal"))
 }
 
-// An option with a value.
+/// An option with a value.
 fn setting<'a>(alloc: Global, name: &'a str) -> Arg<'a> {
     word(alloc, name).long(name)
 }
 
-// A word that stands alone.
+/// A word that stands alone.
 fn word<'a>(alloc: Global, name: &'a str) -> Arg<'a> {
     Arg::new(alloc, name).action(ArgAction::Set)
 }

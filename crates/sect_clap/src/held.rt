@@ -18,7 +18,7 @@ pub fn read_again(alloc: Global, words: &[String]) -> Result<(), Memory> {
     if same { Ok(()) } else { Err(Memory) }
 }
 
-// Whether this end without matches is what the words ask for.
+/// Whether this end without matches is what the words ask for.
 fn is_asked(kind: ErrorKind, asked: Option<Words>) -> bool {
     match asked {
         Some(Words::Help(_)) => kind == ErrorKind::DisplayHelp,
@@ -27,7 +27,7 @@ fn is_asked(kind: ErrorKind, asked: Option<Words>) -> bool {
     }
 }
 
-// Whether the command is the first word, and the same is found behind it.
+/// Whether the command is the first word, and the same is found behind it.
 fn is_same(found: &ArgMatches<'_>, words: &[String]) -> bool {
     let [command, behind @ ..] = words else {
         return false;
@@ -40,7 +40,7 @@ fn is_same(found: &ArgMatches<'_>, words: &[String]) -> bool {
     }
 }
 
-// Whether each option has the same value, or none.
+/// Whether each option has the same value, or none.
 fn same_options(found: &ArgMatches<'_>, words: &[String]) -> bool {
     for name in OPTIONS {
         if !same_text(found.get_str(name), option_value(name.as_bytes(), words)) {
@@ -50,7 +50,7 @@ fn same_options(found: &ArgMatches<'_>, words: &[String]) -> bool {
     true
 }
 
-// Whether the same words stand alone.
+/// Whether the same words stand alone.
 fn same_words(found: &ArgMatches<'_>, words: &[String]) -> bool {
     match next_positional(words) {
         Some((word, behind)) => {
@@ -61,7 +61,7 @@ fn same_words(found: &ArgMatches<'_>, words: &[String]) -> bool {
     }
 }
 
-// Whether the last word that stands alone is this one, where there is one.
+/// Whether the last word that stands alone is this one, where there is one.
 fn same_last(found: Option<&str>, words: &[String]) -> bool {
     match next_positional(words) {
         Some((word, behind)) => {
@@ -71,7 +71,7 @@ fn same_last(found: Option<&str>, words: &[String]) -> bool {
     }
 }
 
-// Whether both are none, or have the same bytes.
+/// Whether both are none, or have the same bytes.
 fn same_text(found: Option<&str>, read: Option<&[u8]>) -> bool {
     match (found, read) {
         (Some(found), Some(read)) => found.as_bytes() == read,

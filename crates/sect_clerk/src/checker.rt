@@ -48,7 +48,7 @@ impl Handler for Checker {
     }
 }
 
-// Whether a line is empty, or begins with `#`.
+/// Whether a line is empty, or begins with `#`.
 fn is_passed_over(line: &[u8]) -> bool
     ensures { result ≡ is_over line.now }
 {
@@ -58,7 +58,7 @@ fn is_passed_over(line: &[u8]) -> bool
     }
 }
 
-// Appends what is said of the line with this number.
+/// Appends what is said of the line with this number.
 #[tactic(auto, unfolding(crate::specs::Checked::said_of))]
 fn say(number: u64, line: &[u8], into: &mut Vec<u8>) -> Result<(), Memory>
     ensures { OnOk result (into.new.items ≡ into.old.items ++ said_of number line.now) }
@@ -74,7 +74,7 @@ pub fn what_is_said_is_of_refused_lines()
     ensures { NamesTheRefused }
 {}
 
-// The first that was refused, after a line with this number of which this was said.
+/// The first that was refused, after a line with this number of which this was said.
 fn first_after(first: Option<u64>, number: u64, said: &[u8]) -> Option<u64>
     ensures { result ≡ refused_after first number said.now }
 {
@@ -104,7 +104,7 @@ pub fn check<S: Source, T: Sink>(alloc: Global, source: &mut S, sink: &mut T) ->
     check_status(checker.first, end)
 }
 
-// The status of a check.
+/// The status of a check.
 fn check_status(first: Option<u64>, end: RunEnd) -> Status
     ensures { result ≡ status_after first end }
 {

@@ -39,7 +39,7 @@ pub fn clerk<S: Source, T: Sink>(
     }
 }
 
-// Does what is asked for.
+/// Does what is asked for.
 fn do_asked<S: Source, T: Sink>(alloc: Global, asked: Words, source: &mut S, sink: &mut T) -> Status
     ensures does { ClerkDoes asked (S.left source.old) (S.left source.new) (T.taken sink.old) (T.taken sink.new) result }
     ensures unread { reads_source asked ≡ false → source.new ≡ source.old }
@@ -55,7 +55,7 @@ fn do_asked<S: Source, T: Sink>(alloc: Global, asked: Words, source: &mut S, sin
     }
 }
 
-// Writes a text.
+/// Writes a text.
 fn say<T: Sink>(text: &[u8], sink: &mut T) -> Status
     ensures says { Says text.now (T.taken sink.old) (T.taken sink.new) result }
     ensures write_fault { result ≡ Status.WriteFault → Rose (T.faults sink.old) (T.faults sink.new) }

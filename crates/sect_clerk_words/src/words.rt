@@ -33,7 +33,7 @@ pub fn read_words(words: &[String]) -> Option<Words>
     }
 }
 
-// Whether the words are `--help` alone.
+/// Whether the words are `--help` alone.
 fn helps(words: &[String]) -> bool
     ensures { result ≡ is_help (map string_bytes words.now) }
 {
@@ -43,7 +43,7 @@ fn helps(words: &[String]) -> bool
     }
 }
 
-// What a word in place of a command asks for.
+/// What a word in place of a command asks for.
 #[tactic(auto, unfolding(crate::specs::Grammar::lone_of))]
 fn read_lone(word: &[u8]) -> Option<Words>
     ensures { result ≡ lone_of word.now }
@@ -57,7 +57,7 @@ fn read_lone(word: &[u8]) -> Option<Words>
     }
 }
 
-// What a command asks for by itself.
+/// What a command asks for by itself.
 fn alone(verb: Verb) -> Words
     ensures { result ≡ asked_alone verb }
 {

@@ -37,7 +37,7 @@ fn rule_with(number: u32) -> Option<Rule>
     }
 }
 
-// The number with the digits that follow, and what stands behind them.
+/// The number with the digits that follow, and what stands behind them.
 fn read_digits(first: u32, text: &[u8]) -> Option<(u32, &[u8])>
     ensures { option_map (λ x. (x.0, x.1.now)) result ≡ digits_after first text.now }
 {
@@ -55,7 +55,7 @@ fn read_digits(first: u32, text: &[u8]) -> Option<(u32, &[u8])>
     Some((number, rest))
 }
 
-// The number at the front of a text, and what stands behind it.
+/// The number at the front of a text, and what stands behind it.
 fn read_number(text: &[u8]) -> Option<(u32, &[u8])>
     ensures { option_map (λ x. (x.0, x.1.now)) result ≡ number_in text.now }
 {
@@ -66,7 +66,7 @@ fn read_number(text: &[u8]) -> Option<(u32, &[u8])>
     }
 }
 
-// The leaf at the front of a text, and what stands behind it.
+/// The leaf at the front of a text, and what stands behind it.
 fn read_leaf(text: &[u8]) -> Option<(Block, &[u8])>
     ensures { option_map (λ x. (x.0, x.1.now)) result ≡ leaf_in text.now }
 {
@@ -79,7 +79,7 @@ fn read_leaf(text: &[u8]) -> Option<(Block, &[u8])>
     Some((Block::broken(rule, number), rest))
 }
 
-// What stands behind a tree in brackets: whether it is the bracket that closes, else a comma.
+/// What stands behind a tree in brackets: whether it is the bracket that closes, else a comma.
 fn read_mark(text: &[u8]) -> Option<(bool, &[u8])>
     ensures { option_map (λ x. (x.0, x.1.now)) result ≡ mark_in text.now }
 {
@@ -90,7 +90,7 @@ fn read_mark(text: &[u8]) -> Option<(bool, &[u8])>
     }
 }
 
-// What stands behind a bracket that opens.
+/// What stands behind a bracket that opens.
 fn read_opened(text: &[u8]) -> Option<&[u8]>
     ensures { option_map (λ x. x.now) result ≡ opened_in text.now }
 {
@@ -100,7 +100,7 @@ fn read_opened(text: &[u8]) -> Option<&[u8]>
     }
 }
 
-// The trees behind the bracket that opens a split, and what stands behind the one that closes it.
+/// The trees behind the bracket that opens a split, and what stands behind the one that closes it.
 #[cycle(tree)]
 fn read_options(
     alloc: Global,
@@ -127,7 +127,7 @@ fn read_options(
     Ok(None)
 }
 
-// The tree at the front of a text, and what stands behind it.
+/// The tree at the front of a text, and what stands behind it.
 #[cycle(tree)]
 fn read_tree(alloc: Global, text: &[u8], deep: u32) -> Result<Option<(Block, &[u8])>, Memory>
     ensures { IfOk result (λ found. option_map (λ x. (x.0, x.1.now)) found ≡ tree_in deep text.now) }

@@ -35,7 +35,7 @@ fn number_of(rule: Rule) -> u8
     }
 }
 
-// Appends a leaf. After `Memory` a part of it may stand at the end.
+/// Appends a leaf. After `Memory` a part of it may stand at the end.
 fn print_leaf(rule: Rule, number: u32, into: &mut Vec<u8>) -> Result<(), Memory>
     ensures text { OnOk result (into.new.items ≡ into.old.items ++ tree_text (broken rule number)) }
     ensures front { take (length into.old.items) into.new.items ≡ into.old.items }
@@ -47,7 +47,7 @@ fn print_leaf(rule: Rule, number: u32, into: &mut Vec<u8>) -> Result<(), Memory>
     Ok(())
 }
 
-// Appends a tree. After `Memory` a part of it may stand at the end.
+/// Appends a tree. After `Memory` a part of it may stand at the end.
 fn print_tree(b: &Block, into: &mut Vec<u8>) -> Result<(), Memory>
     ensures text { OnOk result (into.new.items ≡ into.old.items ++ tree_text b.now) }
     ensures front { take (length into.old.items) into.new.items ≡ into.old.items }

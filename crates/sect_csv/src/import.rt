@@ -126,7 +126,7 @@ impl Import {
         self.open_row
     }
 
-    // The fault, if any.
+    /// The fault, if any.
     fn answer(&self) -> Result<(), CsvFault>
         ensures { result ≡ answer_to self.now.fault }
     {

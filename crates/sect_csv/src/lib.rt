@@ -1,4 +1,4 @@
-// Tables as a registrar's spreadsheet gives and takes them: their import in pieces and their export.
+//! Tables as a registrar's spreadsheet gives and takes them: their import in pieces and their export.
 #![tactic(auto)]
 
 mod import;

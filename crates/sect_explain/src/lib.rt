@@ -1,4 +1,4 @@
-// Why a search is blocked, in words.
+//! Why a search is blocked, in words.
 #![tactic(auto)]
 
 pub mod examples;

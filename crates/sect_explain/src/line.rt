@@ -25,7 +25,7 @@ pub fn print_decision(
     print_verdict(world, tree, into)
 }
 
-// Appends two spaces for each decision before.
+/// Appends two spaces for each decision before.
 fn print_indent(depth: u32, into: &mut Vec<u8>) -> Result<(), Memory>
     ensures text { OnOk result (into.new.items ≡ into.old.items ++ indent depth) }
     ensures front { take (length into.old.items) into.new.items ≡ into.old.items }
@@ -38,7 +38,7 @@ fn print_indent(depth: u32, into: &mut Vec<u8>) -> Result<(), Memory>
     Ok(())
 }
 
-// Appends what ends the line of a decision.
+/// Appends what ends the line of a decision.
 fn print_verdict(world: &World, tree: &Block, into: &mut Vec<u8>) -> Result<(), Memory>
     ensures text { OnOk result (into.new.items ≡ into.old.items ++ verdict_text world.now.world tree.now) }
     ensures front { take (length into.old.items) into.new.items ≡ into.old.items }

@@ -50,7 +50,7 @@ pub fn requested(
     }
 }
 
-// The request of a student at a position, from 1.
+/// The request of a student at a position, from 1.
 fn ask_at(world: &World, student: StudentId, rank: u8) -> Option<&Ask>
     ensures { option_copied result ≡ slice_get (asks_of world.now.world student) (rank - 1) }
 {
@@ -60,7 +60,7 @@ fn ask_at(world: &World, student: StudentId, rank: u8) -> Option<&Ask>
     }
 }
 
-// The move that a request asks for, None for a free time.
+/// The move that a request asks for, None for a free time.
 fn move_of_ask(
     alloc: Global,
     student: StudentId,
@@ -91,7 +91,7 @@ fn request_move(
     taking(alloc, student, want)
 }
 
-// The move that takes one want.
+/// The move that takes one want.
 fn taking(alloc: Global, student: StudentId, want: Want) -> Result<Move, Memory>
     ensures { IfOk result (λ mv. mv ≡ record { student = student; give = []; take = want ∷ [] }) }
 {

@@ -25,7 +25,7 @@ pub fn print_pick(pick: Pick, into: &mut Vec<u8>) -> Result<(), Memory>
     }
 }
 
-// Appends a name and a number.
+/// Appends a name and a number.
 fn print_named(name: &str, number: u32, into: &mut Vec<u8>) -> Result<(), Memory>
     ensures text { OnOk result (into.new.items ≡ into.old.items ++ (name.now ++ decimal number)) }
     ensures front { take (length into.old.items) into.new.items ≡ into.old.items }
@@ -34,7 +34,7 @@ fn print_named(name: &str, number: u32, into: &mut Vec<u8>) -> Result<(), Memory
     print_number(number, into)
 }
 
-// Appends words with a number between them.
+/// Appends words with a number between them.
 fn print_numbered(before: &str, number: u32, behind: &str, into: &mut Vec<u8>) -> Result<(), Memory>
     ensures text { OnOk result (into.new.items ≡ into.old.items ++ numbered before.now number behind.now) }
     ensures front { take (length into.old.items) into.new.items ≡ into.old.items }
@@ -114,7 +114,7 @@ pub fn print_reason(
     }
 }
 
-// Appends the first and the last day of a reservation.
+/// Appends the first and the last day of a reservation.
 fn print_days(world: &World, id: ReservationId, into: &mut Vec<u8>) -> Result<(), Memory>
     ensures text { OnOk result (into.new.items ≡ into.old.items ++ days_text world.now.world id) }
     ensures front { take (length into.old.items) into.new.items ≡ into.old.items }
@@ -130,7 +130,7 @@ fn print_days(world: &World, id: ReservationId, into: &mut Vec<u8>) -> Result<()
     print_text(" (rule 4)\n", into)
 }
 
-// Appends the section that is in the way, with its meetings.
+/// Appends the section that is in the way, with its meetings.
 fn print_overlap(world: &World, id: SectionId, into: &mut Vec<u8>) -> Result<(), Memory>
     ensures text { OnOk result (into.new.items ≡ into.old.items ++ overlap_text world.now.world id) }
     ensures front { take (length into.old.items) into.new.items ≡ into.old.items }
@@ -142,7 +142,7 @@ fn print_overlap(world: &World, id: SectionId, into: &mut Vec<u8>) -> Result<(),
     print_text(" (rule 18)\n", into)
 }
 
-// Appends the meetings of a section.
+/// Appends the meetings of a section.
 fn print_meetings(world: &World, id: SectionId, into: &mut Vec<u8>) -> Result<(), Memory>
     ensures text { OnOk result (into.new.items ≡ into.old.items ++ list_text 43 meeting_text (meetings_of world.now.world id)) }
     ensures front { take (length into.old.items) into.new.items ≡ into.old.items }

@@ -47,7 +47,7 @@ pub fn explain_reply(
     }
 }
 
-// Appends the tree that refutes the move, where there is a move.
+/// Appends the tree that refutes the move, where there is a move.
 fn explain_move(
     world: &World,
     mv: &Option<Move>,
@@ -64,7 +64,7 @@ fn explain_move(
     }
 }
 
-// Appends the lines whose searches are blocked, or that there is none.
+/// Appends the lines whose searches are blocked, or that there is none.
 fn explain_batch(
     alloc: Global,
     world: &World,
@@ -81,7 +81,7 @@ fn explain_batch(
     }
 }
 
-// Appends that a reply doesn't block.
+/// Appends that a reply doesn't block.
 fn print_unblocked(into: &mut Vec<u8>) -> Result<(), Memory>
     ensures text { OnOk result (into.new.items ≡ into.old.items ++ unblocked_text) }
     ensures front { take (length into.old.items) into.new.items ≡ into.old.items }
@@ -89,21 +89,21 @@ fn print_unblocked(into: &mut Vec<u8>) -> Result<(), Memory>
     print_text("not blocked\n", into)
 }
 
-// Whether the search for one of the lines is blocked.
+/// Whether the search for one of the lines is blocked.
 fn has_blocked(lines: &[Line]) -> bool
     ensures { result ≡ has_blocked lines.now }
 {
     lines.iter().any(|line| is_blocked(&line.result))
 }
 
-// Whether the search for the line is blocked.
+/// Whether the search for the line is blocked.
 fn is_blocked(told: &LineResult) -> bool
     ensures { result ≡ is_blocked_result told.now }
 {
     matches!(told, LineResult::Blocked(_, _))
 }
 
-// Appends the lines whose searches are blocked.
+/// Appends the lines whose searches are blocked.
 fn print_lines(
     alloc: Global,
     world: &World,
@@ -119,7 +119,7 @@ fn print_lines(
     Ok(())
 }
 
-// Appends why the request of a line found no place, where its search is blocked.
+/// Appends why the request of a line found no place, where its search is blocked.
 fn print_result(
     alloc: Global,
     world: &World,
@@ -141,7 +141,7 @@ fn print_result(
     }
 }
 
-// Appends the line of a request.
+/// Appends the line of a request.
 fn print_request(student: StudentId, rank: u8, into: &mut Vec<u8>) -> Result<(), Memory>
     ensures text { OnOk result (into.new.items ≡ into.old.items ++ request_line student rank) }
     ensures front { take (length into.old.items) into.new.items ≡ into.old.items }

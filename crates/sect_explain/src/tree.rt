@@ -19,7 +19,7 @@ pub fn explain(world: &World, mv: &Move, tree: &Block, into: &mut Vec<u8>) -> Re
     print_below(world, mv, &PathOf::<4>::start(), 0, tree, into)
 }
 
-// Appends the decisions that follow a path, each with its tree.
+/// Appends the decisions that follow a path, each with its tree.
 fn print_below(
     world: &World,
     mv: &Move,
@@ -58,7 +58,7 @@ fn print_below(
     }
 }
 
-// One decision deeper.
+/// One decision deeper.
 fn deeper(depth: u32) -> Result<u32, Memory>
     ensures { IfOk result (λ below. below ≡ depth + 1) }
 {

@@ -1,4 +1,4 @@
-// The commands of a table may be asked: each has a text.
+//! The commands of a table may be asked: each has a text.
 #![tactic(auto)]
 
 mod laws;

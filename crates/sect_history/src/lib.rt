@@ -1,4 +1,4 @@
-// What holds throughout a history of the machine. It has no behaviour: the functions carry the laws.
+//! What holds throughout a history of the machine. It has no behaviour: the functions carry the laws.
 #![tactic(auto)]
 
 pub mod laws;

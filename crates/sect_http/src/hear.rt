@@ -26,7 +26,7 @@ use sect_talk::{Came, End, Room, await_body, await_head};
 use sect_words::same_bytes;
 use std::alloc::Global;
 
-// Whether the input ended between requests, where no head had ended.
+/// Whether the input ended between requests, where no head had ended.
 fn is_between(bytes: &[u8]) -> bool
     requires { IsOpenHead bytes.now }
     ensures between { result ≡ true → IsBlank bytes.now }
@@ -35,14 +35,14 @@ fn is_between(bytes: &[u8]) -> bool
     blank_lines(bytes)
 }
 
-// The method is HEAD.
+/// The method is HEAD.
 fn is_head(method: &[u8]) -> bool
     ensures { result ≡ bytes_eq method.now (codes "HEAD") }
 {
     same_bytes(method, b"HEAD")
 }
 
-// No head is read in these bytes.
+/// No head is read in these bytes.
 fn no_head(bytes: &[u8]) -> Heard
     requires { IsNoHead bytes.now }
     ensures { IsHeard bytes.now result (Bytes bytes.now) }
@@ -54,7 +54,7 @@ fn no_head(bytes: &[u8]) -> Heard
     }
 }
 
-// Memory was wanted before the bytes told of their head.
+/// Memory was wanted before the bytes told of their head.
 fn wanting(bytes: &[u8]) -> Heard
     ensures { IsHeard bytes.now result (Bytes bytes.now) }
 {
@@ -65,7 +65,7 @@ fn wanting(bytes: &[u8]) -> Heard
     }
 }
 
-// A head of too many fields is refused.
+/// A head of too many fields is refused.
 fn crowded(bytes: &[u8], head: &RequestSpans) -> Heard
     requires crowded { (h : RequestHead) × IsCrowdedHead bytes.now head.now h }
     requires within { IsWithin (length bytes.now) head.now.method }
@@ -78,7 +78,7 @@ fn crowded(bytes: &[u8], head: &RequestSpans) -> Heard
     }
 }
 
-// What a whole request is for, with so many bytes of body.
+/// What a whole request is for, with so many bytes of body.
 fn errand_of(
     alloc: Global,
     routes: &Routes,
@@ -102,7 +102,7 @@ fn errand_of(
     )
 }
 
-// What a whole request wishes, with so many bytes of body.
+/// What a whole request wishes, with so many bytes of body.
 fn wish_of(
     alloc: Global,
     routes: &Routes,
@@ -122,7 +122,7 @@ fn wish_of(
     }
 }
 
-// A whole head whose body, of so many bytes, is there.
+/// A whole head whose body, of so many bytes, is there.
 fn with_body(
     alloc: Global,
     routes: &Routes,
@@ -145,7 +145,7 @@ fn with_body(
     }
 }
 
-// What a head says of its body.
+/// What a head says of its body.
 fn framed(bytes: &[u8], spans: &[HeaderSpan], head: &RequestSpans) -> Framing
     requires head { (h : RequestHead) × IsRequestAt bytes.now spans.now head.now h }
     requires within { IsRequestWithin bytes.now spans.now head.now }
@@ -155,7 +155,7 @@ fn framed(bytes: &[u8], spans: &[HeaderSpan], head: &RequestSpans) -> Framing
     framing(bytes, spans, head)
 }
 
-// What a head says of its answer.
+/// What a head says of its answer.
 fn marked(bytes: &[u8], spans: &[HeaderSpan], head: &RequestSpans) -> Marks
     requires { IsRequestWithin bytes.now spans.now head.now }
     ensures { (h : RequestHead) → IsRequestAt bytes.now spans.now head.now h → IsMarked h result }
@@ -166,7 +166,7 @@ fn marked(bytes: &[u8], spans: &[HeaderSpan], head: &RequestSpans) -> Marks
     }
 }
 
-// A head that is refused before its body is read.
+/// A head that is refused before its body is read.
 fn refused(bytes: &[u8], head: &RequestSpans, why: Refusal, marks: Marks) -> Heard
     requires { (h : RequestHead) × BeginsWith bytes.now head.now h × IsMarked h marks × (framing_of h ≡ Refuses why) }
     ensures { (asked : Asked) × IsHeard bytes.now result asked }
@@ -178,7 +178,7 @@ fn refused(bytes: &[u8], head: &RequestSpans, why: Refusal, marks: Marks) -> Hea
     }
 }
 
-// A head of at most 64 fields that isn't refused.
+/// A head of at most 64 fields that isn't refused.
 fn awaits_body<S: Source>(
     alloc: Global,
     routes: &Routes,
@@ -205,7 +205,7 @@ fn awaits_body<S: Source>(
     }
 }
 
-// A head of at most 64 fields.
+/// A head of at most 64 fields.
 fn whole<S: Source>(
     alloc: Global,
     routes: &Routes,

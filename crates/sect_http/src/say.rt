@@ -24,7 +24,7 @@ use sect_page::Page;
 use sect_turn::Pass;
 use std::sync::Wait;
 
-// The page of a refused head, with its text in the room.
+/// The page of a refused head, with its text in the room.
 fn refuse(why: Refusal, into: &mut Vec<u8>) -> Page
     requires empty { into.old.items ≡ [] }
     requires room { 64 ≤ vec_capacity into.old }
@@ -51,8 +51,8 @@ fn refuse(why: Refusal, into: &mut Vec<u8>) -> Page
     }
 }
 
-// Does what a request wishes, and gives the page of the answer, with its text in the room. `Memory` is where the answer
-// is that memory was wanted.
+/// Does what a request wishes, and gives the page of the answer, with its text in the room. `Memory` is where the answer
+/// is that memory was wanted.
 fn say<
     O: Object<Command = Command, Reply = Reply, Query = Query, View = View>,
     K: Keeper,

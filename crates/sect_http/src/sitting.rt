@@ -155,7 +155,7 @@ pub fn session<
     }
 }
 
-// Tells that memory was wanted before anything was read. The connection closes.
+/// Tells that memory was wanted before anything was read. The connection closes.
 fn refuse<T: Sink, G: Gate, R: Wait>(
     rt: &R,
     sink: &mut T,

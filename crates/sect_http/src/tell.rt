@@ -20,7 +20,7 @@ pub(crate) fn ready(buffer: &mut Vec<u8>, room: usize) -> bool
     buffer.reserve(room).is_ok()
 }
 
-// The page, behind which the connection closes if it did or does now.
+/// The page, behind which the connection closes if it did or does now.
 fn with_closing(page: Page, closing: bool) -> Page
     ensures { result ≡ record page { closing = page.closing || closing } }
 {
@@ -30,7 +30,7 @@ fn with_closing(page: Page, closing: bool) -> Page
     }
 }
 
-// Writes that memory was wanted. The connection closes.
+/// Writes that memory was wanted. The connection closes.
 fn tell_want<T: Sink>(sink: &mut T, headless: bool) -> Result<bool, Failed>
     ensures told { (closing : Bool) → Tells (T.taken sink.old) (T.taken sink.new) no_memory_said closing headless result }
     ensures cause { HasCause (T.faults sink.old) (T.faults sink.new) result }
@@ -41,7 +41,7 @@ fn tell_want<T: Sink>(sink: &mut T, headless: bool) -> Result<bool, Failed>
     }
 }
 
-// Writes a text, and tells whether the connection closes behind it.
+/// Writes a text, and tells whether the connection closes behind it.
 fn tell_text<T: Sink>(sink: &mut T, text: &[u8], closing: bool) -> Result<bool, Failed>
     ensures told { (said : Said) (asks headless : Bool) → text.now ≡ said_text said asks headless → closing ≡ (said.page.closing || asks)
         → Tells (T.taken sink.old) (T.taken sink.new) said asks headless result }
@@ -53,7 +53,7 @@ fn tell_text<T: Sink>(sink: &mut T, text: &[u8], closing: bool) -> Result<bool, 
     }
 }
 
-// Writes a page with its text.
+/// Writes a page with its text.
 fn tell_page<T: Sink>(
     sink: &mut T,
     page: Page,

@@ -26,7 +26,7 @@ use sect_turn::Pass;
 use std::alloc::Global;
 use std::sync::Wait;
 
-// Whether the connection closes because of what is wished, or of the number of the request.
+/// Whether the connection closes because of what is wished, or of the number of the request.
 fn closes(wish: &Wish, number: u32) -> bool
     ensures { result ≡ (wish_closes wish.now || number == LAST_REQUEST) }
 {
@@ -45,7 +45,7 @@ pub(crate) fn pass_gate<G: Gate, R: Wait>(rt: &R, gate: &G, worker: u32, step: &
     *step += 1;
 }
 
-// Answers what was heard, and gives whether the connection closes behind it.
+/// Answers what was heard, and gives whether the connection closes behind it.
 fn respond<
     O: Object<Command = Command, Reply = Reply, Query = Query, View = View>,
     K: Keeper,

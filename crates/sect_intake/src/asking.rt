@@ -52,7 +52,7 @@ pub(crate) fn ask_each<O: TextObject, K: Keeper, C: Clock, T: Sink>(
     write_before(sink, &mut gathered, None)
 }
 
-// Writes what was gathered before the run goes on or ends so.
+/// Writes what was gathered before the run goes on or ends so.
 fn write_before<T: Sink>(
     sink: &mut T,
     gathered: &mut Vec<u8>,
@@ -70,8 +70,8 @@ fn write_before<T: Sink>(
     }
 }
 
-// Asks a command by its number, and puts the line of its answer behind those that were gathered. Where memory is wanted for
-// the line, they are written.
+/// Asks a command by its number, and puts the line of its answer behind those that were gathered. Where memory is wanted for
+/// the line, they are written.
 fn ask_one<O: TextObject, K: Keeper, C: Clock, T: Sink>(
     asker: &mut Asker<O, K, C>,
     sink: &mut T,
@@ -98,7 +98,7 @@ fn ask_one<O: TextObject, K: Keeper, C: Clock, T: Sink>(
     }
 }
 
-// Asks a command by its number.
+/// Asks a command by its number.
 fn ask_numbered<O: TextObject, K: Keeper, C: Clock>(
     asker: &mut Asker<O, K, C>,
     command: Command,
@@ -119,7 +119,7 @@ fn ask_numbered<O: TextObject, K: Keeper, C: Clock>(
     })
 }
 
-// The number behind this one, where there is one.
+/// The number behind this one, where there is one.
 fn number_after(number: u64) -> Option<u64>
     ensures { result ≡ number_at (number + 1) }
 {

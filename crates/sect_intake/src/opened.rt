@@ -49,7 +49,7 @@ where
     }
 }
 
-// Asks the commands of a table of the desk to which a keeper opened.
+/// Asks the commands of a table of the desk to which a keeper opened.
 fn ask_table<O: TextObject, S: Source, T: Sink, K: Keeper, C: Clock>(
     alloc: Global,
     table: Table,

@@ -74,7 +74,7 @@ pub(crate) fn take_end<O: TextObject, K: Keeper, C: Clock, T: Sink>(
     }
 }
 
-// Asks the commands that the bytes of a table show behind those that were asked, before a bad row ends the run.
+/// Asks the commands that the bytes of a table show behind those that were asked, before a bad row ends the run.
 fn ask_shown<O: TextObject, K: Keeper, C: Clock, T: Sink>(
     asker: &mut Asker<O, K, C>,
     sink: &mut T,
@@ -103,7 +103,7 @@ fn ask_shown<O: TextObject, K: Keeper, C: Clock, T: Sink>(
     }
 }
 
-// The row of an open command where no number is left.
+/// The row of an open command where no number is left.
 fn open_without(next: Option<u64>, open_row: Option<u64>) -> Option<u64>
     ensures { result ≡ open_without next open_row }
 {
@@ -113,7 +113,7 @@ fn open_without(next: Option<u64>, open_row: Option<u64>) -> Option<u64>
     }
 }
 
-// The bad row that an import answered, if any.
+/// The bad row that an import answered, if any.
 fn bad_row(fed: Result<(), CsvFault>) -> Result<Option<(u64, u32)>, Memory>
     ensures { TellsFault fed result }
 {

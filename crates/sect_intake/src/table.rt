@@ -21,10 +21,10 @@ use sect_script::RunEnd;
 use sect_time::Day;
 use std::alloc::Global;
 
-// How many bytes a table may have.
+/// How many bytes a table may have.
 const MOST_BYTES: u64 = 4_294_967_296;
 
-// How many bytes a read gives at most.
+/// How many bytes a read gives at most.
 const PIECE: usize = 65_536;
 
 /// Asks the commands of a table as registrar 0, each on the clock's day, by rising numbers from the first on, and writes the
@@ -69,7 +69,7 @@ pub fn run_table<O: TextObject, K: Keeper, C: Clock, S: Source, T: Sink>(
     }
 }
 
-// Reads a piece, and asks the commands that it shows. The end is there where the run ends.
+/// Reads a piece, and asks the commands that it shows. The end is there where the run ends.
 fn turn<O: TextObject, K: Keeper, C: Clock, S: Source, T: Sink>(
     alloc: Global,
     import: &mut Import,
@@ -108,7 +108,7 @@ fn turn<O: TextObject, K: Keeper, C: Clock, S: Source, T: Sink>(
     }
 }
 
-// Reads a piece of so many bytes at most, and none at the end. The buffer shrinks to as many.
+/// Reads a piece of so many bytes at most, and none at the end. The buffer shrinks to as many.
 fn read_piece<S: Source>(source: &mut S, buffer: &mut Vec<u8>, most: u64) -> Result<usize, Failed>
     requires some { 0 < most }
     requires room { 0 < length buffer.old.items }
@@ -123,7 +123,7 @@ fn read_piece<S: Source>(source: &mut S, buffer: &mut Vec<u8>, most: u64) -> Res
     source.read(buffer)
 }
 
-// Looks for the end behind as many bytes as a table may have.
+/// Looks for the end behind as many bytes as a table may have.
 fn end_of_bytes<O: TextObject, K: Keeper, C: Clock, S: Source, T: Sink>(
     alloc: Global,
     import: &mut Import,
@@ -154,7 +154,7 @@ fn end_of_bytes<O: TextObject, K: Keeper, C: Clock, S: Source, T: Sink>(
     }
 }
 
-// Whether another byte comes, which is taken.
+/// Whether another byte comes, which is taken.
 fn has_more<S: Source>(source: &mut S, buffer: &mut Vec<u8>) -> Result<bool, Failed>
     requires room { 0 < length buffer.old.items }
     ensures looks { IfOk result (λ more. LooksPast more (S.left source.old) (S.left source.new)) }
@@ -166,7 +166,7 @@ fn has_more<S: Source>(source: &mut S, buffer: &mut Vec<u8>) -> Result<bool, Fai
     Ok(count > 0)
 }
 
-// The row behind so many, where it has a number.
+/// The row behind so many, where it has a number.
 fn row_after(rows: u64) -> Option<u64>
     ensures { IfSome result (λ row. row ≡ rows + 1) }
 {

@@ -31,7 +31,7 @@ fn done_text(alloc: Global, place: u32, reply: &str) -> Result<String, AllocErro
     done_value(alloc, place, reply)?.to_string(alloc)
 }
 
-// The object of a request that acted.
+/// The object of a request that acted.
 fn done(alloc: Global, place: u32, reply: &Reply) -> Result<String, Memory>
     ensures { IfOk result (λ s. string_bytes s
         ≡ codes "{\"place\":" ++ (decimal place ++ (codes ",\"reply\":" ++ (quoted (reply_text reply.now) ++ codes "}")))) }

@@ -13,7 +13,7 @@ use sect_words::Fault;
 use serde_json::Value;
 use std::alloc::Global;
 
-// The object that a body is, `None` exactly where it is none.
+/// The object that a body is, `None` exactly where it is none.
 fn object_in(alloc: Global, body: &[u8]) -> Result<Option<Value>, Memory>
     ensures { IfOk result (λ found. option_map view found ≡ object_in body.now) }
 {

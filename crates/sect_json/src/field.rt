@@ -12,7 +12,7 @@ use sect_words::Fault;
 use serde_json::Value;
 use std::alloc::Global;
 
-// The value of a member that has to be there.
+/// The value of a member that has to be there.
 pub(crate) fn required<T: Told>(alloc: Global, value: &Value, name: &str) -> Result<T, Fault>
     ensures { Means result (required T.reads name.now (view value.now)) }
 {
@@ -22,7 +22,7 @@ pub(crate) fn required<T: Told>(alloc: Global, value: &Value, name: &str) -> Res
     }
 }
 
-// The value of a member, or the default where it isn't there.
+/// The value of a member, or the default where it isn't there.
 pub(crate) fn optional<T: Told>(
     alloc: Global,
     value: &Value,
@@ -37,7 +37,7 @@ pub(crate) fn optional<T: Told>(
     }
 }
 
-// The number from 1 to `most` of a member, or the default where it isn't there.
+/// The number from 1 to `most` of a member, or the default where it isn't there.
 pub(crate) fn stated(value: &Value, name: &str, most: u32, default: u32) -> Result<u32, Fault>
     requires low { 0 < default }
     requires high { default ≤ most }
@@ -53,7 +53,7 @@ pub(crate) fn stated(value: &Value, name: &str, most: u32, default: u32) -> Resu
     }
 }
 
-// Whether a name is among these.
+/// Whether a name is among these.
 fn is_among(name: &str, names: &[&str]) -> bool
     ensures { result ≡ list_any (bytes_eq name.now) (map (λ n. n.now) names.now) }
 {
@@ -65,7 +65,7 @@ fn is_among(name: &str, names: &[&str]) -> bool
     false
 }
 
-// Whether the value is an object whose members all have one of these names.
+/// Whether the value is an object whose members all have one of these names.
 pub(crate) fn has_only(value: &Value, names: &[&str]) -> bool
     ensures { result ≡ has_only (map (λ n. n.now) names.now) (view value.now) }
 {

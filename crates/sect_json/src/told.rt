@@ -22,17 +22,17 @@ use sect_words::Fault;
 use serde_json::Value;
 use std::alloc::Global;
 
-// A value that is read from a JSON value.
+/// A value that is read from a JSON value.
 pub(crate) trait Told: Drop {
     // The value that some data says, where it says one.
     ghost reads: { Data → Option Self };
 
-    // `Bad` exactly where it says none, unless memory ran out.
+    /// `Bad` exactly where it says none, unless memory ran out.
     fn read(alloc: Global, value: &Value) -> Result<Self, Fault>
         ensures { Means result (reads (view value.now)) };
 }
 
-// The number of at most `most`, where the value is one in digits alone.
+/// The number of at most `most`, where the value is one in digits alone.
 #[tactic(auto, unfolding(crate::specs::Values::small))]
 pub(crate) fn small(value: &Value, most: u64) -> Option<u64>
     ensures range { IfSome result (λ n. n ≤ most) }
@@ -42,7 +42,7 @@ pub(crate) fn small(value: &Value, most: u64) -> Option<u64>
     if number <= most { Some(number) } else { None }
 }
 
-// The number from 1 to `most`.
+/// The number from 1 to `most`.
 #[tactic(auto, unfolding(crate::specs::Values::ranged))]
 pub(crate) fn ranged(value: &Value, most: u32) -> Option<u32>
     ensures range { IfSome result (λ n. (0 < n) × (n ≤ most)) }

@@ -32,7 +32,7 @@ use sect_words::Fault;
 use serde_json::Value;
 use std::alloc::Global;
 
-// What a body may ask for.
+/// What a body may ask for.
 #[derive(Clone, Copy, PartialEq, Eq, Debug)]
 pub(crate) enum Verb {
     Enrol,
@@ -44,7 +44,7 @@ pub(crate) enum Verb {
     Line,
 }
 
-// The verb of this name.
+/// The verb of this name.
 fn verb_of(name: &str) -> Option<Verb>
     ensures { result ≡ verb_of name.now }
 {
@@ -83,7 +83,7 @@ impl Told for Verb {
     }
 }
 
-// Whether each member of a body belongs to its verb.
+/// Whether each member of a body belongs to its verb.
 fn is_named(verb: Verb, value: &Value) -> bool
     ensures { result ≡ has_only_of (names_of verb) (view value.now) }
 {
@@ -204,7 +204,7 @@ fn unwait(alloc: Global, value: &Value) -> Result<Command, Fault>
     Ok(Command::Unwait { student, ticket })
 }
 
-// The command that a text is.
+/// The command that a text is.
 fn written(alloc: Global, text: &str) -> Result<Command, Fault>
     ensures { Means result (written text.now) }
 {
@@ -215,7 +215,7 @@ fn written(alloc: Global, text: &str) -> Result<Command, Fault>
     }
 }
 
-// The command that stands in the member `text`.
+/// The command that stands in the member `text`.
 fn line(alloc: Global, value: &Value) -> Result<Command, Fault>
     ensures { Means result (required_of text_in (codes "text") (view value.now)) }
 {
@@ -241,7 +241,7 @@ fn arguments(alloc: Global, verb: Verb, value: &Value) -> Result<Command, Fault>
     }
 }
 
-// The command of a body with this verb.
+/// The command of a body with this verb.
 #[tactic(auto, unfolding(crate::specs::Bodies::command_with))]
 pub(crate) fn command(alloc: Global, verb: Verb, value: &Value) -> Result<Command, Fault>
     ensures { Means result (command_with verb (view value.now)) }

@@ -26,7 +26,7 @@ pub fn read_ask(alloc: Global, rank: u64, row: &ByteRecord) -> Result<(StudentId
     request(alloc, rank, row)
 }
 
-// The request of a row with the table's number of fields.
+/// The request of a row with the table's number of fields.
 #[tactic(auto, unfolding(crate::specs::Lines::ask_fields))]
 fn request(alloc: Global, rank: u64, row: &ByteRecord) -> Result<(StudentId, Ask), LineFault>
     ensures { Tells result (ask_fields rank (fields_of row.now)) }
@@ -37,7 +37,7 @@ fn request(alloc: Global, rank: u64, row: &ByteRecord) -> Result<(StudentId, Ask
     Ok((student, ask))
 }
 
-// The rank, where the field's text is its digits.
+/// The rank, where the field's text is its digits.
 fn rank_at(rank: u64, row: &ByteRecord, number: u32) -> Result<u64, LineFault>
     ensures { Tells result (told number (rank_of rank (field_of (fields_of row.now) number))) }
 {
@@ -49,7 +49,7 @@ fn rank_at(rank: u64, row: &ByteRecord, number: u32) -> Result<u64, LineFault>
     }
 }
 
-// What a row of this kind asks for.
+/// What a row of this kind asks for.
 fn request_of_kind(alloc: Global, kind: &[u8], row: &ByteRecord) -> Result<Ask, LineFault>
     ensures { Tells result (kind_fields kind.now (fields_of row.now)) }
 {
@@ -62,7 +62,7 @@ fn request_of_kind(alloc: Global, kind: &[u8], row: &ByteRecord) -> Result<Ask, 
     }
 }
 
-// Some courses, of which one is asked for.
+/// Some courses, of which one is asked for.
 #[tactic(auto, unfolding(crate::specs::Lines::course_fields))]
 fn course_request(alloc: Global, row: &ByteRecord) -> Result<Ask, LineFault>
     ensures { Tells result (course_fields (fields_of row.now)) }
@@ -77,7 +77,7 @@ fn course_request(alloc: Global, row: &ByteRecord) -> Result<Ask, LineFault>
     }))
 }
 
-// A time that is to be kept free, whose flags are no.
+/// A time that is to be kept free, whose flags are no.
 #[tactic(auto, unfolding(crate::specs::Lines::free_fields))]
 fn free_request(alloc: Global, row: &ByteRecord) -> Result<Ask, LineFault>
     ensures { Tells result (free_fields (fields_of row.now)) }
@@ -88,7 +88,7 @@ fn free_request(alloc: Global, row: &ByteRecord) -> Result<Ask, LineFault>
     Ok(Ask::Free(meeting))
 }
 
-// No, where the field says it.
+/// No, where the field says it.
 fn no_at(row: &ByteRecord, number: u32) -> Result<bool, LineFault>
     ensures { Tells result (told number (no_of (field_of (fields_of row.now) number))) }
 {

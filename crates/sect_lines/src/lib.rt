@@ -1,4 +1,4 @@
-// The values of one row of an imported table, or the first field that isn't in its form.
+//! The values of one row of an imported table, or the first field that isn't in its form.
 #![tactic(auto)]
 
 mod ask;

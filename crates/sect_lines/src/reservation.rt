@@ -26,7 +26,7 @@ pub fn read_reservation(
     reservation(alloc, has_first, row)
 }
 
-// The reservation of a row with the table's number of fields.
+/// The reservation of a row with the table's number of fields.
 #[tactic(auto, unfolding(crate::specs::Lines::reservation_fields))]
 fn reservation(alloc: Global, has_first: bool, row: &ByteRecord) -> Result<ReserveRow, LineFault>
     ensures { Tells result (reservation_fields has_first (fields_of row.now)) }

@@ -34,7 +34,7 @@ pub fn read_section(
     section(alloc, term, before, row)
 }
 
-// The section of a row with the table's number of fields.
+/// The section of a row with the table's number of fields.
 #[tactic(auto, unfolding(crate::specs::Lines::section_fields))]
 fn section(
     alloc: Global,
@@ -68,7 +68,7 @@ fn section(
     })
 }
 
-// The courses of the offering, which the row before has word for word.
+/// The courses of the offering, which the row before has word for word.
 fn courses_at(
     alloc: Global,
     before: Option<&Before>,
@@ -89,7 +89,7 @@ fn courses_at(
     }
 }
 
-// The limit of the configuration, which the row before has word for word where its configuration is the same.
+/// The limit of the configuration, which the row before has word for word where its configuration is the same.
 fn config_limit_at(
     alloc: Global,
     before: Option<&Before>,
@@ -108,7 +108,7 @@ fn config_limit_at(
     value_at(alloc, row, number)
 }
 
-// When the section meets.
+/// When the section meets.
 fn meetings_at(
     alloc: Global,
     term: Option<Day>,

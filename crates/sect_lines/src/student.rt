@@ -21,7 +21,7 @@ pub fn read_student(alloc: Global, row: &ByteRecord) -> Result<StudentRow, LineF
     student(alloc, row)
 }
 
-// The student of a row with the table's number of fields.
+/// The student of a row with the table's number of fields.
 #[tactic(auto, unfolding(crate::specs::Lines::student_fields))]
 fn student(alloc: Global, row: &ByteRecord) -> Result<StudentRow, LineFault>
     ensures { Tells result (student_fields (fields_of row.now)) }

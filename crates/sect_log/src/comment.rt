@@ -11,7 +11,7 @@ use sect_model::Placed;
 use sect_text::print_reply;
 use sect_words::{print_bytes, print_marked, print_number};
 
-// How many bytes a line may have before its line feed.
+/// How many bytes a line may have before its line feed.
 const MAX_LINE: usize = 65_536;
 
 /// Appends the reply at a place as a comment. After `Memory` a part of it may stand at the end.
@@ -32,7 +32,7 @@ pub fn print_placed_comment(placed: &Placed, into: &mut Vec<u8>) -> Result<(), M
     end_comment(start, into)
 }
 
-// Appends `# PLACE REPLY`.
+/// Appends `# PLACE REPLY`.
 fn print_reply_words(place: u32, reply: &Reply, into: &mut Vec<u8>) -> Result<(), Memory>
     ensures { OnOk result (into.new.items ≡ into.old.items ++ (35 ∷ 32 ∷ (decimal place ++ 32 ∷ reply_text reply.now))) }
 {
@@ -42,7 +42,7 @@ fn print_reply_words(place: u32, reply: &Reply, into: &mut Vec<u8>) -> Result<()
     print_reply(reply, into)
 }
 
-// Appends `# placed TICKET STUDENT CHOICE`.
+/// Appends `# placed TICKET STUDENT CHOICE`.
 fn print_placed_words(placed: &Placed, into: &mut Vec<u8>) -> Result<(), Memory>
     ensures { OnOk result (into.new.items ≡ into.old.items ++ (35 ∷ 32 ∷ sentence (placed_words placed.now))) }
 {
@@ -52,7 +52,7 @@ fn print_placed_words(placed: &Placed, into: &mut Vec<u8>) -> Result<(), Memory>
     print_marked(b' ', &placed.choice, into)
 }
 
-// Ends the comment that begins at a place: it is cut to what a line may have, and gets its line feed.
+/// Ends the comment that begins at a place: it is cut to what a line may have, and gets its line feed.
 fn end_comment(start: usize, into: &mut Vec<u8>) -> Result<(), Memory>
     requires { (before : List ℕ) × (comment : List ℕ) × (into.old.items ≡ before ++ comment) × (start ≡ length before) }
     ensures { (before comment : List ℕ) → into.old.items ≡ before ++ comment → start ≡ length before

@@ -25,7 +25,7 @@ pub fn print_entry(
     print_all_placed(placed, into)
 }
 
-// Appends the request on its day.
+/// Appends the request on its day.
 fn print_request(entry: &Entry<Command, Reply>, into: &mut Vec<u8>) -> Result<(), Memory>
     ensures { OnOk result (into.new.items ≡ into.old.items ++ request_text entry.now) }
 {
@@ -37,7 +37,7 @@ fn print_request(entry: &Entry<Command, Reply>, into: &mut Vec<u8>) -> Result<()
     print_bytes(b"\n", into)
 }
 
-// Appends a comment for each placement.
+/// Appends a comment for each placement.
 fn print_all_placed(placed: &[Placed], into: &mut Vec<u8>) -> Result<(), Memory>
     ensures { OnOk result (into.new.items ≡ into.old.items ++ flat_map placed_comment placed.now) }
 {

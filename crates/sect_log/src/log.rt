@@ -40,8 +40,8 @@ impl Teller for Log {
     }
 }
 
-// Appends the log of the desk's history, which acts again on a machine of its own. After `Memory` a part of it may stand at the
-// end.
+/// Appends the log of the desk's history, which acts again on a machine of its own. After `Memory` a part of it may stand at the
+/// end.
 fn print_log<K: Keeper>(
     alloc: Global,
     log: Log,
@@ -57,7 +57,7 @@ fn print_log<K: Keeper>(
     Ok(())
 }
 
-// Acts the entry's command, and appends the lines of the entry where it is told.
+/// Acts the entry's command, and appends the lines of the entry where it is told.
 fn print_next(
     machine: &mut Machine,
     log: Log,
@@ -72,7 +72,7 @@ fn print_next(
     print_told(log, place, entry, step.placed.as_slice(), into)
 }
 
-// Appends the lines of the entry, where it is told.
+/// Appends the lines of the entry, where it is told.
 fn print_told(
     log: Log,
     place: u32,
@@ -89,7 +89,7 @@ fn print_told(
     }
 }
 
-// Whether the entry is told: it stands where the log begins or behind, and concerns whom the log names.
+/// Whether the entry is told: it stands where the log begins or behind, and concerns whom the log names.
 fn is_told(log: Log, place: u32, entry: &Entry<Command, Reply>, placed: &[Placed]) -> bool
     ensures { result ≡ is_told log (record { place = place; entry = entry.now; placed = placed.now }) }
 {

@@ -53,7 +53,7 @@ pub fn names_section(
         || places_section(section, placed)
 }
 
-// Whether the student asks.
+/// Whether the student asks.
 fn is_caller(student: StudentId, caller: Caller) -> bool
     ensures { result ≡ is_caller student caller }
 {
@@ -63,14 +63,14 @@ fn is_caller(student: StudentId, caller: Caller) -> bool
     }
 }
 
-// Whether the student is listed.
+/// Whether the student is listed.
 fn lists_student(ids: &[StudentId], student: StudentId) -> bool
     ensures { result ≡ lists_student ids.now student }
 {
     ids.iter().any(|id| id.0 == student.0)
 }
 
-// Whether the audience lists the student.
+/// Whether the audience lists the student.
 fn audience_lists(student: StudentId, audience: &Audience) -> bool
     ensures { result ≡ audience_lists student audience.now }
 {
@@ -80,7 +80,7 @@ fn audience_lists(student: StudentId, audience: &Audience) -> bool
     }
 }
 
-// Whether the command names the student.
+/// Whether the command names the student.
 fn command_names_student(student: StudentId, command: &Command) -> bool
     ensures { result ≡ command_names_student student command.now }
 {
@@ -99,21 +99,21 @@ fn command_names_student(student: StudentId, command: &Command) -> bool
     }
 }
 
-// Whether one of the placements is the student's.
+/// Whether one of the placements is the student's.
 fn places_student(student: StudentId, placed: &[Placed]) -> bool
     ensures { result ≡ places_student student placed.now }
 {
     placed.iter().any(|one| one.student.0 == student.0)
 }
 
-// Whether the section is listed.
+/// Whether the section is listed.
 fn lists_section(ids: &[SectionId], section: SectionId) -> bool
     ensures { result ≡ lists_section ids.now section }
 {
     ids.iter().any(|id| id.0 == section.0)
 }
 
-// Whether the offering has the section.
+/// Whether the offering has the section.
 fn offering_has(section: SectionId, row: &OfferingRow) -> bool
     ensures { result ≡ offering_has section row.now }
 {
@@ -123,7 +123,7 @@ fn offering_has(section: SectionId, row: &OfferingRow) -> bool
         .any(|config| config_has(section, config))
 }
 
-// Whether the configuration has the section.
+/// Whether the configuration has the section.
 fn config_has(section: SectionId, row: &ConfigRow) -> bool
     ensures { result ≡ config_has section row.now }
 {
@@ -133,7 +133,7 @@ fn config_has(section: SectionId, row: &ConfigRow) -> bool
         .any(|subpart| has_section(section, subpart))
 }
 
-// Whether the subpart has the section.
+/// Whether the subpart has the section.
 fn has_section(section: SectionId, row: &SubpartRow) -> bool
     ensures { result ≡ has_section section row.now }
 {
@@ -143,7 +143,7 @@ fn has_section(section: SectionId, row: &SubpartRow) -> bool
         .any(|listed| listed.id.0 == section.0)
 }
 
-// Whether the section is the one whose limit is set.
+/// Whether the section is the one whose limit is set.
 fn caps_section(section: SectionId, cap: Cap) -> bool
     ensures { result ≡ caps_section section cap }
 {
@@ -153,14 +153,14 @@ fn caps_section(section: SectionId, cap: Cap) -> bool
     }
 }
 
-// Whether the want lists the section.
+/// Whether the want lists the section.
 fn wants_section(section: SectionId, want: &Want) -> bool
     ensures { result ≡ wants_section section want.now }
 {
     lists_section(want.only.as_slice(), section)
 }
 
-// Whether the command names the section.
+/// Whether the command names the section.
 fn command_names_section(section: SectionId, command: &Command) -> bool
     ensures { result ≡ command_names_section section command.now }
 {
@@ -179,14 +179,14 @@ fn command_names_section(section: SectionId, command: &Command) -> bool
     }
 }
 
-// Whether the choice takes the section.
+/// Whether the choice takes the section.
 fn takes_section(section: SectionId, choice: &Choice) -> bool
     ensures { result ≡ takes_section section choice.now }
 {
     lists_section(choice.sections.as_slice(), section)
 }
 
-// Whether the line of a batch takes the section.
+/// Whether the line of a batch takes the section.
 fn line_takes(section: SectionId, line: &Line) -> bool
     ensures { result ≡ line_takes section line.now }
 {
@@ -196,7 +196,7 @@ fn line_takes(section: SectionId, line: &Line) -> bool
     }
 }
 
-// Whether the reply takes the section.
+/// Whether the reply takes the section.
 fn reply_takes(section: SectionId, reply: &Reply) -> bool
     ensures { result ≡ reply_takes section reply.now }
 {
@@ -214,7 +214,7 @@ fn reply_takes(section: SectionId, reply: &Reply) -> bool
     }
 }
 
-// Whether one of the placements takes the section.
+/// Whether one of the placements takes the section.
 fn places_section(section: SectionId, placed: &[Placed]) -> bool
     ensures { result ≡ places_section section placed.now }
 {

@@ -30,7 +30,7 @@ pub(crate) fn offering(alloc: Global, i: u32) -> Result<Command, Memory>
     }))
 }
 
-// The course of offering `i`, alone.
+/// The course of offering `i`, alone.
 fn one_course(alloc: Global, i: u32) -> Result<Items<CourseRow>, Memory>
     ensures { IfOk result (λ courses. courses ≡ record { id = record { 0 = i }; limit = Unlimited; credits = 3 } ∷ []) }
 {
@@ -43,7 +43,7 @@ fn one_course(alloc: Global, i: u32) -> Result<Items<CourseRow>, Memory>
     Ok(Items::from_vec(courses))
 }
 
-// The configuration, alone.
+/// The configuration, alone.
 fn one_config(alloc: Global, config: ConfigRow) -> Result<Items<ConfigRow>, Memory>
     ensures { IfOk result (λ configs. configs ≡ config ∷ []) }
 {
@@ -52,7 +52,7 @@ fn one_config(alloc: Global, config: ConfigRow) -> Result<Items<ConfigRow>, Memo
     Ok(Items::from_vec(configs))
 }
 
-// The subparts of offering `i`.
+/// The subparts of offering `i`.
 fn subparts(alloc: Global, i: u32) -> Result<Items<SubpartRow>, Memory>
     requires first { 1 ≤ i }
     requires few { i ≤ 100 }
@@ -70,7 +70,7 @@ fn subparts(alloc: Global, i: u32) -> Result<Items<SubpartRow>, Memory>
     Ok(Items::from_vec(subparts))
 }
 
-// A list of both sections.
+/// A list of both sections.
 fn pair(alloc: Global, first: SectionRow, second: SectionRow) -> Result<Items<SectionRow>, Memory>
     ensures { IfOk result (λ sections. sections ≡ first ∷ second ∷ []) }
 {
@@ -80,7 +80,7 @@ fn pair(alloc: Global, first: SectionRow, second: SectionRow) -> Result<Items<Se
     Ok(Items::from_vec(sections))
 }
 
-// A section of the first subpart.
+/// A section of the first subpart.
 fn parent(alloc: Global, i: u32, k: u32) -> Result<SectionRow, Memory>
     requires first { 1 ≤ i }
     requires few { i ≤ 100 }
@@ -95,7 +95,7 @@ fn parent(alloc: Global, i: u32, k: u32) -> Result<SectionRow, Memory>
     })
 }
 
-// A section of the second subpart, whose parent is that of the first with its number.
+/// A section of the second subpart, whose parent is that of the first with its number.
 fn child(alloc: Global, i: u32, k: u32) -> Result<SectionRow, Memory>
     requires first { 1 ≤ i }
     requires few { i ≤ 100 }
@@ -110,7 +110,7 @@ fn child(alloc: Global, i: u32, k: u32) -> Result<SectionRow, Memory>
     })
 }
 
-// The one meeting of a section of offering `i`.
+/// The one meeting of a section of offering `i`.
 fn meetings(alloc: Global, i: u32, weekday: u32) -> Result<Items<Meeting>, Memory>
     requires week { weekday < 5 }
     ensures { IfOk result (λ meetings. meetings ≡ meeting_on i weekday ∷ []) }
@@ -120,7 +120,7 @@ fn meetings(alloc: Global, i: u32, weekday: u32) -> Result<Items<Meeting>, Memor
     Ok(Items::from_vec(meetings))
 }
 
-// The meeting of offering `i` on a weekday.
+/// The meeting of offering `i` on a weekday.
 fn meeting(i: u32, weekday: u32) -> Meeting
     requires week { weekday < 5 }
     ensures { result ≡ meeting_on i weekday }
@@ -132,7 +132,7 @@ fn meeting(i: u32, weekday: u32) -> Meeting
     }
 }
 
-// The bit of a weekday.
+/// The bit of a weekday.
 fn day_bit(weekday: u32) -> u8
     requires week { weekday < 5 }
     ensures bit { result ≡ 2 ^ weekday }
@@ -172,7 +172,7 @@ pub(crate) fn requests(alloc: Global, n: u32, s: u32) -> Result<Command, Memory>
     })
 }
 
-// The first requests of student `s`.
+/// The first requests of student `s`.
 fn asks(alloc: Global, n: u32, s: u32, count: u32) -> Result<Items<Ask>, Memory>
     requires first { 1 ≤ n }
     requires few { s ≤ 2000 }
@@ -186,7 +186,7 @@ fn asks(alloc: Global, n: u32, s: u32, count: u32) -> Result<Items<Ask>, Memory>
     Ok(Items::from_vec(asks))
 }
 
-// The request of student `s` for the `j`-th course behind that of their number.
+/// The request of student `s` for the `j`-th course behind that of their number.
 fn ask(alloc: Global, n: u32, s: u32, j: u32) -> Result<Ask, Memory>
     requires first { 1 ≤ n }
     requires few { s ≤ 2000 }
@@ -213,7 +213,7 @@ pub(crate) fn batch(alloc: Global, n: u32, number: u32) -> Result<Command, Memor
     Ok(Command::Batch { students })
 }
 
-// The students behind those before, so many.
+/// The students behind those before, so many.
 fn students(alloc: Global, before: u32, count: u32) -> Result<Items<StudentId>, Memory>
     requires before { before ≤ 2000 }
     requires hundred { count ≤ 100 }

@@ -18,7 +18,7 @@ use sect_time::Day;
 use sect_words::print_number;
 use std::alloc::Global;
 
-// A machine, and how many lines of its batches were met, blocked and spent.
+/// A machine, and how many lines of its batches were met, blocked and spent.
 #[derive(Drop)]
 pub(crate) struct Maker {
     machine: Machine,
@@ -27,7 +27,7 @@ pub(crate) struct Maker {
     spent: usize,
 }
 
-// The kinds of the generated commands, in their order.
+/// The kinds of the generated commands, in their order.
 #[derive(Clone, Copy, Debug, PartialEq, Eq)]
 pub(crate) enum Stage {
     Offerings,
@@ -64,7 +64,7 @@ pub fn made_machine(alloc: Global, offerings: u32, day: Day) -> Result<Machine, 
     Ok(machine)
 }
 
-// Asks the commands on the day, and writes the summary.
+/// Asks the commands on the day, and writes the summary.
 fn tell<T: Sink>(alloc: Global, offerings: u32, day: Day, sink: &mut T) -> Status
     requires first { 1 ≤ offerings }
     requires few { offerings ≤ 100 }
@@ -79,7 +79,7 @@ fn tell<T: Sink>(alloc: Global, offerings: u32, day: Day, sink: &mut T) -> Statu
     }
 }
 
-// Writes the summary of what became of the requests.
+/// Writes the summary of what became of the requests.
 fn write_summary<T: Sink>(alloc: Global, offerings: u32, maker: &Maker, sink: &mut T) -> Status
     requires few { offerings ≤ 100 }
     ensures prints { Prints (summary_line offerings (tally_in maker.now)) (T.taken sink.old) (T.taken sink.new) result }
@@ -97,7 +97,7 @@ fn write_summary<T: Sink>(alloc: Global, offerings: u32, maker: &Maker, sink: &m
     }
 }
 
-// Asks all the commands of an empty machine.
+/// Asks all the commands of an empty machine.
 fn made(alloc: Global, offerings: u32, day: Day) -> Result<Maker, Memory>
     requires first { 1 ≤ offerings }
     requires few { offerings ≤ 100 }
@@ -116,7 +116,7 @@ fn made(alloc: Global, offerings: u32, day: Day) -> Result<Maker, Memory>
     Ok(maker)
 }
 
-// Asks all commands of a kind.
+/// Asks all commands of a kind.
 fn ask_all(
     alloc: Global,
     maker: &mut Maker,
@@ -135,7 +135,7 @@ fn ask_all(
     Ok(())
 }
 
-// How many commands of the kind there are.
+/// How many commands of the kind there are.
 fn count_of(stage: Stage, offerings: u32) -> u32
     requires few { offerings ≤ 100 }
     ensures { result ≡ stage_count stage offerings }
@@ -148,7 +148,7 @@ fn count_of(stage: Stage, offerings: u32) -> u32
     }
 }
 
-// The command of the kind at the place.
+/// The command of the kind at the place.
 fn command_at(alloc: Global, stage: Stage, offerings: u32, place: u32) -> Result<Command, Memory>
     requires first { 1 ≤ offerings }
     requires few { offerings ≤ 100 }
@@ -163,7 +163,7 @@ fn command_at(alloc: Global, stage: Stage, offerings: u32, place: u32) -> Result
     }
 }
 
-// Asks the command as registrar 1 on the day, and counts the lines of the reply.
+/// Asks the command as registrar 1 on the day, and counts the lines of the reply.
 fn ask(maker: &mut Maker, day: Day, command: &Command) -> Result<(), Memory>
     ensures { OnOk result (tally_in maker.new ≡ tallied day (tally_in maker.old) command.now) }
 {
@@ -171,7 +171,7 @@ fn ask(maker: &mut Maker, day: Day, command: &Command) -> Result<(), Memory>
     count(maker, lines_of(&reply))
 }
 
-// The lines of a batch's reply.
+/// The lines of a batch's reply.
 fn lines_of(reply: &Reply) -> &[Line]
     ensures { result.now ≡ lines_of reply.now }
 {
@@ -181,7 +181,7 @@ fn lines_of(reply: &Reply) -> &[Line]
     }
 }
 
-// Counts the lines. A count above the largest number is told as want of memory.
+/// Counts the lines. A count above the largest number is told as want of memory.
 fn count(maker: &mut Maker, lines: &[Line]) -> Result<(), Memory>
     ensures { OnOk result (tally_in maker.new ≡ counted (tally_in maker.old) (state_in maker.old.machine) lines.now) }
 {
@@ -191,7 +191,7 @@ fn count(maker: &mut Maker, lines: &[Line]) -> Result<(), Memory>
     Ok(())
 }
 
-// The sum, or want of memory where it is above the largest number.
+/// The sum, or want of memory where it is above the largest number.
 fn plus(count: usize, more: usize) -> Result<usize, Memory>
     ensures { IfOk result (λ sum. sum ≡ count + more) }
 {
@@ -201,49 +201,49 @@ fn plus(count: usize, more: usize) -> Result<usize, Memory>
     }
 }
 
-// How many of the lines were met.
+/// How many of the lines were met.
 fn met_among(lines: &[Line]) -> usize
     ensures { result ≡ count_by (λ line. result_is_met line.result) lines.now }
 {
     lines.iter().filter(|line| is_met(&line.result)).count()
 }
 
-// How many of the lines were blocked.
+/// How many of the lines were blocked.
 fn blocked_among(lines: &[Line]) -> usize
     ensures { result ≡ count_by (λ line. result_is_blocked line.result) lines.now }
 {
     lines.iter().filter(|line| is_blocked(&line.result)).count()
 }
 
-// How many of the lines had a search that was too long.
+/// How many of the lines had a search that was too long.
 fn spent_among(lines: &[Line]) -> usize
     ensures { result ≡ count_by (λ line. result_is_spent line.result) lines.now }
 {
     lines.iter().filter(|line| is_spent(&line.result)).count()
 }
 
-// Whether the request was met.
+/// Whether the request was met.
 fn is_met(of: &LineResult) -> bool
     ensures { result ≡ result_is_met of.now }
 {
     matches!(of, LineResult::Met(_))
 }
 
-// Whether it was blocked.
+/// Whether it was blocked.
 fn is_blocked(of: &LineResult) -> bool
     ensures { result ≡ result_is_blocked of.now }
 {
     matches!(of, LineResult::Blocked(_, _))
 }
 
-// Whether its search was too long.
+/// Whether its search was too long.
 fn is_spent(of: &LineResult) -> bool
     ensures { result ≡ result_is_spent of.now }
 {
     matches!(of, LineResult::Spent)
 }
 
-// Appends the summary. After `Memory` a part of it may stand at the end.
+/// Appends the summary. After `Memory` a part of it may stand at the end.
 fn print_summary(offerings: u32, maker: &Maker, into: &mut Vec<u8>) -> Result<(), Memory>
     requires few { offerings ≤ 100 }
     ensures { OnOk result (into.new.items ≡ into.old.items ++ summary_line offerings (tally_in maker.now)) }
@@ -257,7 +257,7 @@ fn print_summary(offerings: u32, maker: &Maker, into: &mut Vec<u8>) -> Result<()
     Ok(())
 }
 
-// Appends a word and a count.
+/// Appends a word and a count.
 fn print_count(word: &[u8], count: usize, into: &mut Vec<u8>) -> Result<(), Memory>
     ensures { OnOk result (into.new.items ≡ into.old.items ++ (word.now ++ decimal count)) }
 {

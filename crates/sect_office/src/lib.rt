@@ -1,4 +1,4 @@
-// A desk that threads ask in turn, in one history.
+//! A desk that threads ask in turn, in one history.
 #![tactic(auto)]
 
 pub mod laws;

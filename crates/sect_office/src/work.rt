@@ -31,7 +31,7 @@ pub trait Work<V: Chronicle>: Sized {
         ensures did { did self (front pass.old) (front pass.new) (own_calls pass.new) result };
 }
 
-// Runs the last work in a thread of its own and the others from this one, and puts what they give into `given`, in order.
+/// Runs the last work in a thread of its own and the others from this one, and puts what they give into `given`, in order.
 fn run_rest<V: Chronicle + Send, W: Work<V> + Send + Drop, R: Threads + Wait + Sync>(
     rt: &R,
     office: &OfficeOf<V>,

@@ -18,7 +18,7 @@ use sect_time::Day;
 use std::alloc::Global;
 use std::collections::BTreeMap;
 
-// A step that was taken: its entry, a copy of the reply, the entry's row, and how to undo it.
+/// A step that was taken: its entry, a copy of the reply, the entry's row, and how to undo it.
 pub(crate) struct Stepped<C, R, U> {
     pub(crate) entry: Entry<C, R>,
     pub(crate) reply: R,
@@ -26,10 +26,10 @@ pub(crate) struct Stepped<C, R, U> {
     pub(crate) undo: U,
 }
 
-// The bytes for which a row has room from the start: most rows are shorter.
+/// The bytes for which a row has room from the start: most rows are shorter.
 const ROW_ROOM: usize = 256;
 
-// A copy of the entry's reply, and its row.
+/// A copy of the entry's reply, and its row.
 fn written<O: Object>(
     alloc: Global,
     entry: &Entry<O::Command, O::Reply>,
@@ -43,7 +43,7 @@ fn written<O: Object>(
     Ok((reply, row))
 }
 
-// Steps the object, and prints what is to be kept of it, which has a row.
+/// Steps the object, and prints what is to be kept of it, which has a row.
 fn step<O: Object>(
     alloc: Global,
     object: &mut O,
@@ -80,7 +80,7 @@ fn step<O: Object>(
     }
 }
 
-// Appends the row, and gives the id its place.
+/// Appends the row, and gives the id its place.
 fn keep<K: Keeper>(
     places: &mut BTreeMap<Id, u32>,
     keeper: &mut K,

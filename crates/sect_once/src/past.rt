@@ -38,14 +38,14 @@ pub(crate) const MOST_NOTES: usize = 1 << 20;
 /// The bytes of rows with which a log is full.
 pub(crate) const MOST_BYTES: u64 = 1 << 28;
 
-// The place of an id.
+/// The place of an id.
 fn place_of(places: &BTreeMap<Id, u32>, id: &Id) -> Option<u32>
     ensures { result ≡ get ⟦<Id as Ord>⟧.cmp places.now id.now }
 {
     places.get(id).copied()
 }
 
-// Gives a new id its place.
+/// Gives a new id its place.
 pub(crate) fn place_in(places: &mut BTreeMap<Id, u32>, id: Id, place: u32) -> Result<(), Memory>
     requires { get ⟦<Id as Ord>⟧.cmp places.old id ≡ None }
     ensures places { OnOk result ((q : Id) → get ⟦<Id as Ord>⟧.cmp places.new q ≡ cond (is_at (⟦<Id as Ord>⟧.cmp id) q) (Some place) (get ⟦<Id as Ord>⟧.cmp places.old q)) }
@@ -64,7 +64,7 @@ fn entry_at<C, R>(entries: &[Entry<C, R>], place: u32) -> &Entry<C, R>
     &entries[place as usize]
 }
 
-// What an entry is to a command with its id.
+/// What an entry is to a command with its id.
 fn seen_at<O: Object>(entry: &Entry<O::Command, O::Reply>, place: u32, command: &O::Command) -> Seen
     ensures { SeesEntry entry.now place command.now result }
 {

@@ -183,7 +183,7 @@ fn read_batch_command(alloc: Global, words: &mut Parts) -> Result<Command, Fault
     })
 }
 
-// What stands behind a verb. Where `shown`, a default may be written.
+/// What stands behind a verb. Where `shown`, a default may be written.
 pub(crate) fn read_arguments(
     alloc: Global,
     shown: bool,
@@ -212,7 +212,7 @@ pub(crate) fn read_arguments(
     }
 }
 
-// A command. Where `shown`, a default may be written.
+/// A command. Where `shown`, a default may be written.
 #[tactic(auto, unfolding(crate::specs::ReadingCommands::command_at))]
 pub(crate) fn read_command_words(
     alloc: Global,

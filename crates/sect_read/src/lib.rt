@@ -1,4 +1,4 @@
-// Lines, commands, replies and entry rows are read.
+//! Lines, commands, replies and entry rows are read.
 #![tactic(auto)]
 
 mod commands;

@@ -27,7 +27,7 @@ pub struct LineAsk {
     pub command: Command,
 }
 
-// What stands behind `@` in the next word.
+/// What stands behind `@` in the next word.
 fn behind_at<'a>(words: &Parts<'a>) -> Option<&'a [u8]>
     ensures { option_map (λ text. text.now) result ≡ at_of words.now }
 {
@@ -37,7 +37,7 @@ fn behind_at<'a>(words: &Parts<'a>) -> Option<&'a [u8]>
     }
 }
 
-// `@` and a day, where the line names one.
+/// `@` and a day, where the line names one.
 #[tactic(auto, unfolding(crate::specs::ReadingLines::line_day_at))]
 fn read_line_day(alloc: Global, words: &mut Parts) -> Result<Option<Day>, Fault>
     ensures { Reads result words.new (line_day_at words.old) }
@@ -49,7 +49,7 @@ fn read_line_day(alloc: Global, words: &mut Parts) -> Result<Option<Day>, Fault>
     Ok(Some(Day::read(alloc, text)?))
 }
 
-// What stands before the verb.
+/// What stands before the verb.
 #[tactic(auto, unfolding(crate::specs::ReadingLines::front_at))]
 fn read_front(alloc: Global, words: &mut Parts) -> Result<(Option<Day>, Id), Fault>
     ensures { Reads result words.new (front_at words.old) }
@@ -59,7 +59,7 @@ fn read_front(alloc: Global, words: &mut Parts) -> Result<(Option<Day>, Id), Fau
     Ok((day, id))
 }
 
-// What the line asks.
+/// What the line asks.
 fn read_ask(alloc: Global, line: &[u8]) -> Result<LineAsk, WireFault>
     ensures { Says result (line_of line.now) }
 {
@@ -88,7 +88,7 @@ pub fn read_line(alloc: Global, line: &[u8]) -> Result<LineAsk, WireFault>
     read_ask(alloc, line)
 }
 
-// What the text of a command says.
+/// What the text of a command says.
 fn read_whole_command(alloc: Global, text: &[u8]) -> Result<Command, WireFault>
     ensures { Says result (command_in text.now) }
 {

@@ -32,7 +32,7 @@ use sect_people::{Ask, CourseAsk};
 use sect_words::{Fault, Parts};
 use std::alloc::Global;
 
-// A value that is read from several words. Where `shown`, a default may be written.
+/// A value that is read from several words. Where `shown`, a default may be written.
 pub(crate) trait ReadPhrase: Drop {
     // Whether such a value starts.
     ghost starts: { List (List ℕ) → Bool };
@@ -48,7 +48,7 @@ pub(crate) trait ReadPhrase: Drop {
         ensures shorter { IfOk result (λ _. length words.new < length words.old) };
 }
 
-// The values in a row, as long as another one starts.
+/// The values in a row, as long as another one starts.
 pub(crate) fn read_each<T: ReadPhrase>(
     alloc: Global,
     shown: bool,

@@ -53,7 +53,7 @@ pub(crate) fn read_student(alloc: Global, words: &mut Parts) -> Result<StudentRo
     })
 }
 
-// The first day, where one is named.
+/// The first day, where one is named.
 #[tactic(auto, unfolding(crate::specs::ReadingCommands::from_at))]
 fn read_from(alloc: Global, words: &mut Parts) -> Result<Option<Day>, Fault>
     ensures { Reads result words.new (from_at words.old) }
@@ -133,7 +133,7 @@ fn read_section_cap(alloc: Global, words: &mut Parts) -> Result<Cap, Fault>
     Ok(Cap::Section(words.word(alloc)?))
 }
 
-// A level and its id.
+/// A level and its id.
 #[tactic(auto, unfolding(crate::specs::ReadingCommands::cap_at))]
 pub(crate) fn read_cap(alloc: Global, words: &mut Parts) -> Result<Cap, Fault>
     ensures { Reads result words.new (cap_at words.old) }

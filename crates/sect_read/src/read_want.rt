@@ -17,7 +17,7 @@ use sect_base::{Budget, CourseId, Items, SectionId, Want};
 use sect_words::{Fault, Parts};
 use std::alloc::Global;
 
-// A number from 1 to `most` behind its key, or the default where the key isn't there.
+/// A number from 1 to `most` behind its key, or the default where the key isn't there.
 #[tactic(auto, unfolding(crate::specs::ReadingCommands::stated_at))]
 pub(crate) fn read_stated(
     key: &[u8],
@@ -42,7 +42,7 @@ pub(crate) fn read_stated(
     Ok(number)
 }
 
-// The only sections that are wanted, or none where they aren't named.
+/// The only sections that are wanted, or none where they aren't named.
 #[tactic(auto, unfolding(crate::specs::ReadingCommands::only_at))]
 fn read_only(alloc: Global, shown: bool, words: &mut Parts) -> Result<Items<SectionId>, Fault>
     ensures reads { Reads result words.new (only_at shown words.old) }
@@ -89,7 +89,7 @@ impl ReadPhrase for Want {
     }
 }
 
-// The course that is given up, where there is one.
+/// The course that is given up, where there is one.
 #[tactic(auto, unfolding(crate::specs::ReadingCommands::optional_give_at))]
 pub(crate) fn read_give(alloc: Global, words: &mut Parts) -> Result<Option<CourseId>, Fault>
     ensures { Reads result words.new (optional_give_at words.old) }

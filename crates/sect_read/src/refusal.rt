@@ -22,7 +22,7 @@ use sect_reserve::ReserveFault;
 use sect_words::{Fault, Parts, same_bytes};
 use std::alloc::Global;
 
-// The next word, which is taken.
+/// The next word, which is taken.
 pub(crate) fn take_name<'a>(words: &mut Parts<'a>) -> Result<&'a [u8], Fault>
     ensures reads { ReadsAs (λ name. name.now) result words.new (word_at any_word words.old) }
     ensures shorter { IfOk result (λ _. length words.new < length words.old) }

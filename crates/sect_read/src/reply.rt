@@ -32,7 +32,7 @@ use sect_command::{Line, LineResult, Reply};
 use sect_words::{Fault, Parts, same_bytes};
 use std::alloc::Global;
 
-// How many decisions were visited, and the tree.
+/// How many decisions were visited, and the tree.
 #[tactic(auto, unfolding(crate::specs::ReadingReplies::blocked_at))]
 fn read_blocked(alloc: Global, words: &mut Parts) -> Result<(u32, Block), Fault>
     ensures reads { Reads result words.new (blocked_at words.old) }
@@ -197,7 +197,7 @@ fn read_named_reply(alloc: Global, name: &[u8], words: &mut Parts) -> Result<Rep
     Err(Fault::Bad)
 }
 
-// A reply.
+/// A reply.
 #[tactic(auto, unfolding(crate::specs::ReadingReplies::reply_at))]
 pub(crate) fn read_reply_words(alloc: Global, words: &mut Parts) -> Result<Reply, Fault>
     ensures { Reads result words.new (reply_at words.old) }
@@ -206,7 +206,7 @@ pub(crate) fn read_reply_words(alloc: Global, words: &mut Parts) -> Result<Reply
     read_named_reply(alloc, name, words)
 }
 
-// The reply of a text.
+/// The reply of a text.
 fn read_whole_reply(alloc: Global, text: &[u8]) -> Result<Reply, Fault>
     ensures { Means result (reply_of text.now) }
 {
@@ -216,7 +216,7 @@ fn read_whole_reply(alloc: Global, text: &[u8]) -> Result<Reply, Fault>
     Ok(reply)
 }
 
-// The reply of a text, where it has one.
+/// The reply of a text, where it has one.
 fn find_reply(alloc: Global, text: &[u8]) -> Result<Option<Reply>, Memory>
     ensures { Finds result (reply_of text.now) }
 {

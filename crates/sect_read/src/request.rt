@@ -8,7 +8,7 @@ ghost use Rattle.sect_read.specs.ReadingReplies.{request_at, request_of};
 use sect_words::{Fault, Parts, Readable};
 use std::alloc::Global;
 
-// The student and the request's position, from 1.
+/// The student and the request's position, from 1.
 #[derive(Clone, Copy)]
 pub(crate) struct Request {
     pub(crate) student: u32,

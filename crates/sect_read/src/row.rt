@@ -19,7 +19,7 @@ use sect_text::is_marked;
 use sect_words::{Fault, Parts};
 use std::alloc::Global;
 
-// A caller and a number.
+/// A caller and a number.
 #[tactic(auto, unfolding(crate::specs::ReadingLines::id_at))]
 pub(crate) fn read_id(alloc: Global, words: &mut Parts) -> Result<Id, Fault>
     ensures { Reads result words.new (id_at words.old) }
@@ -29,7 +29,7 @@ pub(crate) fn read_id(alloc: Global, words: &mut Parts) -> Result<Id, Fault>
     Ok(Id { caller, number })
 }
 
-// Whether both hold or neither does.
+/// Whether both hold or neither does.
 fn agree(a: bool, b: bool) -> bool
     ensures { result ≡ agrees a b }
 {
@@ -56,7 +56,7 @@ fn read_entry(alloc: Global, words: &mut Parts) -> Result<Entry<Command, Reply>,
     Ok(entry)
 }
 
-// The entry, where it has the mark that its command has.
+/// The entry, where it has the mark that its command has.
 fn checked(marked: bool, entry: Entry<Command, Reply>) -> Result<Entry<Command, Reply>, Fault>
     ensures { Means result (entry_if (agrees marked (has_mark entry.command)) entry) }
 {
@@ -67,7 +67,7 @@ fn checked(marked: bool, entry: Entry<Command, Reply>) -> Result<Entry<Command, 
     }
 }
 
-// The entry of a row.
+/// The entry of a row.
 fn read_whole_row(alloc: Global, row: &[u8]) -> Result<Entry<Command, Reply>, Fault>
     ensures { Means result (row_of row.now) }
 {
@@ -77,7 +77,7 @@ fn read_whole_row(alloc: Global, row: &[u8]) -> Result<Entry<Command, Reply>, Fa
     Ok(entry)
 }
 
-// The entry of a row, where it has one.
+/// The entry of a row, where it has one.
 fn find_entry(alloc: Global, row: &[u8]) -> Result<Option<Entry<Command, Reply>>, Memory>
     ensures { Finds result (row_of row.now) }
 {

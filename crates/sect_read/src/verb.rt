@@ -5,7 +5,7 @@ ghost use Rattle.sect_read.specs.ReadingCommands.{verb_of as verb_named, verb_te
 
 use sect_words::same_bytes;
 
-// The first word of a command.
+/// The first word of a command.
 #[derive(Clone, Copy, PartialEq, Eq, Debug)]
 pub(crate) enum Verb {
     Offering,
@@ -26,7 +26,7 @@ pub(crate) enum Verb {
     Batch,
 }
 
-// The verb of a word.
+/// The verb of a word.
 #[tactic(auto, unfolding(crate::specs::ReadingCommands::verb_of))]
 pub(crate) fn verb_of(word: &[u8]) -> Option<Verb>
     ensures { result ≡ verb_named word.now }

@@ -55,7 +55,7 @@ impl SqliteKeeper {
         }
     }
 
-    // What is answered for an error; where it isn't want of memory, it is counted.
+    /// What is answered for an error; where it isn't want of memory, it is counted.
     fn told(&mut self, error: Error) -> KeepFault
         ensures later { self.old.faults ≤ self.new.faults }
         ensures count { result ≡ KeepFault.Failed → Rose self.old.faults self.new.faults }
@@ -68,7 +68,7 @@ impl SqliteKeeper {
     }
 }
 
-// Want of memory, or a failure.
+/// Want of memory, or a failure.
 fn fault_of(error: Error) -> KeepFault {
     match error {
         Error::SqliteFailure(ErrorCode::OutOfMemory) => KeepFault::Memory,

@@ -5,13 +5,13 @@ use sqlite::types::ValueRef;
 use sqlite::{Error, params};
 use std::alloc::Global;
 
-// How many rows are read at once at most.
+/// How many rows are read at once at most.
 const MOST_ROWS: i64 = 256;
 
-// With this many bytes no more rows are read.
+/// With this many bytes no more rows are read.
 const MOST_BYTES: usize = 65_536;
 
-// The rows of some places, one behind the other.
+/// The rows of some places, one behind the other.
 #[derive(Drop)]
 pub struct Window {
     place: i64,
@@ -19,7 +19,7 @@ pub struct Window {
 }
 
 impl Window {
-    // Without rows.
+    /// Without rows.
     pub fn new(alloc: Global) -> Window {
         Window {
             place: 0,
@@ -27,13 +27,13 @@ impl Window {
         }
     }
 
-    // The row of a place, where it stands in the window.
+    /// The row of a place, where it stands in the window.
     pub fn row(&self, place: i64) -> Option<&[u8]> {
         let at = usize::try_from(place.checked_sub(self.place)?).ok()?;
         Some(self.rows.get(at)?.as_slice())
     }
 
-    // Moves to a place, unless its row stands in the window.
+    /// Moves to a place, unless its row stands in the window.
     pub fn reach(&mut self, database: &mut Database, place: i64) -> Result<(), Error> {
         if self.row(place).is_some() {
             return Ok(());
@@ -41,7 +41,7 @@ impl Window {
         self.move_to(database, place)
     }
 
-    // Reads the rows from a place on, up to the first that is missing. At an error none stands behind those that were read.
+    /// Reads the rows from a place on, up to the first that is missing. At an error none stands behind those that were read.
     pub fn move_to(&mut self, database: &mut Database, place: i64) -> Result<(), Error> {
         self.rows.clear();
         self.place = place;

@@ -1,4 +1,4 @@
-// The reports that a department reads: the text of a view, and the lines of which texts are made.
+//! The reports that a department reads: the text of a view, and the lines of which texts are made.
 #![tactic(auto)]
 
 mod answer;

@@ -39,7 +39,7 @@ pub fn print_line(words: &[Word], into: &mut Vec<u8>) -> Result<(), Memory>
     printed
 }
 
-// Appends the words of a line and its end. After `Memory` a part of it may stand at the end.
+/// Appends the words of a line and its end. After `Memory` a part of it may stand at the end.
 fn print_words(first: &Word, others: &[Word], into: &mut Vec<u8>) -> Result<(), Memory>
     ensures text { OnOk result (into.new.items ≡ into.old.items ++ (word_text first.now ++ more_words_text (map word_text others.now))) }
     ensures front { take (length into.old.items) into.new.items ≡ into.old.items }
@@ -51,7 +51,7 @@ fn print_words(first: &Word, others: &[Word], into: &mut Vec<u8>) -> Result<(), 
     end_line(into)
 }
 
-// Appends a space and a word. After `Memory` a part of them may stand at the end.
+/// Appends a space and a word. After `Memory` a part of them may stand at the end.
 fn print_next(word: &Word, into: &mut Vec<u8>) -> Result<(), Memory>
     ensures text { OnOk result (into.new.items ≡ into.old.items ++ 32 ∷ word_text word.now) }
     ensures front { take (length into.old.items) into.new.items ≡ into.old.items }
@@ -60,7 +60,7 @@ fn print_next(word: &Word, into: &mut Vec<u8>) -> Result<(), Memory>
     print_word(word, into)
 }
 
-// Appends a line feed. After `Memory` the bytes are as before.
+/// Appends a line feed. After `Memory` the bytes are as before.
 fn end_line(into: &mut Vec<u8>) -> Result<(), Memory>
     ensures text { OnOk result (into.new.items ≡ into.old.items ++ 10 ∷ []) }
     ensures memory { OnErr result (into.new.items ≡ into.old.items) }
@@ -69,7 +69,7 @@ fn end_line(into: &mut Vec<u8>) -> Result<(), Memory>
     Ok(())
 }
 
-// Appends a word. After `Memory` a part of it may stand at the end.
+/// Appends a word. After `Memory` a part of it may stand at the end.
 fn print_word(word: &Word, into: &mut Vec<u8>) -> Result<(), Memory>
     ensures text { OnOk result (into.new.items ≡ into.old.items ++ word_text word.now) }
     ensures front { take (length into.old.items) into.new.items ≡ into.old.items }

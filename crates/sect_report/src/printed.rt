@@ -32,7 +32,7 @@ pub(crate) fn print_each<P: Printed>(items: &[P], into: &mut Vec<u8>) -> Result<
     printed
 }
 
-// Appends the lines of each. After `Memory` a part of them may stand at the end.
+/// Appends the lines of each. After `Memory` a part of them may stand at the end.
 fn print_items<P: Printed>(items: &[P], into: &mut Vec<u8>) -> Result<(), Memory>
     ensures text { OnOk result (into.new.items ≡ into.old.items ++ flat_map P.lines items.now) }
     ensures front { take (length into.old.items) into.new.items ≡ into.old.items }

@@ -1,4 +1,4 @@
-// The lists of a world: reservations and restrictions in order of offering. What is told of a list of enrolments.
+//! The lists of a world: reservations and restrictions in order of offering. What is told of a list of enrolments.
 #![tactic(auto)]
 
 mod expiry;

@@ -11,7 +11,7 @@ use sect_base::{Caller, Id, OfferingId, SectionId, StudentId};
 use sect_command::Query;
 use sect_words::{Parts, parse_number, same_bytes};
 
-// The number of at most `most` of which these bytes are the text.
+/// The number of at most `most` of which these bytes are the text.
 fn number_of(word: &[u8], most: u64) -> Option<u64>
     ensures range { IfSome result (λ n. n ≤ most) }
     ensures reads { result ≡ number_of most word.now }
@@ -22,7 +22,7 @@ fn number_of(word: &[u8], most: u64) -> Option<u64>
     }
 }
 
-// The number in the next part, which is taken.
+/// The number in the next part, which is taken.
 fn number_at(parts: &mut Parts, most: u64) -> Option<u64>
     ensures range { IfSome result (λ n. n ≤ most) }
     ensures takes { Takes result parts.new (word_at (number_of most) parts.old) }
@@ -30,7 +30,7 @@ fn number_at(parts: &mut Parts, most: u64) -> Option<u64>
     number_of(parts.next()?, most)
 }
 
-// Takes the next part, which has to be this word.
+/// Takes the next part, which has to be this word.
 fn pass(parts: &mut Parts, word: &[u8]) -> Option<()>
     ensures { Passes result parts.new (key_at word.now parts.old) }
 {
@@ -65,7 +65,7 @@ fn report_at(parts: &mut Parts, name: &[u8], report: &[u8]) -> Option<u32>
     Some(id)
 }
 
-// The value, where nothing is left behind it.
+/// The value, where nothing is left behind it.
 fn ended<T: Copy>(parts: &Parts, value: T) -> Option<T>
     ensures { result ≡ ended (Some (value, parts.now)) }
 {
@@ -112,7 +112,7 @@ fn asked(caller: Caller, number: u64) -> Target
     Target::Ask(Id { caller, number })
 }
 
-// The target of a path that the route matches.
+/// The target of a path that the route matches.
 pub(crate) fn target_in(route: Route, path: &[u8]) -> Option<Target>
     ensures { result ≡ target_in route path.now }
 {

@@ -1,4 +1,4 @@
-// That each request with a text gets an entry that has a row.
+//! That each request with a text gets an entry that has a row.
 #![tactic(auto)]
 
 pub mod laws;

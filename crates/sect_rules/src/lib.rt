@@ -1,4 +1,4 @@
-// The options of a path of decisions, and the first rule that a decision breaks.
+//! The options of a path of decisions, and the first rule that a decision breaks.
 #![tactic(auto)]
 
 mod config;

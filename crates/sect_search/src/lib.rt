@@ -1,4 +1,4 @@
-// The search for the first allowed move, and the check of the tree that refutes every one.
+//! The search for the first allowed move, and the check of the tree that refutes every one.
 #![tactic(auto)]
 
 mod finding;

@@ -8,7 +8,7 @@ use sect_base::Memory;
 use sect_edge::Clock;
 use std::alloc::Global;
 
-// Room for so many workers, and for their links.
+/// Room for so many workers, and for their links.
 pub(crate) fn rooms<W, L>(alloc: Global, count: usize) -> Result<(Vec<W>, Vec<L>), Memory>
 where
     W: Drop,
@@ -21,7 +21,7 @@ where
     Ok((works, links))
 }
 
-// A worker for each link, with the clock at its place, one after another into `works`.
+/// A worker for each link, with the clock at its place, one after another into `works`.
 pub(crate) fn servers<'a, L: Drop, C: Clock + Drop, G>(
     alloc: Global,
     links: Vec<L>,
@@ -56,7 +56,7 @@ pub(crate) fn servers<'a, L: Drop, C: Clock + Drop, G>(
     works
 }
 
-// How the workers ended as one, and their links behind one another in `links`.
+/// How the workers ended as one, and their links behind one another in `links`.
 pub(crate) fn collect<L: Drop>(given: Vec<Back<L>>, mut links: Vec<L>) -> (ServeEnd, Vec<L>)
     requires room { (links.items ≡ []) × (vec_len given ≤ vec_capacity links) }
     ensures links { result.1.items ≡ map (λ b. b.link) given.items }
@@ -70,7 +70,7 @@ pub(crate) fn collect<L: Drop>(given: Vec<Back<L>>, mut links: Vec<L>) -> (Serve
     (end, links)
 }
 
-// The links of workers that didn't begin, behind one another in `links`.
+/// The links of workers that didn't begin, behind one another in `links`.
 pub(crate) fn links_of<'a, L: Drop, C: Drop, G>(
     works: Vec<Server<'a, L, C, G>>,
     mut links: Vec<L>,
@@ -84,7 +84,7 @@ pub(crate) fn links_of<'a, L: Drop, C: Drop, G>(
     links
 }
 
-// How serving ends where one more worker ended so.
+/// How serving ends where one more worker ended so.
 fn worse(end: ServeEnd, worker: WorkerEnd) -> ServeEnd
     ensures { result ≡ worse end worker }
 {

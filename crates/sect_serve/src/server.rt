@@ -82,7 +82,7 @@ impl<
     }
 }
 
-// Talks over at most so many connections, one after another, until none is to come or the link fails.
+/// Talks over at most so many connections, one after another, until none is to come or the link fails.
 fn work<O: TextObject<Query = Query, View = View>, K: Keeper, L: Link, C: Clock, G: Gate, R: Wait>(
     rt: &R,
     office: &Office<O, K>,
@@ -115,7 +115,7 @@ fn work<O: TextObject<Query = Query, View = View>, K: Keeper, L: Link, C: Clock,
     WorkerEnd::Done
 }
 
-// Talks over the next connection and hands it back.
+/// Talks over the next connection and hands it back.
 fn attend<
     O: TextObject<Query = Query, View = View>,
     K: Keeper,

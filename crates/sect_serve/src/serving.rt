@@ -84,12 +84,12 @@ where
     }
 }
 
-// An entry of an object has one row at most.
+/// An entry of an object has one row at most.
 fn an_entry_has_one_row<O: Object>()
     ensures { (e : Entry O.Command O.Reply) (a b : List ℕ) → O.is_row e a → O.is_row e b → a ≡ b }
 {}
 
-// Lets the workers serve at an office, and closes it.
+/// Lets the workers serve at an office, and closes it.
 fn serve_at<
     'a,
     O: TextObject<Query = Query, View = View> + Send,
@@ -134,7 +134,7 @@ where
     }
 }
 
-// Lets the workers serve at an office, and puts their links into `backs`, in order.
+/// Lets the workers serve at an office, and puts their links into `backs`, in order.
 fn work_all<
     'a,
     O: TextObject<Query = Query, View = View> + Send,
@@ -178,19 +178,19 @@ where
     }
 }
 
-// A value of the type may be sent to another thread.
+/// A value of the type may be sent to another thread.
 fn may_be_sent<T: Send>()
     ensures { IsSend T.row }
 {}
 
-// A reply may be sent to another thread.
+/// A reply may be sent to another thread.
 fn reply_may_be_sent()
     ensures { IsSend reply_row }
 {
     may_be_sent::<Reply>();
 }
 
-// Runs each work at the office of a desk that requests ask.
+/// Runs each work at the office of a desk that requests ask.
 fn run_requests<
     O: TextObject<Query = Query, View = View> + Send,
     K: Keeper + Send,
@@ -217,7 +217,7 @@ where
     run_desk(rt, alloc, office, pass, works)
 }
 
-// Runs each work at the office of a desk. That the desk may be sent to a thread rests on its parts alone.
+/// Runs each work at the office of a desk. That the desk may be sent to a thread rests on its parts alone.
 fn run_desk<
     O: Object + Send,
     K: Keeper + Send,

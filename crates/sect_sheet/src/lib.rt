@@ -1,4 +1,4 @@
-// Tables of rows as a registrar's spreadsheet takes them.
+//! Tables of rows as a registrar's spreadsheet takes them.
 #![tactic(auto)]
 
 mod catalog;

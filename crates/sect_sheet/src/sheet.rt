@@ -76,7 +76,7 @@ impl Sheet {
     }
 }
 
-// Puts these fields in a row, in place of those that it had.
+/// Puts these fields in a row, in place of those that it had.
 fn fill(fields: &[Field], word: &mut Vec<u8>, row: &mut ByteRecord) -> Result<(), Memory>
     ensures { OnOk result (fields_of row.new ≡ map field_text fields.now) }
 {

@@ -28,7 +28,7 @@ pub fn gather<O: Object<Query = Query, View = View>, K: Keeper>(
     Ok(courses)
 }
 
-// Puts the courses of an offering behind the others.
+/// Puts the courses of an offering behind the others.
 fn add_courses<O: Object<Query = Query, View = View>, K: Keeper>(
     desk: &Desk<O, K>,
     offering: OfferingId,
@@ -40,7 +40,7 @@ fn add_courses<O: Object<Query = Query, View = View>, K: Keeper>(
     add_view(&view, courses)
 }
 
-// Puts the courses of a view behind the others.
+/// Puts the courses of a view behind the others.
 fn add_view(view: &View, courses: &mut Vec<OpenCourse>) -> Result<(), Memory>
     ensures { OnOk result (courses.new.items ≡ courses.old.items ++ courses_in view.now) }
 {

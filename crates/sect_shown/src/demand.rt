@@ -28,7 +28,7 @@ pub fn print_courses(
     }
 }
 
-// Appends the lines of the courses.
+/// Appends the lines of the courses.
 fn print_each(
     asks: &[AsksView],
     entries: &[WaitView],
@@ -44,8 +44,8 @@ fn print_each(
     Ok(())
 }
 
-// Appends the line of a course: how many of the students ask for it, how many hold it, how many of the entries wait for it, and
-// its limit. After `Memory` the bytes are as before.
+/// Appends the line of a course: how many of the students ask for it, how many hold it, how many of the entries wait for it, and
+/// its limit. After `Memory` the bytes are as before.
 fn print_course(
     asks: &[AsksView],
     entries: &[WaitView],
@@ -70,21 +70,21 @@ fn print_course(
     print_line(&words, into)
 }
 
-// How many of the students ask for the course.
+/// How many of the students ask for the course.
 fn asked(asks: &[AsksView], course: CourseId) -> usize
     ensures { result ≡ length (filter (asks_for course) asks.now) }
 {
     asks.iter().filter(|row| asks_for(row, course)).count()
 }
 
-// Whether a request of the student is for the course.
+/// Whether a request of the student is for the course.
 fn asks_for(row: &AsksView, course: CourseId) -> bool
     ensures { result ≡ asks_for course row.now }
 {
     row.asks.as_slice().iter().any(|ask| lists(ask, course))
 }
 
-// Whether the request is for the course.
+/// Whether the request is for the course.
 fn lists(ask: &Ask, course: CourseId) -> bool
     ensures { result ≡ lists_course course ask.now }
 {
@@ -94,7 +94,7 @@ fn lists(ask: &Ask, course: CourseId) -> bool
     }
 }
 
-// How many of the entries wait for the course.
+/// How many of the entries wait for the course.
 fn waiting(entries: &[WaitView], course: CourseId) -> usize
     ensures { result ≡ length (filter (waits_for course) entries.now) }
 {
@@ -104,7 +104,7 @@ fn waiting(entries: &[WaitView], course: CourseId) -> usize
         .count()
 }
 
-// Whether the course is one of these.
+/// Whether the course is one of these.
 fn has_course(courses: &[CourseId], course: CourseId) -> bool
     ensures { result ≡ list_any (λ c. c.0 == course.0) courses.now }
 {

@@ -63,7 +63,7 @@ fn add_section(row: &SectionRow, held: &[Choice], hours: &mut Vec<Hour>) -> Resu
     Ok(())
 }
 
-// Adds the hours of a choice in the section, where it takes it.
+/// Adds the hours of a choice in the section, where it takes it.
 fn add_choice(row: &SectionRow, choice: &Choice, hours: &mut Vec<Hour>) -> Result<(), Memory>
     ensures { OnOk result (hours.new.items ≡ hours.old.items ++ choice_hours row.now choice.now) }
 {
@@ -74,7 +74,7 @@ fn add_choice(row: &SectionRow, choice: &Choice, hours: &mut Vec<Hour>) -> Resul
     }
 }
 
-// Whether the choice takes the section.
+/// Whether the choice takes the section.
 fn takes(choice: &Choice, section: SectionId) -> bool
     ensures { result ≡ lists_section choice.now.sections section }
 {

@@ -1,4 +1,4 @@
-// What a clerk is shown of a history: what is wanted of each course, and the week of a student.
+//! What a clerk is shown of a history: what is wanted of each course, and the week of a student.
 #![tactic(auto)]
 
 mod courses;

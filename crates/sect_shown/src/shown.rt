@@ -50,7 +50,7 @@ pub fn print_timetable<O: Object<Query = Query, View = View>, K: Keeper>(
     print_schedule(alloc, offerings_in(&offerings), &schedule, into)
 }
 
-// Appends the week of a schedule, or that the student is unknown.
+/// Appends the week of a schedule, or that the student is unknown.
 fn print_schedule(
     alloc: Global,
     rows: &[OfferingRow],
@@ -75,7 +75,7 @@ fn print_schedule(
     }
 }
 
-// The offerings of a view.
+/// The offerings of a view.
 fn offerings_in(view: &View) -> &[OfferingRow]
     ensures { result.now ≡ offerings_in view.now }
 {
@@ -85,7 +85,7 @@ fn offerings_in(view: &View) -> &[OfferingRow]
     }
 }
 
-// The requests of a view.
+/// The requests of a view.
 fn asks_in(view: &View) -> &[AsksView]
     ensures { result.now ≡ asks_in view.now }
 {
@@ -95,7 +95,7 @@ fn asks_in(view: &View) -> &[AsksView]
     }
 }
 
-// The waiting entries of a view.
+/// The waiting entries of a view.
 fn entries_in(view: &View) -> &[WaitView]
     ensures { result.now ≡ entries_in view.now }
 {

@@ -13,7 +13,7 @@ use sect_time::Meeting;
 use sect_words::Spelled;
 use std::alloc::Global;
 
-// The slots of a day, and of a week.
+/// The slots of a day, and of a week.
 const DAY_SLOTS: u16 = 288;
 
 const WEEK_SLOTS: u16 = 2016;
@@ -36,7 +36,7 @@ pub fn print_week(
     print_slots(&hours, WEEK_SLOTS, into)
 }
 
-// Appends the lines of the hours that begin at so many slots of the week, from its first on.
+/// Appends the lines of the hours that begin at so many slots of the week, from its first on.
 fn print_slots(hours: &[Hour], slots: u16, into: &mut Vec<u8>) -> Result<(), Memory>
     requires { slots ≤ 2016 }
     ensures text { OnOk result (into.new.items ≡ into.old.items ++ slots_text hours.now 0 slots) }
@@ -48,7 +48,7 @@ fn print_slots(hours: &[Hour], slots: u16, into: &mut Vec<u8>) -> Result<(), Mem
     Ok(())
 }
 
-// Appends the lines of the hours that begin at a slot of the week.
+/// Appends the lines of the hours that begin at a slot of the week.
 fn print_slot(hours: &[Hour], slot: u16, into: &mut Vec<u8>) -> Result<(), Memory>
     requires { slot < 2016 }
     ensures text { OnOk result (into.new.items ≡ into.old.items ++ slot_text hours.now slot) }
@@ -62,7 +62,7 @@ fn print_slot(hours: &[Hour], slot: u16, into: &mut Vec<u8>) -> Result<(), Memor
     Ok(())
 }
 
-// Appends the line of the hour, where it begins then.
+/// Appends the line of the hour, where it begins then.
 fn print_begun(hour: &Hour, day: u8, slot: u16, into: &mut Vec<u8>) -> Result<(), Memory>
     requires { day < 7 }
     ensures text { OnOk result (into.new.items ≡ into.old.items ++ begun_text day slot hour.now) }
@@ -75,7 +75,7 @@ fn print_begun(hour: &Hour, day: u8, slot: u16, into: &mut Vec<u8>) -> Result<()
     }
 }
 
-// Whether the hour begins on the weekday at the slot.
+/// Whether the hour begins on the weekday at the slot.
 fn begins_at(hour: &Hour, day: u8, slot: u16) -> bool
     requires { day < 7 }
     ensures { result ≡ begins_at day slot hour.now }
@@ -83,7 +83,7 @@ fn begins_at(hour: &Hour, day: u8, slot: u16) -> bool
     is_on(hour.meeting.days(), day) && hour.meeting.start() == slot
 }
 
-// Whether the weekday is one of these.
+/// Whether the weekday is one of these.
 fn is_on(days: u8, day: u8) -> bool
     requires { day < 7 }
     ensures { result ≡ has_bit days day }
@@ -91,7 +91,7 @@ fn is_on(days: u8, day: u8) -> bool
     (days >> day) & 1 == 1
 }
 
-// Appends the line of an hour on one of its weekdays.
+/// Appends the line of an hour on one of its weekdays.
 fn print_hour(hour: &Hour, day: u8, into: &mut Vec<u8>) -> Result<(), Memory>
     requires { day < 7 }
     ensures text { OnOk result (into.new.items ≡ into.old.items ++ hour_text day hour.now) }
@@ -108,7 +108,7 @@ fn print_hour(hour: &Hour, day: u8, into: &mut Vec<u8>) -> Result<(), Memory>
     print_line(&words, into)
 }
 
-// The meeting on one of its weekdays alone.
+/// The meeting on one of its weekdays alone.
 fn on_weekday(meeting: &Meeting, day: u8) -> Meeting
     requires { day < 7 }
     ensures { result ≡ on_weekday day meeting.now }

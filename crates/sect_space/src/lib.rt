@@ -1,4 +1,4 @@
-// The world of the desk: its lists, what is counted in them, and the changes of it with their undoing.
+//! The world of the desk: its lists, what is counted in them, and the changes of it with their undoing.
 #![tactic(auto)]
 
 mod apply;

@@ -1,4 +1,4 @@
-// The survey of unmet requests: what a search says of each, which rules stand in their way, and which sections are wanted.
+//! The survey of unmet requests: what a search says of each, which rules stand in their way, and which sections are wanted.
 #![tactic(auto)]
 
 mod counts;

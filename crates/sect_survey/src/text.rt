@@ -53,7 +53,7 @@ pub fn print_survey(survey: &Survey, into: &mut Vec<u8>) -> Result<(), Memory>
     printed
 }
 
-// Appends the lines and the sums. After `Memory` a part of them may stand at the end.
+/// Appends the lines and the sums. After `Memory` a part of them may stand at the end.
 fn print_parts(survey: &Survey, into: &mut Vec<u8>) -> Result<(), Memory>
     ensures text { OnOk result (into.new.items ≡ into.old.items ++ survey_text survey.now) }
     ensures front { take (length into.old.items) into.new.items ≡ into.old.items }
@@ -63,7 +63,7 @@ fn print_parts(survey: &Survey, into: &mut Vec<u8>) -> Result<(), Memory>
     print_sections(survey.wanted.as_slice(), into)
 }
 
-// Appends a line for each rule. After `Memory` a part of them may stand at the end.
+/// Appends a line for each rule. After `Memory` a part of them may stand at the end.
 fn print_rules(rules: &[(u8, u32)], into: &mut Vec<u8>) -> Result<(), Memory>
     ensures text { OnOk result (into.new.items ≡ into.old.items ++ flat_map rule_text rules.now) }
     ensures front { take (length into.old.items) into.new.items ≡ into.old.items }
@@ -74,7 +74,7 @@ fn print_rules(rules: &[(u8, u32)], into: &mut Vec<u8>) -> Result<(), Memory>
     Ok(())
 }
 
-// Appends the line of a rule. After `Memory` the bytes are as before.
+/// Appends the line of a rule. After `Memory` the bytes are as before.
 fn print_rule(sum: (u8, u32), into: &mut Vec<u8>) -> Result<(), Memory>
     ensures text { OnOk result (into.new.items ≡ into.old.items ++ rule_text sum) }
     ensures memory { OnErr result (into.new.items ≡ into.old.items) }
@@ -89,7 +89,7 @@ fn print_rule(sum: (u8, u32), into: &mut Vec<u8>) -> Result<(), Memory>
     print_line(&words, into)
 }
 
-// Appends a line for each section. After `Memory` a part of them may stand at the end.
+/// Appends a line for each section. After `Memory` a part of them may stand at the end.
 fn print_sections(sections: &[(SectionId, u32)], into: &mut Vec<u8>) -> Result<(), Memory>
     ensures text { OnOk result (into.new.items ≡ into.old.items ++ flat_map wanted_text sections.now) }
     ensures front { take (length into.old.items) into.new.items ≡ into.old.items }
@@ -100,7 +100,7 @@ fn print_sections(sections: &[(SectionId, u32)], into: &mut Vec<u8>) -> Result<(
     Ok(())
 }
 
-// Appends the line of a section. After `Memory` the bytes are as before.
+/// Appends the line of a section. After `Memory` the bytes are as before.
 fn print_section(sum: (SectionId, u32), into: &mut Vec<u8>) -> Result<(), Memory>
     ensures text { OnOk result (into.new.items ≡ into.old.items ++ wanted_text sum) }
     ensures memory { OnErr result (into.new.items ≡ into.old.items) }

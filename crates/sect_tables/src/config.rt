@@ -87,7 +87,7 @@ impl OpenConfig {
     }
 }
 
-// Subparts and the last of them, with another row of their configuration.
+/// Subparts and the last of them, with another row of their configuration.
 #[tactic(auto, using(crate::proofs::Lists::at_last_end))]
 fn with_subpart(
     alloc: Global,

@@ -30,7 +30,7 @@ pub fn give(hand: Option<AtHand>, out: &mut Vec<Given>) -> Result<(), Memory>
     Ok(())
 }
 
-// The command of rows.
+/// The command of rows.
 fn into_command(group: Group) -> Result<Command, Memory>
     ensures { IfOk result (λ command. command ≡ command_of group) }
 {

@@ -92,7 +92,7 @@ const OLD_RESERVATIONS: [&[u8]; 10] = [
     b"must",
 ];
 
-// The first field of those from this number in which a row differs from names.
+/// The first field of those from this number in which a row differs from names.
 fn first_other(number: u32, row: &ByteRecord, names: &[&[u8]]) -> Option<u32>
     requires from_one { 1 ≤ number }
     requires room { number + length names.now < 2 ^ 32 }

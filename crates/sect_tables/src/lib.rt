@@ -1,4 +1,4 @@
-// The rows of an imported table as commands.
+//! The rows of an imported table as commands.
 #![tactic(auto)]
 
 mod config;

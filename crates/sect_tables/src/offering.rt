@@ -121,7 +121,7 @@ impl OpenOffering {
     }
 }
 
-// Configurations and the last of them, with another row of their offering.
+/// Configurations and the last of them, with another row of their offering.
 #[tactic(auto, using(crate::proofs::Lists::at_last_end))]
 fn with_config(
     alloc: Global,

@@ -123,7 +123,7 @@ impl Reading {
         self.open_row
     }
 
-    // Takes the first row.
+    /// Takes the first row.
     #[tactic(auto, unfolding(crate::specs::Rows::first_row))]
     fn take_header(&mut self, row: &ByteRecord)
         ensures read { self.new ≡ (first_row self.old (fields_of row.now)).0 }
@@ -139,7 +139,7 @@ impl Reading {
         }
     }
 
-    // Takes a row behind the header.
+    /// Takes a row behind the header.
     #[tactic(auto, unfolding(crate::specs::Rows::table_row))]
     fn take_line(
         &mut self,
@@ -159,7 +159,7 @@ impl Reading {
         }
     }
 
-    // Takes a row of offerings.
+    /// Takes a row of offerings.
     fn take_section(&mut self, row: &ByteRecord, out: &mut Vec<Given>) -> Result<(), Memory>
         ensures read { OnOk result (self.new ≡ (offering_row self.old (fields_of row.now) (same_offering self.old.at_hand (field_of (fields_of row.now) 1))).0) }
         ensures given { OnOk result (out.new.items ≡ out.old.items ++ (offering_row self.old (fields_of row.now) (same_offering self.old.at_hand (field_of (fields_of row.now) 1))).1) }
@@ -174,7 +174,7 @@ impl Reading {
         }
     }
 
-    // Takes a row that begins an offering.
+    /// Takes a row that begins an offering.
     #[tactic(auto, unfolding(crate::specs::Rows::offering_row))]
     fn first_section(&mut self, row: &ByteRecord, out: &mut Vec<Given>) -> Result<(), Memory>
         ensures read { OnOk result (self.new ≡ (offering_row self.old (fields_of row.now) None).0) }
@@ -194,7 +194,7 @@ impl Reading {
         }
     }
 
-    // Takes a row that goes on with an offering.
+    /// Takes a row that goes on with an offering.
     #[tactic(auto, unfolding(crate::specs::Rows::offering_row))]
     fn next_section(
         &mut self,
@@ -218,7 +218,7 @@ impl Reading {
         }
     }
 
-    // Takes a row of requests.
+    /// Takes a row of requests.
     fn take_ask(&mut self, row: &ByteRecord, out: &mut Vec<Given>) -> Result<(), Memory>
         ensures read { OnOk result (self.new ≡ (requests_row self.old (fields_of row.now) (same_student self.old.at_hand (field_of (fields_of row.now) 1))).0) }
         ensures given { OnOk result (out.new.items ≡ out.old.items ++ (requests_row self.old (fields_of row.now) (same_student self.old.at_hand (field_of (fields_of row.now) 1))).1) }
@@ -233,7 +233,7 @@ impl Reading {
         }
     }
 
-    // Takes a row that begins a student's requests.
+    /// Takes a row that begins a student's requests.
     #[tactic(auto, unfolding(crate::specs::Rows::requests_row))]
     fn first_ask(&mut self, row: &ByteRecord, out: &mut Vec<Given>) -> Result<(), Memory>
         ensures read { OnOk result (self.new ≡ (requests_row self.old (fields_of row.now) None).0) }
@@ -253,7 +253,7 @@ impl Reading {
         }
     }
 
-    // Takes a row that goes on with a student's requests.
+    /// Takes a row that goes on with a student's requests.
     #[tactic(auto, unfolding(crate::specs::Rows::requests_row))]
     fn next_ask(&mut self, first: u64, so_far: OpenRequests, row: &ByteRecord) -> Result<(), Memory>
         ensures { OnOk result (self.new ≡ (requests_row self.old (fields_of row.now) (Some (first, so_far))).0) }
@@ -271,7 +271,7 @@ impl Reading {
         }
     }
 
-    // Takes a row of students.
+    /// Takes a row of students.
     #[tactic(auto, unfolding(crate::specs::Rows::student_row))]
     fn take_student(&mut self, row: &ByteRecord, out: &mut Vec<Given>) -> Result<(), Memory>
         ensures read { OnOk result (self.new ≡ (student_row self.old (student_line (fields_of row.now))).0) }
@@ -288,7 +288,7 @@ impl Reading {
         }
     }
 
-    // Takes a row of reservations.
+    /// Takes a row of reservations.
     #[tactic(auto, unfolding(crate::specs::Rows::reservation_row))]
     fn take_reservation(
         &mut self,
@@ -310,7 +310,7 @@ impl Reading {
         }
     }
 
-    // The row that was read begins another command, which shows that the one at hand is complete.
+    /// The row that was read begins another command, which shows that the one at hand is complete.
     fn begin(&mut self, group: Group, out: &mut Vec<Given>) -> Result<(), Memory>
         ensures read { OnOk result (self.new ≡ (begun self.old group).0) }
         ensures given { OnOk result (out.new.items ≡ out.old.items ++ (begun self.old group).1) }
@@ -326,14 +326,14 @@ impl Reading {
         Ok(())
     }
 
-    // The row that was read goes on with the command at hand.
+    /// The row that was read goes on with the command at hand.
     fn go_on(&mut self, first: u64, group: Group)
         ensures { self.new ≡ (gone_on self.old first group).0 }
     {
         self.at_hand = Some(AtHand { first, group });
     }
 
-    // The row that was read is bad in this field.
+    /// The row that was read is bad in this field.
     fn fail(&mut self, field: u32)
         ensures { self.new ≡ (failed self.old field).0 }
     {

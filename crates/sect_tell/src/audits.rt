@@ -28,7 +28,7 @@ use sect_words::print_number;
 use std::alloc::Global;
 use std::thread::Threads;
 
-// What an audit found: how many replies block, how many of these by a tree that refutes every choice, and the day.
+/// What an audit found: how many replies block, how many of these by a tree that refutes every choice, and the day.
 #[derive(Drop)]
 pub(crate) struct Found {
     blocked: u32,
@@ -36,7 +36,7 @@ pub(crate) struct Found {
     day: Day,
 }
 
-// The line of an audit.
+/// The line of an audit.
 struct AuditLine;
 
 impl Teller for AuditLine {
@@ -75,7 +75,7 @@ pub fn audit<R: Threads + Sync, T: Sink, K: Keeper>(
     tell(rt, alloc, sink, keeper, &AuditLine)
 }
 
-// Acts the history again on a machine of its own, and checks each reply that blocks before its command acts.
+/// Acts the history again on a machine of its own, and checks each reply that blocks before its command acts.
 fn audit_of<K: Keeper>(alloc: Global, desk: &Desk<Machine, K>) -> Result<Found, Memory>
     requires sound { IsSound stepped IsRow K.rows K.faults empty_state desk.now }
     ensures { IfOk result (IsFoundIn (history desk.now.log)) }
@@ -96,7 +96,7 @@ fn audit_of<K: Keeper>(alloc: Global, desk: &Desk<Machine, K>) -> Result<Found, 
     })
 }
 
-// One more, where it holds.
+/// One more, where it holds.
 fn plus(count: u32, holds: bool) -> u32
     requires { count + 1 < 2 ^ 32 }
     ensures { result ≡ count + one_if holds }
@@ -104,14 +104,14 @@ fn plus(count: u32, holds: bool) -> u32
     if holds { count + 1 } else { count }
 }
 
-// Whether the reply blocks.
+/// Whether the reply blocks.
 fn is_blocked(reply: &Reply) -> bool
     ensures { result ≡ is_some (blocked_tree reply.now) }
 {
     matches!(reply, Reply::Blocked(_, _))
 }
 
-// Whether the entry's reply blocks, by a tree that refutes every choice. The machine stands before the entry.
+/// Whether the entry's reply blocks, by a tree that refutes every choice. The machine stands before the entry.
 fn is_verified(machine: &mut Machine, entry: &Entry<Command, Reply>) -> Result<bool, Memory>
     requires replied { (stepped (state_in machine.old) entry.now.day entry.now.id.caller entry.now.command).1 ≡ entry.now.reply }
     ensures answer { IfOk result (λ holds. holds ≡ is_verified (state_in machine.old) entry.now) }
@@ -125,7 +125,7 @@ fn is_verified(machine: &mut Machine, entry: &Entry<Command, Reply>) -> Result<b
     }
 }
 
-// Acts the entry's command.
+/// Acts the entry's command.
 fn act(machine: &mut Machine, entry: &Entry<Command, Reply>) -> Result<(), Memory>
     ensures { OnOk result (state_in machine.new ≡ (stepped (state_in machine.old) entry.now.day entry.now.id.caller entry.now.command).0) }
 {
@@ -133,7 +133,7 @@ fn act(machine: &mut Machine, entry: &Entry<Command, Reply>) -> Result<(), Memor
     Ok(())
 }
 
-// Appends the line of an audit. After `Memory` a part of it may stand at the end.
+/// Appends the line of an audit. After `Memory` a part of it may stand at the end.
 fn print_audit(entries: u32, found: &Found, into: &mut Vec<u8>) -> Result<(), Memory>
     ensures { OnOk result ((day : List ℕ) × IsDayText day found.now.day
         × (into.new.items ≡ into.old.items ++ audit_line entries found.now.blocked found.now.verified day)) }
@@ -143,7 +143,7 @@ fn print_audit(entries: u32, found: &Found, into: &mut Vec<u8>) -> Result<(), Me
     Ok(())
 }
 
-// Appends the line of an audit, with the text of its day.
+/// Appends the line of an audit, with the text of its day.
 fn print_line(entries: u32, found: &Found, day: &[u8], into: &mut Vec<u8>) -> Result<(), Memory>
     ensures { OnOk result (into.new.items ≡ into.old.items ++ audit_line entries found.now.blocked found.now.verified day.now) }
 {
@@ -156,7 +156,7 @@ fn print_line(entries: u32, found: &Found, day: &[u8], into: &mut Vec<u8>) -> Re
     Ok(())
 }
 
-// Appends a word and a number.
+/// Appends a word and a number.
 fn print_count(word: &[u8], count: u32, into: &mut Vec<u8>) -> Result<(), Memory>
     ensures { OnOk result (into.new.items ≡ into.old.items ++ (word.now ++ decimal count)) }
 {

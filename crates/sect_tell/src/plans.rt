@@ -40,7 +40,7 @@ impl Teller for Plan {
     }
 }
 
-// Appends the schedule, or that the student is unknown. After `Memory` the bytes are as before.
+/// Appends the schedule, or that the student is unknown. After `Memory` the bytes are as before.
 fn print_plan_of<K: Keeper>(
     asked: Plan,
     desk: &Desk<Machine, K>,

@@ -36,7 +36,7 @@ impl Teller for Survey {
     }
 }
 
-// Appends the survey. After `Memory` the bytes are as before.
+/// Appends the survey. After `Memory` the bytes are as before.
 fn print_survey_of<R: Threads + Sync, K: Keeper>(
     rt: &R,
     desk: &Desk<Machine, K>,

@@ -68,7 +68,7 @@ pub fn tell<R: Threads + Sync, T: Sink, K: Keeper, W: Teller>(
     }
 }
 
-// Writes the text that tells it of the desk's history.
+/// Writes the text that tells it of the desk's history.
 fn write_text<R: Threads + Sync, T: Sink, K: Keeper, W: Teller>(
     rt: &R,
     alloc: Global,

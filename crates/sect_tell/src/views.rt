@@ -55,7 +55,7 @@ impl Teller for Export {
     }
 }
 
-// Appends the report of a query. After `Memory` the bytes are as before.
+/// Appends the report of a query. After `Memory` the bytes are as before.
 fn print_report<K: Keeper>(
     query: &Query,
     desk: &Desk<Machine, K>,
@@ -67,7 +67,7 @@ fn print_report<K: Keeper>(
     report(query, &view, into)
 }
 
-// Appends the rows of a table. After `Memory` the bytes are as before.
+/// Appends the rows of a table. After `Memory` the bytes are as before.
 fn print_export<K: Keeper>(
     table: Table,
     desk: &Desk<Machine, K>,

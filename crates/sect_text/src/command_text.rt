@@ -61,7 +61,7 @@ fn print_student(row: &StudentRow, into: &mut Vec<u8>) -> Result<(), Memory>
     print_each(row.curricula.as_slice(), into)
 }
 
-// The first day, where there is one.
+/// The first day, where there is one.
 fn print_from(first: Option<Day>, into: &mut Vec<u8>) -> Result<(), Memory>
     ensures text { OnOk result (into.new.items ≡ into.old.items ++ behind 32 (from_words first)) }
     ensures front { take (length into.old.items) into.new.items ≡ into.old.items }
@@ -72,7 +72,7 @@ fn print_from(first: Option<Day>, into: &mut Vec<u8>) -> Result<(), Memory>
     }
 }
 
-// What is allowed beyond the limits, and whether it must be used.
+/// What is allowed beyond the limits, and whether it must be used.
 fn print_permissions(row: &ReserveRow, into: &mut Vec<u8>) -> Result<(), Memory>
     ensures text { OnOk result (into.new.items ≡ into.old.items ++ behind 32 (mark_words (codes "over") row.now.over ++ (mark_words (codes "overlap") row.now.overlap ++ mark_words (codes "must") row.now.must))) }
     ensures front { take (length into.old.items) into.new.items ≡ into.old.items }
@@ -82,7 +82,7 @@ fn print_permissions(row: &ReserveRow, into: &mut Vec<u8>) -> Result<(), Memory>
     print_mark(b"must", row.must, into)
 }
 
-// The first day, what the reservation lists and what it permits.
+/// The first day, what the reservation lists and what it permits.
 fn print_terms(row: &ReserveRow, into: &mut Vec<u8>) -> Result<(), Memory>
     ensures text { OnOk result (into.new.items ≡ into.old.items ++ behind 32 (from_words row.now.first ++ (flat_map config_id_words row.now.configs ++ (flat_map section_id_words row.now.sections
         ++ (mark_words (codes "over") row.now.over ++ (mark_words (codes "overlap") row.now.overlap ++ mark_words (codes "must") row.now.must)))))) }
@@ -94,7 +94,7 @@ fn print_terms(row: &ReserveRow, into: &mut Vec<u8>) -> Result<(), Memory>
     print_permissions(row, into)
 }
 
-// The id of a reservation or a restriction, its offering and its audience.
+/// The id of a reservation or a restriction, its offering and its audience.
 fn print_subject(
     id: u32,
     offering: OfferingId,
@@ -141,7 +141,7 @@ fn print_cap(cap: &Cap, into: &mut Vec<u8>) -> Result<(), Memory>
     }
 }
 
-// A key and a number, where it is not the default.
+/// A key and a number, where it is not the default.
 fn print_stated(key: &[u8], default: u32, number: u32, into: &mut Vec<u8>) -> Result<(), Memory>
     ensures text { OnOk result (into.new.items ≡ into.old.items ++ behind 32 (stated_words key.now default false number)) }
     ensures front { take (length into.old.items) into.new.items ≡ into.old.items }
@@ -153,7 +153,7 @@ fn print_stated(key: &[u8], default: u32, number: u32, into: &mut Vec<u8>) -> Re
     print_word(&number, into)
 }
 
-// The only sections that are wanted, where there are some.
+/// The only sections that are wanted, where there are some.
 fn print_only(sections: &Items<SectionId>, into: &mut Vec<u8>) -> Result<(), Memory>
     ensures text { OnOk result (into.new.items ≡ into.old.items ++ behind 32 (only_words false sections.now)) }
     ensures front { take (length into.old.items) into.new.items ≡ into.old.items }
@@ -239,7 +239,7 @@ fn print_wait(
     print_stated(b"class", 5, u32::from(class), into)
 }
 
-// The course that is given up, where there is one.
+/// The course that is given up, where there is one.
 fn print_give(give: Option<CourseId>, into: &mut Vec<u8>) -> Result<(), Memory>
     ensures text { OnOk result (into.new.items ≡ into.old.items ++ behind 32 (optional_give_words give)) }
     ensures front { take (length into.old.items) into.new.items ≡ into.old.items }
@@ -259,7 +259,7 @@ fn print_limit(cap: &Cap, limit: Limit, into: &mut Vec<u8>) -> Result<(), Memory
     print_word(&limit, into)
 }
 
-// Appends the text of a command. After `Memory` a part of it may stand at the end.
+/// Appends the text of a command. After `Memory` a part of it may stand at the end.
 pub(crate) fn print_verb(command: &Command, into: &mut Vec<u8>) -> Result<(), Memory>
     ensures text { OnOk result (into.new.items ≡ into.old.items ++ command_text command.now) }
     ensures front { take (length into.old.items) into.new.items ≡ into.old.items }

@@ -1,4 +1,4 @@
-// The texts of commands, replies and entry rows, and how they are printed.
+//! The texts of commands, replies and entry rows, and how they are printed.
 #![tactic(auto)]
 
 mod command_text;

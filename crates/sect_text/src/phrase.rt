@@ -7,17 +7,17 @@ ghost use Rattle.sect_text.specs.Commands.{mark_words};
 use sect_base::Memory;
 use sect_words::{Spelled, print_bytes, print_marked};
 
-// A value that stands in several words.
+/// A value that stands in several words.
 pub(crate) trait Phrase {
     ghost words: { Self → List (List ℕ) };
 
-    // Appends the words, each behind a space. After `Memory` a part of them may stand at the end.
+    /// Appends the words, each behind a space. After `Memory` a part of them may stand at the end.
     fn print_words(&self, into: &mut Vec<u8>) -> Result<(), Memory>
         ensures text { OnOk result (into.new.items ≡ into.old.items ++ behind 32 (words self.now)) }
         ensures front { take (length into.old.items) into.new.items ≡ into.old.items };
 }
 
-// Appends a space and the word. After `Memory` a part of it may stand at the end.
+/// Appends a space and the word. After `Memory` a part of it may stand at the end.
 pub(crate) fn print_key(word: &[u8], into: &mut Vec<u8>) -> Result<(), Memory>
     ensures text { OnOk result (into.new.items ≡ into.old.items ++ (32 ∷ word.now)) }
     ensures front { take (length into.old.items) into.new.items ≡ into.old.items }
@@ -26,7 +26,7 @@ pub(crate) fn print_key(word: &[u8], into: &mut Vec<u8>) -> Result<(), Memory>
     print_bytes(word, into)
 }
 
-// Appends a space and the value's word. After `Memory` a part of it may stand at the end.
+/// Appends a space and the value's word. After `Memory` a part of it may stand at the end.
 pub(crate) fn print_word<T: Spelled>(value: &T, into: &mut Vec<u8>) -> Result<(), Memory>
     ensures text { OnOk result (into.new.items ≡ into.old.items ++ (32 ∷ T.spelling value.now)) }
     ensures front { take (length into.old.items) into.new.items ≡ into.old.items }
@@ -34,7 +34,7 @@ pub(crate) fn print_word<T: Spelled>(value: &T, into: &mut Vec<u8>) -> Result<()
     print_marked(b' ', value, into)
 }
 
-// Appends a key and the value's word, each behind a space. After `Memory` a part of them may stand at the end.
+/// Appends a key and the value's word, each behind a space. After `Memory` a part of them may stand at the end.
 pub(crate) fn print_named<T: Spelled>(
     key: &[u8],
     value: &T,
@@ -47,7 +47,7 @@ pub(crate) fn print_named<T: Spelled>(
     print_word(value, into)
 }
 
-// Appends a verb and one word behind it. After `Memory` a part of them may stand at the end.
+/// Appends a verb and one word behind it. After `Memory` a part of them may stand at the end.
 pub(crate) fn print_pair<T: Spelled>(
     verb: &[u8],
     value: &T,
@@ -60,7 +60,7 @@ pub(crate) fn print_pair<T: Spelled>(
     print_word(value, into)
 }
 
-// Appends a verb and two words behind it. After `Memory` a part of them may stand at the end.
+/// Appends a verb and two words behind it. After `Memory` a part of them may stand at the end.
 pub(crate) fn print_three<A: Spelled, B: Spelled>(
     verb: &[u8],
     first: &A,
@@ -75,7 +75,7 @@ pub(crate) fn print_three<A: Spelled, B: Spelled>(
     print_word(second, into)
 }
 
-// Appends a space and the word, where the mark holds. After `Memory` a part of it may stand at the end.
+/// Appends a space and the word, where the mark holds. After `Memory` a part of it may stand at the end.
 pub(crate) fn print_mark(word: &[u8], holds: bool, into: &mut Vec<u8>) -> Result<(), Memory>
     ensures text { OnOk result (into.new.items ≡ into.old.items ++ behind 32 (mark_words word.now holds)) }
     ensures front { take (length into.old.items) into.new.items ≡ into.old.items }
@@ -83,7 +83,7 @@ pub(crate) fn print_mark(word: &[u8], holds: bool, into: &mut Vec<u8>) -> Result
     if holds { print_key(word, into) } else { Ok(()) }
 }
 
-// Appends the words of each value. After `Memory` a part of them may stand at the end.
+/// Appends the words of each value. After `Memory` a part of them may stand at the end.
 pub(crate) fn print_each<T: Phrase>(values: &[T], into: &mut Vec<u8>) -> Result<(), Memory>
     ensures text { OnOk result (into.new.items ≡ into.old.items ++ behind 32 (flat_map T.words values.now)) }
     ensures front { take (length into.old.items) into.new.items ≡ into.old.items }

@@ -106,7 +106,7 @@ fn print_refusal(refusal: &Refusal, into: &mut Vec<u8>) -> Result<(), Memory>
     }
 }
 
-// How many decisions were visited, and the tree.
+/// How many decisions were visited, and the tree.
 fn print_blocked(visits: u32, tree: &Block, into: &mut Vec<u8>) -> Result<(), Memory>
     ensures text { OnOk result (into.new.items ≡ into.old.items ++ behind 32 (decimal visits ∷ tree_text tree.now ∷ [])) }
     ensures front { take (length into.old.items) into.new.items ≡ into.old.items }
@@ -132,7 +132,7 @@ fn print_result(result_of: &LineResult, into: &mut Vec<u8>) -> Result<(), Memory
     }
 }
 
-// The request of a line, as the student and its position.
+/// The request of a line, as the student and its position.
 #[derive(Clone, Copy)]
 struct Request {
     student: u32,
@@ -169,7 +169,7 @@ impl Phrase for Choice {
     }
 }
 
-// Appends the text of a reply. After `Memory` a part of it may stand at the end.
+/// Appends the text of a reply. After `Memory` a part of it may stand at the end.
 pub(crate) fn print_answer_words(reply: &Reply, into: &mut Vec<u8>) -> Result<(), Memory>
     ensures text { OnOk result (into.new.items ≡ into.old.items ++ reply_text reply.now) }
     ensures front { take (length into.old.items) into.new.items ≡ into.old.items }

@@ -27,7 +27,7 @@ pub fn is_marked(command: &Command) -> bool
     }
 }
 
-// Appends the mark, where the command has one, and the day.
+/// Appends the mark, where the command has one, and the day.
 fn print_front(marked: bool, day: Day, into: &mut Vec<u8>) -> Result<(), Memory>
     ensures text { OnOk result (into.new.items ≡ into.old.items ++ sentence (row_front marked day)) }
     ensures front { take (length into.old.items) into.new.items ≡ into.old.items }
@@ -39,7 +39,7 @@ fn print_front(marked: bool, day: Day, into: &mut Vec<u8>) -> Result<(), Memory>
     }
 }
 
-// Appends a space and the command.
+/// Appends a space and the command.
 #[tactic(auto, using(crate::proofs::Sentences::spaced_command))]
 fn print_command_words(command: &Command, into: &mut Vec<u8>) -> Result<(), Memory>
     ensures text { OnOk result (into.new.items ≡ into.old.items ++ behind 32 (command_words command.now)) }
@@ -49,7 +49,7 @@ fn print_command_words(command: &Command, into: &mut Vec<u8>) -> Result<(), Memo
     print_verb(command, into)
 }
 
-// Appends a space, `=`, a space and the reply.
+/// Appends a space, `=`, a space and the reply.
 #[tactic(auto, using(crate::proofs::Sentences::spaced_reply))]
 fn print_reply_words(reply: &Reply, into: &mut Vec<u8>) -> Result<(), Memory>
     ensures text { OnOk result (into.new.items ≡ into.old.items ++ behind 32 ((61 ∷ []) ∷ reply_words reply.now)) }
@@ -59,7 +59,7 @@ fn print_reply_words(reply: &Reply, into: &mut Vec<u8>) -> Result<(), Memory>
     print_answer_words(reply, into)
 }
 
-// Appends what stands behind the front of a row.
+/// Appends what stands behind the front of a row.
 fn print_rest(entry: &Entry<Command, Reply>, into: &mut Vec<u8>) -> Result<(), Memory>
     ensures text { OnOk result (into.new.items ≡ into.old.items ++ behind 32 (row_rest entry.now)) }
     ensures front { take (length into.old.items) into.new.items ≡ into.old.items }
@@ -70,7 +70,7 @@ fn print_rest(entry: &Entry<Command, Reply>, into: &mut Vec<u8>) -> Result<(), M
     print_reply_words(&entry.reply, into)
 }
 
-// Appends the row of an entry. After `Memory` a part of it may stand at the end.
+/// Appends the row of an entry. After `Memory` a part of it may stand at the end.
 fn print_row_words(entry: &Entry<Command, Reply>, into: &mut Vec<u8>) -> Result<(), Memory>
     ensures text { OnOk result (into.new.items ≡ into.old.items ++ row_text entry.now) }
     ensures front { take (length into.old.items) into.new.items ≡ into.old.items }

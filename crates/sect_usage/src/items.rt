@@ -16,7 +16,7 @@ pub(crate) enum Item<'a> {
     Bad,
 }
 
-// A word by itself: an item, or the name of an option whose value is the next word.
+/// A word by itself: an item, or the name of an option whose value is the next word.
 #[derive(Clone, Copy)]
 pub(crate) enum Cut<'a> {
     Whole(Item<'a>),
@@ -41,7 +41,7 @@ pub(crate) fn next_item(words: &[String]) -> Option<(Item, &[String])>
     }
 }
 
-// A word by itself.
+/// A word by itself.
 fn cut_word(word: &[u8]) -> Cut
     requires { IsUtf8 word.now }
     ensures cut { cut_seen result ≡ cut_of word.now }
@@ -54,7 +54,7 @@ fn cut_word(word: &[u8]) -> Cut
     }
 }
 
-// A word behind its first dash.
+/// A word behind its first dash.
 fn cut_dashed(word: &[u8]) -> Cut
     requires { IsUtf8 word.now }
     ensures cut { cut_seen result ≡ dashed_cut word.now }
@@ -66,14 +66,14 @@ fn cut_dashed(word: &[u8]) -> Cut
     }
 }
 
-// The place of the first `=`.
+/// The place of the first `=`.
 fn equals_in(text: &[u8]) -> Option<usize>
     ensures { result ≡ equals_at text.now }
 {
     text.iter().position(|byte| *byte == b'=')
 }
 
-// What stands behind two dashes.
+/// What stands behind two dashes.
 fn cut_option(text: &[u8]) -> Cut
     requires { IsUtf8 text.now }
     ensures cut { cut_seen result ≡ option_cut text.now (equals_at text.now) }
@@ -86,7 +86,7 @@ fn cut_option(text: &[u8]) -> Cut
     }
 }
 
-// An option whose name and value stand in one word.
+/// An option whose name and value stand in one word.
 fn with_value<'a>(name: &'a [u8], value: &'a [u8]) -> Item<'a>
     requires { IsUtf8 value.now }
     ensures item { item_seen result ≡ option_with name.now value.now }
@@ -99,7 +99,7 @@ fn with_value<'a>(name: &'a [u8], value: &'a [u8]) -> Item<'a>
     }
 }
 
-// An option whose value is a word of its own.
+/// An option whose value is a word of its own.
 fn setting<'a>(name: &'a [u8], value: &'a [u8]) -> Item<'a>
     requires { IsUtf8 value.now }
     ensures item { item_seen result ≡ option_by name.now value.now }

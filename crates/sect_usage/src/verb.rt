@@ -73,14 +73,14 @@ pub(crate) fn takes(verb: Verb, name: &[u8]) -> bool
     }
 }
 
-// Whether the option names a keeper.
+/// Whether the option names a keeper.
 fn is_keeper(name: &[u8]) -> bool
     ensures { result ≡ is_keeper_name name.now }
 {
     same_bytes(name, b"db") || same_bytes(name, b"journal")
 }
 
-// Whether the option is one of `serve` alone.
+/// Whether the option is one of `serve` alone.
 fn is_of_serve(name: &[u8]) -> bool
     ensures { result ≡ is_serve_name name.now }
 {

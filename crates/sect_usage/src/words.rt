@@ -62,7 +62,7 @@ pub fn read_words(words: &[String]) -> Option<Words>
     }
 }
 
-// Whether the words are `--help` alone.
+/// Whether the words are `--help` alone.
 fn helps(words: &[String]) -> bool
     ensures { result ≡ is_help (map string_bytes words.now) }
 {
@@ -72,7 +72,7 @@ fn helps(words: &[String]) -> bool
     }
 }
 
-// What a word in place of a command asks for.
+/// What a word in place of a command asks for.
 #[tactic(auto, unfolding(crate::specs::Grammar::lone_of))]
 fn read_lone(word: &[u8]) -> Option<Words>
     ensures { result ≡ lone_of word.now }
@@ -86,7 +86,7 @@ fn read_lone(word: &[u8]) -> Option<Words>
     }
 }
 
-// What a command with these words behind it asks for.
+/// What a command with these words behind it asks for.
 #[tactic(auto, unfolding(crate::specs::Grammar::asked_by))]
 fn asked(verb: Verb, words: &[String]) -> Option<Words>
     ensures { result ≡ asked_by verb (items_of (map string_bytes words.now)) }
@@ -98,7 +98,7 @@ fn asked(verb: Verb, words: &[String]) -> Option<Words>
     }
 }
 
-// Whether each word is an item, and each option is one of the command that stands once.
+/// Whether each word is an item, and each option is one of the command that stands once.
 fn allowed(verb: Verb, words: &[String]) -> bool
     ensures { result ≡ allows (takes_name verb) (items_of (map string_bytes words.now)) }
 {
@@ -118,7 +118,7 @@ fn allowed(verb: Verb, words: &[String]) -> bool
     true
 }
 
-// Whether there is an option of this name.
+/// Whether there is an option of this name.
 fn given(name: &[u8], words: &[String]) -> bool
     ensures { result ≡ is_given (value_of name.now (items_of (map string_bytes words.now))) }
 {
@@ -128,14 +128,14 @@ fn given(name: &[u8], words: &[String]) -> bool
     }
 }
 
-// Whether not both keepers are named.
+/// Whether not both keepers are named.
 fn one_keeper_named(words: &[String]) -> bool
     ensures { result ≡ one_keeper (items_of (map string_bytes words.now)) }
 {
     !(given(b"db", words) && given(b"journal", words))
 }
 
-// What a command asks for by words that it allows.
+/// What a command asks for by words that it allows.
 #[tactic(auto, unfolding(crate::specs::Grammar::asked_for))]
 fn asked_of(verb: Verb, words: &[String]) -> Option<Words>
     ensures { result ≡ asked_for verb (items_of (map string_bytes words.now)) }
@@ -153,7 +153,7 @@ fn asked_of(verb: Verb, words: &[String]) -> Option<Words>
     }
 }
 
-// What is asked for, where no word stands alone.
+/// What is asked for, where no word stands alone.
 fn alone(asked: Words, words: &[String]) -> Option<Words>
     ensures { result ≡ where_none (Some asked) (positionals (items_of (map string_bytes words.now))) }
 {
@@ -163,7 +163,7 @@ fn alone(asked: Words, words: &[String]) -> Option<Words>
     }
 }
 
-// The only word that stands alone.
+/// The only word that stands alone.
 fn only(words: &[String]) -> Option<&[u8]>
     ensures { option_map (λ w. w.now) result ≡ the_one (positionals (items_of (map string_bytes words.now))) }
 {
@@ -203,7 +203,7 @@ fn read_report(words: &[String]) -> Option<Words>
     Some(Words::Report(query))
 }
 
-// What a report of this kind asks for, with the words behind the kind.
+/// What a report of this kind asks for, with the words behind the kind.
 #[tactic(auto, unfolding(crate::specs::Grammar::query_by))]
 fn read_query(kind: &[u8], words: &[String]) -> Option<Query>
     ensures { result ≡ query_by kind.now (positionals (items_of (map string_bytes words.now))) }
@@ -226,7 +226,7 @@ fn read_query(kind: &[u8], words: &[String]) -> Option<Query>
     }
 }
 
-// A query, where no word stands alone.
+/// A query, where no word stands alone.
 fn lone_query(query: Query, words: &[String]) -> Option<Query>
     ensures { result ≡ where_none (Some query) (positionals (items_of (map string_bytes words.now))) }
 {
@@ -245,7 +245,7 @@ fn read_import(words: &[String]) -> Option<Words>
     Some(Words::Import { table, first, term })
 }
 
-// The day, where there is a text.
+/// The day, where there is a text.
 fn read_term(text: Option<&[u8]>) -> Option<Option<Day>>
     ensures { result ≡ term_of (option_map (λ t. t.now) text.entry) }
 {
@@ -278,7 +278,7 @@ fn read_plan(words: &[String]) -> Option<Words>
     })
 }
 
-// A table.
+/// A table.
 #[tactic(auto, unfolding(crate::specs::Grammar::table_of))]
 fn read_table(word: &[u8]) -> Option<Table>
     ensures { result ≡ table_of word.now }

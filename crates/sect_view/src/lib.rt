@@ -1,4 +1,4 @@
-// What a query is answered, from the world and those who wait.
+//! What a query is answered, from the world and those who wait.
 #![tactic(auto)]
 
 mod look;

@@ -1,4 +1,4 @@
-// Who waits: entries in order of ticket, and settling, which places them until none can be placed.
+//! Who waits: entries in order of ticket, and settling, which places them until none can be placed.
 #![tactic(auto)]
 
 mod back;

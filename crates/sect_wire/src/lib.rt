@@ -1,4 +1,4 @@
-// Lines, commands, replies, entry rows, bodies and answers as texts, both ways.
+//! Lines, commands, replies, entry rows, bodies and answers as texts, both ways.
 #![tactic(auto)]
 
 pub use sect_json::{

@@ -1,4 +1,4 @@
-// What stands in one word, both ways: numbers, ids, lists, limits, days, meetings and those a row is made of.
+//! What stands in one word, both ways: numbers, ids, lists, limits, days, meetings and those a row is made of.
 #![tactic(auto)]
 
 mod fault;

@@ -27,14 +27,14 @@ impl<'a> Model for Parts<'a> {
     ghost view = { λ p. parts_left p.done p.mark p.text.now };
 }
 
-// The place of the first mark.
+/// The place of the first mark.
 fn mark_in(text: &[u8], mark: u8) -> Option<usize>
     ensures { result ≡ position (λ byte. byte == mark) text.now }
 {
     text.iter().position(|byte| *byte == mark)
 }
 
-// What stands behind the byte at a place.
+/// What stands behind the byte at a place.
 fn behind(text: &[u8], at: usize) -> &[u8]
     requires { at < length text.now }
     ensures { result.now ≡ drop (at + 1) text.now }

@@ -26,7 +26,7 @@ pub fn read_meetings(alloc: Global, term: Option<Day>, word: &[u8]) -> Result<It
     read_all_meetings(alloc, &term, word)
 }
 
-// The meetings of all words.
+/// The meetings of all words.
 fn read_all_meetings(
     alloc: Global,
     term: &Option<Day>,
@@ -42,7 +42,7 @@ fn read_all_meetings(
     Ok(Items::from_vec(items))
 }
 
-// The meeting of a word.
+/// The meeting of a word.
 fn read_term_meeting(alloc: Global, term: &Option<Day>, word: &[u8]) -> Result<Meeting, Fault>
     ensures { Means result (term_meeting_of term.now word.now) }
 {
@@ -56,7 +56,7 @@ fn read_term_meeting(alloc: Global, term: &Option<Day>, word: &[u8]) -> Result<M
     }
 }
 
-// The meeting of a word whose weeks are said as `DAY..DAY`.
+/// The meeting of a word whose weeks are said as `DAY..DAY`.
 fn read_dated(alloc: Global, term: Day, word: &[u8]) -> Result<Meeting, Fault>
     ensures { Means result (dated_of term word.now) }
 {
@@ -85,7 +85,7 @@ fn read_dated_parts(alloc: Global, term: Day, parts: &mut Parts) -> Result<Meeti
     Ok(in_weeks(&meeting, weeks))
 }
 
-// The weeks of a term that `DAY..DAY` meets.
+/// The weeks of a term that `DAY..DAY` meets.
 #[tactic(auto, unfolding(crate::specs::Times::dates_of))]
 fn read_dates(alloc: Global, term: Day, word: &[u8]) -> Result<u64, Fault>
     ensures weeks { Means result (dates_of term word.now) }
@@ -101,7 +101,7 @@ fn read_dates(alloc: Global, term: Day, word: &[u8]) -> Result<u64, Fault>
     }
 }
 
-// The first and the last day.
+/// The first and the last day.
 #[tactic(auto, unfolding(crate::specs::Times::days_at))]
 fn read_days(alloc: Global, parts: &mut Parts) -> Result<(Day, Day), Fault>
     ensures { Reads result parts.new (days_at parts.old) }
@@ -112,7 +112,7 @@ fn read_days(alloc: Global, parts: &mut Parts) -> Result<(Day, Day), Fault>
     Ok((first, last))
 }
 
-// The text of a meeting on these days and at this time in week 1.
+/// The text of a meeting on these days and at this time in week 1.
 fn first_week(alloc: Global, days: &[u8], time: &[u8]) -> Result<Vec<u8>, Memory>
     ensures { IfOk result (λ text. text.items ≡ joined 47 (days.now ∷ time.now ∷ (49 ∷ []) ∷ [])) }
 {
@@ -123,7 +123,7 @@ fn first_week(alloc: Global, days: &[u8], time: &[u8]) -> Result<Vec<u8>, Memory
     Ok(text)
 }
 
-// The weeks of a term that meet the days from the first to the last.
+/// The weeks of a term that meet the days from the first to the last.
 fn term_weeks(term: Day, first: Day, last: Day) -> Option<u64>
     ensures value { result ≡ weeks_between term first last }
     ensures some { IfSome result (λ weeks. 0 < weeks) }
@@ -132,7 +132,7 @@ fn term_weeks(term: Day, first: Day, last: Day) -> Option<u64>
     weeks_of(term, first, last)
 }
 
-// The meeting in other weeks.
+/// The meeting in other weeks.
 fn in_weeks(meeting: &Meeting, weeks: u64) -> Meeting
     requires some { 0 < weeks }
     requires sixty { weeks < 2 ^ 60 }

@@ -73,7 +73,7 @@ pub fn parse_number(word: &[u8]) -> Option<u64>
     }
 }
 
-// Whether neither a plus nor a zero stands before other digits.
+/// Whether neither a plus nor a zero stands before other digits.
 fn is_plain(word: &[u8]) -> bool
     ensures plain { IsTrue result → (get_or word.now 0 0 ≢ 43) × (get_or word.now 0 0 ≡ 48 → length word.now ≡ 1) }
     ensures only { get_or word.now 0 0 ≢ 43 → (get_or word.now 0 0 ≡ 48 → length word.now ≡ 1) → IsTrue result }

@@ -94,7 +94,7 @@ pub fn print_marked<T: Spelled>(mark: u8, value: &T, into: &mut Vec<u8>) -> Resu
     value.print(into)
 }
 
-// Appends the elements, each behind the mark. After `Memory` a part of them may stand at the end.
+/// Appends the elements, each behind the mark. After `Memory` a part of them may stand at the end.
 fn print_behind<T: Spelled>(mark: u8, items: &[T], into: &mut Vec<u8>) -> Result<(), Memory>
     ensures text { OnOk result (into.new.items ≡ into.old.items ++ behind mark (map T.spelling items.now)) }
     ensures front { take (length into.old.items) into.new.items ≡ into.old.items }
@@ -105,7 +105,7 @@ fn print_behind<T: Spelled>(mark: u8, items: &[T], into: &mut Vec<u8>) -> Result
     Ok(())
 }
 
-// Appends the elements with the mark between each two. After `Memory` a part of them may stand at the end.
+/// Appends the elements with the mark between each two. After `Memory` a part of them may stand at the end.
 fn print_joined<T: Spelled>(mark: u8, items: &[T], into: &mut Vec<u8>) -> Result<(), Memory>
     ensures text { OnOk result (into.new.items ≡ into.old.items ++ joined mark (map T.spelling items.now)) }
     ensures front { take (length into.old.items) into.new.items ≡ into.old.items }

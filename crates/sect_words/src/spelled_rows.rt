@@ -37,7 +37,7 @@ impl Spelled for Curriculum {
     }
 }
 
-// The students of an area, with one of the classes and of the majors.
+/// The students of an area, with one of the classes and of the majors.
 fn print_study(
     area: AreaId,
     classes: &Items<ClassId>,

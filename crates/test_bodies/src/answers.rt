@@ -12,7 +12,7 @@ fn place_of(text: &str) -> u32 {
     text.parse::<u32>().unwrap_or(0)
 }
 
-// The answer that a line names.
+/// The answer that a line names.
 fn answer_of(alloc: Global, line: &str) -> Result<Option<Answer<Reply>>, Memory> {
     if let Some((place, reply)) = line
         .strip_prefix("done ")

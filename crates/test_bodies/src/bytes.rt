@@ -3,7 +3,7 @@
 use sect_base::Memory;
 use test_told::byte_of;
 
-// Bytes of two digits each.
+/// Bytes of two digits each.
 fn put_numbers(digits: &[u8], into: &mut Vec<u8>) -> Result<(), Memory> {
     for pair in digits.chunks(2) {
         if let [high, low] = pair {

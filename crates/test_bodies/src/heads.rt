@@ -57,7 +57,7 @@ fn print_target(target: Option<Target>, into: &mut Vec<u8>) -> Result<(), Memory
     Ok(())
 }
 
-// The bytes before the first question mark.
+/// The bytes before the first question mark.
 fn path_of(target: &[u8]) -> &[u8] {
     match target.iter().position(|byte| *byte == b'?') {
         Some(at) => &target[..at],
@@ -65,7 +65,7 @@ fn path_of(target: &[u8]) -> &[u8] {
     }
 }
 
-// At most so many bytes.
+/// At most so many bytes.
 fn front_of(bytes: &[u8], most: usize) -> &[u8]
     ensures { length result.now ≤ most }
 {

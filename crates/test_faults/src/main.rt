@@ -47,7 +47,7 @@ fn main(rt: HostRuntime) -> io::Result<()> {
     Ok(())
 }
 
-// Does what a line with `?` asks, and puts what came of it behind the text.
+/// Does what a line with `?` asks, and puts what came of it behind the text.
 fn put_asked<R: AllocGlobal + Threads + Wait + Sync>(
     rt: &R,
     table: &Table,
@@ -69,7 +69,7 @@ fn put_asked<R: AllocGlobal + Threads + Wait + Sync>(
     }
 }
 
-// Prints what was put into the text, and whether memory was wanted for more.
+/// Prints what was put into the text, and whether memory was wanted for more.
 fn print_text(rt: HostRuntime, put: Result<(), Memory>, text: &str) -> io::Result<()> {
     print!(rt; "{text}")?;
     match put {

@@ -24,7 +24,7 @@ pub fn put_served<R: AllocGlobal + Threads + Wait + Sync>(
     put_told(&link, 1, into)
 }
 
-// Puts what a connection was told, where it was handed back.
+/// Puts what a connection was told, where it was handed back.
 fn put_told(link: &MemLink, at: usize, into: &mut String) -> Result<(), Memory> {
     match link.talk(at) {
         Some((_, sink)) => put_bytes(sink.bytes(), into)?,

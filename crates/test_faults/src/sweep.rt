@@ -68,7 +68,7 @@ pub fn put_runs<R: AllocGlobal + Threads + Wait + Sync>(
     Ok(())
 }
 
-// Puts what came of a run behind the text.
+/// Puts what came of a run behind the text.
 fn put_run<R: AllocGlobal + Threads + Wait + Sync>(
     rt: &R,
     table: &Table,
@@ -85,7 +85,7 @@ fn put_run<R: AllocGlobal + Threads + Wait + Sync>(
     put_twice(rt, &case, table.input.as_slice(), into)
 }
 
-// Puts what came of a case, and of the same words and input over the keeper that came back, behind the text.
+/// Puts what came of a case, and of the same words and input over the keeper that came back, behind the text.
 fn put_twice<R: AllocGlobal + Threads + Wait + Sync>(
     rt: &R,
     case: &Case<'_>,
@@ -102,7 +102,7 @@ fn put_twice<R: AllocGlobal + Threads + Wait + Sync>(
     put_ended(alloc, &again, into)
 }
 
-// The case in which the call with this number fails.
+/// The case in which the call with this number fails.
 fn case_of<'a>(words: &'a str, rows: &'a str, sweep: &Sweep, number: u64) -> Case<'a> {
     let case = Case {
         words,
@@ -131,7 +131,7 @@ fn case_of<'a>(words: &'a str, rows: &'a str, sweep: &Sweep, number: u64) -> Cas
     }
 }
 
-// The keeper's rows, with `x` in the place of the byte of the last row with this number, from 1, where bytes are replaced.
+/// The keeper's rows, with `x` in the place of the byte of the last row with this number, from 1, where bytes are replaced.
 fn rows_of_run(alloc: Global, table: &Table, sweep: &Sweep, number: u64) -> Result<String, Memory> {
     let mut bytes = table.rows.as_bytes().to_vec(alloc)?;
     if sweep.call == Call::Byte {

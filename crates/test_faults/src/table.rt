@@ -43,14 +43,14 @@ impl Table {
         Ok(())
     }
 
-    // Begins a command without input.
+    /// Begins a command without input.
     fn begin(&mut self, words: &str) -> Result<(), AllocError> {
         self.input.clear();
         self.words.clear();
         self.words.push_str(words)
     }
 
-    // Puts a row behind the others.
+    /// Puts a row behind the others.
     fn put_row(&mut self, row: &str) -> Result<(), AllocError> {
         self.last_row = self.rows.len();
         self.rows.push_str(row)?;

@@ -9,7 +9,7 @@ use std::sync::Wait;
 use std::thread::Threads;
 use test_runs::{Case, RUN, keeper_of, run_over};
 
-// The number of a word; 0 where it is none.
+/// The number of a word; 0 where it is none.
 fn number(word: Option<&str>) -> u64 {
     match word {
         Some(word) => word.parse::<u64>().unwrap_or(0),

@@ -32,7 +32,7 @@ pub struct Told {
     pub end: End,
 }
 
-// Serves one connection on 2025-09-01, on this bench or one of its own. None where memory is wanted for its sink.
+/// Serves one connection on 2025-09-01, on this bench or one of its own. None where memory is wanted for its sink.
 fn serve<R: Wait>(
     rt: &R,
     alloc: Global,

@@ -23,7 +23,7 @@ use test_told::unfolded;
 #[derive(Clone, Copy)]
 struct Case<'a>(&'a [&'a str], &'a [&'a str], End);
 
-// A keeper with these rows, one a line, whose append with this number fails; 0 is none.
+/// A keeper with these rows, one a line, whose append with this number fails; 0 is none.
 fn keeper(alloc: Global, rows: &str, failing_append: u64) -> Result<MemKeeper, Memory> {
     let mut kept = Vec::new(alloc);
     for row in rows.lines() {
@@ -32,7 +32,7 @@ fn keeper(alloc: Global, rows: &str, failing_append: u64) -> Result<MemKeeper, M
     Ok(MemKeeper::new(kept, vec![in alloc; failing_append]?))
 }
 
-// The parts, one behind another.
+/// The parts, one behind another.
 fn joined(alloc: Global, parts: &[&str]) -> Result<Vec<u8>, Memory> {
     let mut whole = Vec::new(alloc);
     for part in parts {
@@ -41,7 +41,7 @@ fn joined(alloc: Global, parts: &[&str]) -> Result<Vec<u8>, Memory> {
     Ok(whole)
 }
 
-// These bytes in pieces of at most so many.
+/// These bytes in pieces of at most so many.
 fn sent(alloc: Global, bytes: &[u8], piece: usize) -> Result<Sent, Memory> {
     Ok(Sent {
         bytes: bytes.to_vec(alloc)?,
@@ -51,7 +51,7 @@ fn sent(alloc: Global, bytes: &[u8], piece: usize) -> Result<Sent, Memory> {
     })
 }
 
-// Serves the connections one after another, in pieces of at most so many bytes, on the desk of one keeper.
+/// Serves the connections one after another, in pieces of at most so many bytes, on the desk of one keeper.
 fn check_over<R: Abort + Wait>(
     rt: &R,
     alloc: Global,
@@ -73,7 +73,7 @@ fn check_over<R: Abort + Wait>(
     Ok(())
 }
 
-// The same on the desk with its first three rows.
+/// The same on the desk with its first three rows.
 fn check<R: Abort + Wait>(rt: &R, alloc: Global, cases: &[Case<'_>]) -> Result<(), Fail> {
     check_over(rt, alloc, keeper(alloc, DESK, 0)?, 1_000, cases)
 }

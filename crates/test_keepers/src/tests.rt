@@ -23,13 +23,13 @@ const ENROLLED: &str = "s11 1 enrol 11 1 => 3 enrolled 1/-/1/7";
 /// The calls of the disk that an append makes.
 const CALLS: u64 = 4;
 
-// How many calls of the disk come before the fourth append.
+/// How many calls of the disk come before the fourth append.
 fn calls_before<R: AllocGlobal + Threads + Wait + Sync>(rt: &R) -> Option<u64> {
     let journal = answered(rt, started(rt.alloc(), 0)?, &[THREE])?;
     Some(journal.close().calls().len() as u64)
 }
 
-// The fourth request is asked again, and once more. Then there are four rows.
+/// The fourth request is asked again, and once more. Then there are four rows.
 fn check_acts_once<R: AllocGlobal + Abort + Threads + Wait + Sync>(
     rt: &R,
     journal: Journal<MemDisk>,
@@ -62,7 +62,7 @@ fn the_next_call_is_of_the_fifth_append(rt: HostRuntime) -> Result<(), Fail> {
     Ok(())
 }
 
-// Begins again with what a crash leaves behind the fault.
+/// Begins again with what a crash leaves behind the fault.
 fn check_crash<R: AllocGlobal + Abort + Threads + Wait + Sync>(
     rt: &R,
     failing_call: u64,

@@ -36,7 +36,7 @@ pub fn answer(
     }
 }
 
-// Appends the reply of a request on its day, and what differs.
+/// Appends the reply of a request on its day, and what differs.
 fn answer_ask(
     alloc: Global,
     machine: &mut Machine,
@@ -52,8 +52,8 @@ fn answer_ask(
     Ok(())
 }
 
-// Acts and takes it back, appends the reply, before it that not all was taken back where the machine shows something
-// else, and gives the reply.
+/// Acts and takes it back, appends the reply, before it that not all was taken back where the machine shows something
+/// else, and gives the reply.
 fn taken_back(
     alloc: Global,
     machine: &mut Machine,
@@ -72,7 +72,7 @@ fn taken_back(
     Ok(reply)
 }
 
-// Acts, and appends the reply where it is another one.
+/// Acts, and appends the reply where it is another one.
 fn act_again(
     machine: &mut Machine,
     day: Day,

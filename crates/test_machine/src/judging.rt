@@ -28,7 +28,7 @@ pub fn judge(
     Ok(())
 }
 
-// The word for what a tree says of a line.
+/// The word for what a tree says of a line.
 fn judged(
     alloc: Global,
     machine: &mut Machine,
@@ -41,7 +41,7 @@ fn judged(
     }
 }
 
-// The word for what a tree says of a request.
+/// The word for what a tree says of a request.
 fn judged_ask(
     alloc: Global,
     machine: &mut Machine,
@@ -65,7 +65,7 @@ fn word_of(refuted: Option<bool>) -> &'static [u8] {
     }
 }
 
-// Whether a tree refutes a request that the machine would block. None where it wouldn't block it. The machine is as before.
+/// Whether a tree refutes a request that the machine would block. None where it wouldn't block it. The machine is as before.
 fn refutes(
     machine: &mut Machine,
     day: Day,
@@ -79,7 +79,7 @@ fn refutes(
     checked(machine, day, ask.id.caller, &ask.command, &reply, tree)
 }
 
-// The same, of a command whose reply is known.
+/// The same, of a command whose reply is known.
 fn checked(
     machine: &mut Machine,
     day: Day,

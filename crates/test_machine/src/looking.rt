@@ -9,7 +9,7 @@ use sect_machine::Machine;
 use std::alloc::Global;
 use std::thread::Threads;
 
-// What is looked up by these words. None where they ask for nothing.
+/// What is looked up by these words. None where they ask for nothing.
 fn query_of(words: &str) -> Option<Query> {
     match words {
         "waiting" => return Some(Query::Waiting),
@@ -44,7 +44,7 @@ pub fn look(
     }
 }
 
-// Appends the report that these words ask for.
+/// Appends the report that these words ask for.
 fn print_report(machine: &Machine, words: &str, into: &mut Vec<u8>) -> Result<(), Memory> {
     match query_of(words) {
         Some(query) => show_report(machine, &query, into),

@@ -46,7 +46,7 @@ fn main(rt: HostRuntime) -> io::Result<()> {
     Ok(())
 }
 
-// What is printed for a line, where the request before it is known.
+/// What is printed for a line, where the request before it is known.
 fn told(
     rt: &(impl Threads + Sync),
     alloc: Global,
@@ -59,7 +59,7 @@ fn told(
     Ok(into)
 }
 
-// Appends what is printed for a line.
+/// Appends what is printed for a line.
 fn tell(
     rt: &(impl Threads + Sync),
     alloc: Global,

@@ -11,7 +11,7 @@ use std::alloc::Global;
 use std::ops::Range;
 use test_told::numbered;
 
-// The numbers and the line of `FIRST..END LINE`. None where they aren't there.
+/// The numbers and the line of `FIRST..END LINE`. None where they aren't there.
 fn range_of(words: &str) -> Option<(Range<u64>, &str)> {
     let (numbers, line) = words.split_once(' ')?;
     let (first, end) = numbers.split_once("..")?;
@@ -20,7 +20,7 @@ fn range_of(words: &str) -> Option<(Range<u64>, &str)> {
     Some((first..end, line))
 }
 
-// Whether a line is a request that the machine answers `amended`.
+/// Whether a line is a request that the machine answers `amended`.
 fn is_amended(alloc: Global, machine: &mut Machine, line: &[u8]) -> Result<bool, Memory> {
     let Ok(ask) = read_line(alloc, line) else {
         return Ok(false);
@@ -32,7 +32,7 @@ fn is_amended(alloc: Global, machine: &mut Machine, line: &[u8]) -> Result<bool,
     Ok(matches!(reply, Reply::Amended))
 }
 
-// How many of the numbers the line is answered `amended` with, where it has them in place of each `#`.
+/// How many of the numbers the line is answered `amended` with, where it has them in place of each `#`.
 fn count_amended(
     alloc: Global,
     machine: &mut Machine,

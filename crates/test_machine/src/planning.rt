@@ -5,7 +5,7 @@ use sect_best::print_plan;
 use sect_machine::Machine;
 use sect_report::print_unknown;
 
-// The student and the budget of these words. None where they name none.
+/// The student and the budget of these words. None where they name none.
 fn asked(words: &str) -> Option<(StudentId, Budget)> {
     let (student, budget) = words.split_once(' ')?;
     let student: u32 = student.parse().ok()?;
@@ -24,7 +24,7 @@ pub fn plan(machine: &mut Machine, words: &str, into: &mut Vec<u8>) -> Result<()
     }
 }
 
-// Appends the best whole schedule of a student.
+/// Appends the best whole schedule of a student.
 fn print_planned(
     machine: &mut Machine,
     student: StudentId,

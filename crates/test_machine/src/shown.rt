@@ -20,7 +20,7 @@ pub fn show(alloc: Global, machine: &Machine) -> Result<Vec<u8>, Memory> {
     Ok(into)
 }
 
-// Appends one table.
+/// Appends one table.
 fn show_table(machine: &Machine, table: Table, into: &mut Vec<u8>) -> Result<(), Memory> {
     let view = machine.look(&Query::Rows(table))?;
     export(table, &view, into)

@@ -36,7 +36,7 @@ pub fn count_made(
     }
 }
 
-// Appends the counts of a survey's lines.
+/// Appends the counts of a survey's lines.
 fn print_counts(alloc: Global, survey: &Survey, into: &mut Vec<u8>) -> Result<(), Memory> {
     let lines = survey.lines.as_slice();
     let blocked = lines.iter().filter(|line| is_blocked(line)).count();
@@ -54,7 +54,7 @@ fn is_blocked(line: &SurveyLine) -> bool {
     matches!(line.why, Why::Blocked(_, _))
 }
 
-// The student and the position of a line.
+/// The student and the position of a line.
 fn place(line: &SurveyLine) -> (u32, u8) {
     (line.student.0, line.rank)
 }

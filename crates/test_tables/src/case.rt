@@ -31,7 +31,7 @@ pub fn read_asked(words: &str) -> Option<Asked> {
     }
 }
 
-// The case of a table and the words `FIRST PIECE READ WRITE`.
+/// The case of a table and the words `FIRST PIECE READ WRITE`.
 fn read_case(table: Table, words: &str) -> Option<Case> {
     let mut words = words.split_whitespace();
     let first = words.next()?.parse::<u64>().ok()?;

@@ -3,7 +3,7 @@
 use sect_base::Memory;
 use test_told::byte_of;
 
-// Where a reading stands: at a byte, behind a backslash, at the first digit of a byte, or behind that one.
+/// Where a reading stands: at a byte, behind a backslash, at the first digit of a byte, or behind that one.
 #[derive(Clone, Copy)]
 enum At {
     Byte,
@@ -12,7 +12,7 @@ enum At {
     Low(u8),
 }
 
-// Puts what a byte says behind the text, and tells where the next one stands.
+/// Puts what a byte says behind the text, and tells where the next one stands.
 fn put_byte(at: At, byte: u8, text: &mut Vec<u8>) -> Result<At, Memory> {
     match (at, byte) {
         (At::Byte, b'\\') => return Ok(At::Mark),

@@ -17,7 +17,7 @@ pub fn term() -> Option<Day> {
     read_day(b"2025-09-01").ok()
 }
 
-// The commands of a text in pieces of this length, and how it ended.
+/// The commands of a text in pieces of this length, and how it ended.
 fn given(
     alloc: Global,
     table: Table,
@@ -33,7 +33,7 @@ fn given(
     Ok((out, end))
 }
 
-// Feeds a text in pieces of this length.
+/// Feeds a text in pieces of this length.
 fn feed_all(import: &mut Import, text: &[u8], length: usize, out: &mut Vec<Given>)
     requires { 0 < length }
 {
@@ -42,7 +42,7 @@ fn feed_all(import: &mut Import, text: &[u8], length: usize, out: &mut Vec<Given
     }
 }
 
-// Whether the commands stand at the same rows and are the same.
+/// Whether the commands stand at the same rows and are the same.
 fn are_same(a: &[Given], b: &[Given]) -> bool {
     a.len() == b.len()
         && a.iter()
@@ -65,7 +65,7 @@ fn print_end(end: Result<(), CsvFault>, into: &mut Vec<u8>) -> Result<(), Memory
     Ok(())
 }
 
-// Asks a command of registrar 0, and appends its row, the command and the reply.
+/// Asks a command of registrar 0, and appends its row, the command and the reply.
 fn ask(machine: &mut Machine, it: &Given, into: &mut Vec<u8>) -> Result<(), Memory> {
     print_number(it.row, into)?;
     into.push(b' ')?;
@@ -79,7 +79,7 @@ fn ask(machine: &mut Machine, it: &Given, into: &mut Vec<u8>) -> Result<(), Memo
     Ok(())
 }
 
-// Whether a text is read otherwise in pieces of this length.
+/// Whether a text is read otherwise in pieces of this length.
 fn differs(
     alloc: Global,
     table: Table,
@@ -113,7 +113,7 @@ pub fn import(
     Ok(into)
 }
 
-// Appends whether the text is read otherwise in small pieces.
+/// Appends whether the text is read otherwise in small pieces.
 fn tell_pieces(
     alloc: Global,
     table: Table,
@@ -128,7 +128,7 @@ fn tell_pieces(
     Ok(())
 }
 
-// Asks the commands, and appends what is told of each.
+/// Asks the commands, and appends what is told of each.
 fn ask_all(machine: &mut Machine, given: &[Given], into: &mut Vec<u8>) -> Result<(), Memory> {
     for it in given {
         ask(machine, it, into)?;

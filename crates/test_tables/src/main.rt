@@ -48,7 +48,7 @@ fn main(rt: HostRuntime) -> io::Result<()> {
     Ok(())
 }
 
-// Imports a text where it was asked for.
+/// Imports a text where it was asked for.
 fn import_told(
     rt: HostRuntime,
     alloc: Global,
@@ -67,7 +67,7 @@ fn import_told(
     Ok(())
 }
 
-// Begins a new machine and a new keeper, or exports a table.
+/// Begins a new machine and a new keeper, or exports a table.
 fn act(
     rt: HostRuntime,
     alloc: Global,

@@ -28,7 +28,7 @@ impl Meeting {
         self.late.load(Ordering::SeqCst) != 0
     }
 
-    // Waits a while until the other worker came to this step.
+    /// Waits a while until the other worker came to this step.
     fn hold(&self, other: &AtomicU64, until: u64) {
         for _ in 0..1_000_000u64 {
             if other.load(Ordering::SeqCst) >= until {

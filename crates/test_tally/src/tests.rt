@@ -6,7 +6,7 @@ mod shared;
 
 use sect_time::Day;
 
-// The first day.
+/// The first day.
 fn first_day() -> Day {
     match Day::new(0) {
         Some(day) => day,

@@ -1,4 +1,4 @@
-// Tests of lines, replies and rows as texts, both ways.
+//! Tests of lines, replies and rows as texts, both ways.
 #![tactic(auto)]
 
 #[cfg(test)]

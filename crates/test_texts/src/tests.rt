@@ -8,7 +8,7 @@ use std::test::Fail;
 mod tables;
 mod worked;
 
-// How a line's command is printed.
+/// How a line's command is printed.
 fn printed(alloc: Global, line: &str) -> Result<Vec<u8>, Fail> {
     let ask = read_line(alloc, line.as_bytes())?;
     let mut text = Vec::new(alloc);
@@ -16,7 +16,7 @@ fn printed(alloc: Global, line: &str) -> Result<Vec<u8>, Fail> {
     Ok(text)
 }
 
-// The first line that doesn't end with its command as it is printed.
+/// The first line that doesn't end with its command as it is printed.
 fn first_other_line<'a>(alloc: Global, lines: &[&'a str]) -> Result<Option<&'a str>, Fail> {
     for line in lines {
         if !line.as_bytes().ends_with(printed(alloc, line)?.as_slice()) {
@@ -61,7 +61,7 @@ fn other_lines_ask_nothing(rt: HostRuntime) {
     }
 }
 
-// The first text that isn't printed again as the reply that it is read as.
+/// The first text that isn't printed again as the reply that it is read as.
 fn first_other_reply<'a>(alloc: Global, texts: &[&'a str]) -> Result<Option<&'a str>, Fail> {
     for text in texts {
         let reply = read_reply(alloc, text.as_bytes())?.ok_or("the text is a reply")?;
@@ -74,7 +74,7 @@ fn first_other_reply<'a>(alloc: Global, texts: &[&'a str]) -> Result<Option<&'a 
     Ok(None)
 }
 
-// A blocked reply whose tree has so many brackets.
+/// A blocked reply whose tree has so many brackets.
 fn nested(alloc: Global, brackets: usize) -> Result<Vec<u8>, Fail> {
     let mut text = Vec::new(alloc);
     text.extend_from_slice(b"blocked 4 ")?;
@@ -101,7 +101,7 @@ fn replies_come_back(rt: HostRuntime) -> Result<(), Fail> {
     Ok(())
 }
 
-// The first text that isn't printed again as the row that it is read as.
+/// The first text that isn't printed again as the row that it is read as.
 fn first_other_row<'a>(alloc: Global, texts: &[&'a str]) -> Result<Option<&'a str>, Fail> {
     for text in texts {
         let entry = read_row(alloc, text.as_bytes())?.ok_or("the text is a row")?;

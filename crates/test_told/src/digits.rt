@@ -1,6 +1,6 @@
 // Bytes that digits say.
 
-// The value of a hexadecimal digit in small letters, 0 for another byte.
+/// The value of a hexadecimal digit in small letters, 0 for another byte.
 fn digit(byte: u8) -> u8 {
     match byte {
         b'0'..=b'9' => byte - b'0',

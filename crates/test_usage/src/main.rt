@@ -20,7 +20,7 @@ fn main(rt: HostRuntime) -> io::Result<()> {
     Ok(())
 }
 
-// The words of a line.
+/// The words of a line.
 fn words_of(alloc: Global, line: &str) -> Result<Vec<String>, AllocError> {
     let mut words = Vec::new(alloc);
     if line != "(none)" {
@@ -31,7 +31,7 @@ fn words_of(alloc: Global, line: &str) -> Result<Vec<String>, AllocError> {
     Ok(words)
 }
 
-// What the reader and `clap` make of the words of a line.
+/// What the reader and `clap` make of the words of a line.
 fn told(alloc: Global, line: &str) -> Result<String, AllocError> {
     let words = words_of(alloc, line)?;
     let asked = asked_for(alloc, &words)?;
@@ -42,7 +42,7 @@ fn told(alloc: Global, line: &str) -> Result<String, AllocError> {
     format!(in alloc; "{asked}, {found}")
 }
 
-// What words ask for, and the keeper that they name.
+/// What words ask for, and the keeper that they name.
 fn asked_for(alloc: Global, words: &[String]) -> Result<String, AllocError> {
     let asked = read_words(words);
     match needs(alloc, words) {

@@ -77,7 +77,7 @@ fn tell(told: &mut Vec<u8>, rows: &[ByteRecord]) -> Result<(), Memory> {
     Ok(())
 }
 
-// The rows that each piece shows, with a stroke behind each piece, and then the rows at the end.
+/// The rows that each piece shows, with a stroke behind each piece, and then the rows at the end.
 fn tell_pieces(alloc: Global, pieces: &[&[u8]]) -> Result<Vec<u8>, Memory> {
     let mut told = Vec::new(alloc);
     let mut records = Records::new(alloc);
@@ -91,7 +91,7 @@ fn tell_pieces(alloc: Global, pieces: &[&[u8]]) -> Result<Vec<u8>, Memory> {
     Ok(told)
 }
 
-// The same of pieces of one byte, with no strokes.
+/// The same of pieces of one byte, with no strokes.
 fn tell_bytes(alloc: Global, pieces: &[&[u8]]) -> Result<Vec<u8>, Memory> {
     let mut told = Vec::new(alloc);
     let mut records = Records::new(alloc);

@@ -18,7 +18,7 @@ fn answers(alloc: Global) -> Result<Vec<u8>, Memory> {
     joined(alloc, &[ENROLLED, WAITING])
 }
 
-// How many bytes are told behind so many that came.
+/// How many bytes are told behind so many that came.
 fn told_after(came: usize) -> usize {
     if came < ENDS[0] {
         0
@@ -37,7 +37,7 @@ fn end_after(came: usize) -> End {
     }
 }
 
-// The connection is told so many bytes of the answers, and ends so.
+/// The connection is told so many bytes of the answers, and ends so.
 fn check_told<R: Abort>(
     rt: &R,
     told: &Told,
@@ -51,7 +51,7 @@ fn check_told<R: Abort>(
     Ok(())
 }
 
-// Serves the connections one after another on one bench.
+/// Serves the connections one after another on one bench.
 fn served_on_a_bench<R: Wait>(
     rt: &R,
     alloc: Global,

@@ -10,7 +10,7 @@ use sect_time::Day;
 use std::alloc::{AllocError, Global};
 use std::test::Fail;
 
-// The id with this number.
+/// The id with this number.
 fn id(number: u64) -> Id
     ensures { (caller_number result.caller < 2 ^ 32) × (result.number < 2 ^ 64) }
 {
@@ -20,7 +20,7 @@ fn id(number: u64) -> Id
     }
 }
 
-// The desk of these rows, of which the appends with these numbers fail.
+/// The desk of these rows, of which the appends with these numbers fail.
 fn desk_of(
     alloc: Global,
     rows: Vec<Vec<u8>>,
@@ -29,7 +29,7 @@ fn desk_of(
     Desk::open(alloc, MemKeeper::new(rows, fail))
 }
 
-// Place and reply of an answer that is Done.
+/// Place and reply of an answer that is Done.
 fn done(answer: Answer<u64>) -> Option<(u32, u64)> {
     match answer {
         Answer::Done { place, reply } => Some((place, reply)),
@@ -37,7 +37,7 @@ fn done(answer: Answer<u64>) -> Option<(u32, u64)> {
     }
 }
 
-// Asks the numbers from 0 as commands of 1, and tells how many were done.
+/// Asks the numbers from 0 as commands of 1, and tells how many were done.
 fn ask_ones(desk: &mut Desk<Tally, MemKeeper>, count: u64) -> u64 {
     let mut acted = 0u64;
     for number in 0..count {
@@ -48,7 +48,7 @@ fn ask_ones(desk: &mut Desk<Tally, MemKeeper>, count: u64) -> u64 {
     acted
 }
 
-// Copies of the rows.
+/// Copies of the rows.
 fn copies(alloc: Global, rows: &[Vec<u8>]) -> Result<Vec<Vec<u8>>, AllocError> {
     let mut copies = Vec::new(alloc);
     for row in rows {
@@ -57,7 +57,7 @@ fn copies(alloc: Global, rows: &[Vec<u8>]) -> Result<Vec<Vec<u8>>, AllocError> {
     Ok(copies)
 }
 
-// Puts a byte into a row.
+/// Puts a byte into a row.
 fn set_byte(rows: &mut [Vec<u8>], at: usize, place: usize, byte: u8) {
     if let Some(row) = rows.get_mut(at) {
         if let Some(cell) = row.get_mut(place) {

@@ -16,7 +16,7 @@ use std::sync::Wait;
 use std::test::Fail;
 use std::thread::Threads;
 
-// A worker with a link: at its connection it asks the numbers from 0 as commands of 1, each when the gate lets it.
+/// A worker with a link: at its connection it asks the numbers from 0 as commands of 1, each when the gate lets it.
 #[derive(Drop)]
 struct Teller<'a, G> {
     alloc: Global,
@@ -55,7 +55,7 @@ impl<'a, K: Keeper, G: Gate> Work<Desk<Tally, K>> for Teller<'a, G> {
     }
 }
 
-// The places of so many asks of a caller.
+/// The places of so many asks of a caller.
 fn tell<K: Keeper, G: Gate, R: Wait>(
     alloc: Global,
     gate: &G,
@@ -88,7 +88,7 @@ fn tell<K: Keeper, G: Gate, R: Wait>(
     places
 }
 
-// The place of one ask that is done.
+/// The place of one ask that is done.
 fn place_of<K: Keeper, R: Wait>(
     rt: &R,
     office: &Office<Tally, K>,
@@ -108,7 +108,7 @@ fn place_of<K: Keeper, R: Wait>(
     }
 }
 
-// A link with one connection to come.
+/// A link with one connection to come.
 fn a_link(alloc: Global) -> Result<MemLink, AllocError> {
     let source = MemSource::new(Vec::new(alloc), 1, Vec::new(alloc));
     let Ok(sink) = MemSink::new(alloc, 1, 1, Vec::new(alloc)) else {
@@ -117,7 +117,7 @@ fn a_link(alloc: Global) -> Result<MemLink, AllocError> {
     Ok(MemLink::new(vec![in alloc; (source, sink)]?, Vec::new(alloc)))
 }
 
-// As many tellers at one gate.
+/// As many tellers at one gate.
 fn tellers<'a, G>(
     alloc: Global,
     gate: &'a G,
@@ -139,7 +139,7 @@ fn tellers<'a, G>(
     Ok(works)
 }
 
-// Runs as many tellers at an office, and then once more, and gives the places of both times and the desk.
+/// Runs as many tellers at an office, and then once more, and gives the places of both times and the desk.
 fn run_twice<G: Gate + Sync, R: Threads + Wait + Sync>(
     rt: &R,
     alloc: Global,
@@ -166,7 +166,7 @@ fn run_twice<G: Gate + Sync, R: Threads + Wait + Sync>(
     }
 }
 
-// Whether the places are the numbers below the total, each once.
+/// Whether the places are the numbers below the total, each once.
 fn are_each_once(alloc: Global, places: &[Vec<u32>], total: usize) -> Result<bool, AllocError> {
     let mut seen = vec![in alloc; 0u8; total]?;
     let mut count = 0usize;

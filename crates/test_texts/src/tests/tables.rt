@@ -1,6 +1,6 @@
 // Lines, replies and rows in all their forms, and texts of no value.
 
-// Lines as they are printed.
+/// Lines as they are printed.
 pub(super) const PRINTED: [&str; 32] = [
     "r1 1 offering 1 course 1 - 3 config 1 - subpart 1 section 7 1 - -",
     "r1 2 offering 5 course 5 - 30 config 5 - subpart 51 section 1 - - - section 2 - - - subpart 52 section 11 0 1 - section 21 - 2 -",
@@ -36,7 +36,7 @@ pub(super) const PRINTED: [&str; 32] = [
     "r0 0 batch -",
 ];
 
-// Lines with a default that is written, and how they are printed.
+/// Lines with a default that is written, and how they are printed.
 pub(super) const SHOWN: [(&str, &str); 6] = [
     ("s12 1 enrol 12 1 budget 2000", "enrol 12 1"),
     ("s12 1 enrol 12 1 only - rank 21 budget 2000", "enrol 12 1"),
@@ -49,7 +49,7 @@ pub(super) const SHOWN: [(&str, &str); 6] = [
     ("s12 1 wait 12 1 rank 21 give 9 class 5", "wait 12 1 give 9"),
 ];
 
-// Lines that ask nothing.
+/// Lines that ask nothing.
 pub(super) const BAD: [&str; 49] = [
     "s11 x enrol 11 1",
     "",
@@ -102,7 +102,7 @@ pub(super) const BAD: [&str; 49] = [
     "s1 1 batch 1 +2",
 ];
 
-// Lines whose verb is unknown.
+/// Lines whose verb is unknown.
 pub(super) const UNKNOWN: [&str; 4] = [
     "r1 1 fly",
     "r1 1 ",
@@ -110,7 +110,7 @@ pub(super) const UNKNOWN: [&str; 4] = [
     "@2025-10-01 r1 1 cancels 7",
 ];
 
-// Replies as they are printed.
+/// Replies as they are printed.
 pub(super) const REPLIES: [&str; 34] = [
     "amended",
     "enrolled 1/-/1/7",
@@ -148,7 +148,7 @@ pub(super) const REPLIES: [&str; 34] = [
     "refused Row reserve NoGroup",
 ];
 
-// Texts of no reply.
+/// Texts of no reply.
 pub(super) const NO_REPLIES: [&str; 26] = [
     "",
     "amended ",
@@ -178,7 +178,7 @@ pub(super) const NO_REPLIES: [&str; 26] = [
     "refused Unknown",
 ];
 
-// Rows of entries.
+/// Rows of entries.
 pub(super) const ROWS: [&str; 7] = [
     "2025-09-01 r1 1 offering 1 course 1 - 3 config 1 - subpart 1 section 7 1 - - = amended",
     "2025-09-01 s12 1 enrol 12 1 = blocked 4 [[[[16:7]]]]",
@@ -189,7 +189,7 @@ pub(super) const ROWS: [&str; 7] = [
     "1970-01-01 r0 0 batch - = batched",
 ];
 
-// Texts of no row.
+/// Texts of no row.
 pub(super) const NO_ROWS: [&str; 14] = [
     "",
     "2025-09-01 r1 9 wait 13 1 class 2 = waiting 2",
