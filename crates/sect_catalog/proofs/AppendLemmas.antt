@@ -2,7 +2,6 @@
 use Rattle.std.specs.Prelude.{◌≡◌, ℕ, zero, suc, ◌+◌, ◌-◌, ◌^◌, ◌<◌, ◌≤◌, min, nat_lt, Bool, true, false, not, ◌&&◌, cond, List, [], ◌∷◌, ◌++◌, length, map, flat_map, Option, Some, None, refl}
 use Rattle.std.specs.List.{list_all}
 use Rattle.std.specs.Option.{option_or, option_map, is_none}
-use Rattle.std.specs.BTreeMap.{BTreeMap}
 use Rattle.std.proofs.Common.{sym, ◌∙◌, ap, arith, subst, take, append_assoc, length-append}
 use Rattle.std.proofs.lemmas.Bool.Decides.{nat_tests}
 use Rattle.std.proofs.lemmas.Grind.{flat_map-append}
@@ -20,7 +19,7 @@ use Rattle.sect_catalog.specs.declared.row.CatalogFault.{CatalogFault}
 use Rattle.sect_catalog.specs.declared.place.Place.{Place}
 use Rattle.sect_catalog.specs.Catalogue.{Catalogue, sections_in, all_courses, all_configs, all_subparts, all_sections}
 use Rattle.sect_catalog.specs.Fault.{same_kind, known_id, bad_parent, fault_of, are_checked_after}
-use Rattle.sect_catalog.specs.Place.{Entry, placed, section_entry, subpart_entries, config_entries, course_entry, at_row, row_entries, all_entries, place_in, IsIndex, Notes, KeepsFirst, first_only}
+use Rattle.sect_catalog.specs.Place.{Entry, placed, section_entry, subpart_entries, config_entries, course_entry, at_row, row_entries, all_entries, Index, place_in, IsIndex, Notes, KeepsFirst, first_only}
 use Rattle.sect_catalog.specs.Search.{missing_part, count_fault, too_many_of}
 use Rattle.sect_catalog.specs.Rising.{put_all_rising, rising_courses, Keeps}
 use Rattle.sect_catalog.proofs.CheckLemmas.{map-append}
@@ -118,7 +117,7 @@ forgotten n es fs id h k = by_place (place_in es id) (keeps-those n es id h)
     by_place None e = drops-those n fs id k
     by_place (Some at) e = e
 
-pub taken_back : (rows : List OfferingRow) (o : OfferingRow) (old mid new : BTreeMap (ℕ × ℕ) Place) (entries : List Entry) (n k : ℕ) → n ≡ length rows → entries ≡ row_entries n o
+pub taken_back : (rows : List OfferingRow) (o : OfferingRow) (old mid new : Index) (entries : List Entry) (n k : ℕ) → n ≡ length rows → entries ≡ row_entries n o
     → IsIndex old rows → Notes old mid (take k entries) → KeepsFirst n mid new → IsIndex new rows
 taken_back rows o old mid new entries n k len are is notes keeps id =
     keeps id ∙ ap (first_only n) (notes id ∙ ap (λ p. option_or p (place_in (take k entries) id)) (is id))
@@ -136,7 +135,7 @@ row-parts rows o n len =
     let here : 0 + length rows ≡ n = omega (arith, len) in
     placed-append row_entries 0 rows (o ∷ []) ∙ ap (λ es. all_entries rows ++ es) (append-nil (row_entries (0 + length rows) o) ∙ ap (λ k. row_entries k o) here)
 
-pub index-more : (rows : List OfferingRow) (o : OfferingRow) (old new : BTreeMap (ℕ × ℕ) Place) (entries : List Entry) (n : ℕ) → n ≡ length rows → entries ≡ row_entries n o
+pub index-more : (rows : List OfferingRow) (o : OfferingRow) (old new : Index) (entries : List Entry) (n : ℕ) → n ≡ length rows → entries ≡ row_entries n o
     → IsIndex old rows → Notes old new entries → IsIndex new (rows ++ o ∷ [])
 index-more rows o old new entries n len are is notes id =
     notes id ∙ (λ i. option_or (is id i) (place_in (are i) id)) ∙ sym (place-append (all_entries rows) (row_entries n o) id) ∙ ap (λ es. place_in es id) (sym (row-parts rows o n len))
@@ -203,7 +202,7 @@ counts-pass c o h = within (length (all_sections c.rows) + row_sections o) last
         (too_many_of 20000 ((length (all_sections c.rows) + row_sections o) ∷ [])) counts
 
 -- the whole, a row more
-pub appended : (rows : List OfferingRow) (cancelled : List SectionId) (o : OfferingRow) (old new : BTreeMap (ℕ × ℕ) Place) (courses : List CourseId) (sections count n : ℕ) (entries : List Entry)
+pub appended : (rows : List OfferingRow) (cancelled : List SectionId) (o : OfferingRow) (old new : Index) (courses : List CourseId) (sections count n : ℕ) (entries : List Entry)
     → Keeps rows old courses sections → fault_of (record { rows = rows; cancelled = cancelled }) o ≡ None → n ≡ length rows → entries ≡ row_entries n o → Notes old new entries → count ≡ min (row_sections o) (2 ^ 64 - 1)
     → Keeps (rows ++ o ∷ []) new (put_all_rising courses (map (λ c. c.id) o.courses)) (sections + count)
 appended rows cancelled o old new courses sections count n entries k free len are notes counts = record {
@@ -217,7 +216,7 @@ appended rows cancelled o old new courses sections count n entries k free len ar
       whole ∙ sym (sections-more rows o);
 }
 
-pub sum_fits : (rows : List OfferingRow) (cancelled : List SectionId) (o : OfferingRow) (old : BTreeMap (ℕ × ℕ) Place) (courses : List CourseId) (sections count : ℕ)
+pub sum_fits : (rows : List OfferingRow) (cancelled : List SectionId) (o : OfferingRow) (old : Index) (courses : List CourseId) (sections count : ℕ)
     → Keeps rows old courses sections → fault_of (record { rows = rows; cancelled = cancelled }) o ≡ None → count ≡ min (row_sections o) (2 ^ 64 - 1) → sections + count < 2 ^ 64
 sum_fits rows cancelled o old courses sections count k free counts =
     let most : length (all_sections rows) + row_sections o ≤ 20000 = counts-pass (record { rows = rows; cancelled = cancelled }) o free in

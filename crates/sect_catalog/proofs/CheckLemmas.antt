@@ -2,16 +2,15 @@
 use Rattle.std.specs.Prelude.{◌≡◌, ℕ, suc, ◌||◌, List, [], ◌∷◌, ◌++◌, map, find, flat_map, refl}
 use Rattle.std.specs.List.{list_any}
 use Rattle.std.specs.Option.{option_map, is_some}
-use Rattle.std.specs.BTreeMap.{BTreeMap, get}
 use Rattle.std.proofs.Common.{◌∙◌, ap}
 use Rattle.std.proofs.lemmas.Map.Made.{is_some-lookup}
 use Rattle.sect_catalog.specs.declared.row.OfferingRow.{OfferingRow}
 use Rattle.sect_catalog.specs.declared.row.ConfigRow.{ConfigRow}
 use Rattle.sect_catalog.specs.declared.row.SubpartRow.{SubpartRow}
-use Rattle.sect_catalog.specs.declared.place.Place.{Place}
 use Rattle.sect_catalog.specs.Catalogue.{Catalogue}
+use Rattle.sect_catalog.specs.declared.place.Place.{Place}
 use Rattle.sect_catalog.specs.Fault.{same_kind, subpart_ids, config_ids, row_ids, stands_twice, known_id}
-use Rattle.sect_catalog.specs.Place.{Entry, placed, section_entry, subpart_entries, config_entries, course_entry, at_row, row_entries, all_entries, id_cmp, IsIndex, is_taken}
+use Rattle.sect_catalog.specs.Place.{Entry, placed, section_entry, subpart_entries, config_entries, course_entry, at_row, row_entries, all_entries, Index, place_of, IsIndex, is_taken}
 
 pub map-append : {X Y : Type 0} (f : X → Y) (xs ys : List X) → map f (xs ++ ys) ≡ map f xs ++ map f ys
 map-append f [] ys = refl
@@ -44,8 +43,8 @@ pub ids-all : (rows : List OfferingRow) → ids_of (all_entries rows) ≡ flat_m
 ids-all rows = ids-placed row_entries row_ids ids-row 0 rows
 
 -- the index has exactly the ids of the rows
-pub indexed : (index : BTreeMap (ℕ × ℕ) Place) (rows : List OfferingRow) → IsIndex index rows → (id : ℕ × ℕ) → is_some (get id_cmp index id) ≡ list_any (same_kind id) (flat_map row_ids rows)
+pub indexed : (index : Index) (rows : List OfferingRow) → IsIndex index rows → (id : ℕ × ℕ) → is_some (place_of index id) ≡ list_any (same_kind id) (flat_map row_ids rows)
 indexed index rows is id = ap is_some (is id) ∙ is_some-lookup (same_kind id) (all_entries rows) ∙ ap (list_any (same_kind id)) (ids-all rows)
 
-pub known-by : (index : BTreeMap (ℕ × ℕ) Place) (c : Catalogue) → IsIndex index c.rows → (o : OfferingRow) → option_map (λ id. id.1) (find (is_taken index o) (row_ids o)) ≡ known_id c o
+pub known-by : (index : Index) (c : Catalogue) → IsIndex index c.rows → (o : OfferingRow) → option_map (λ id. id.1) (find (is_taken index o) (row_ids o)) ≡ known_id c o
 known-by index c is o = λ i. option_map (λ id. id.1) (find (λ id. indexed index c.rows is id i || stands_twice (row_ids o) id) (row_ids o))

@@ -3,7 +3,6 @@ use Rattle.std.specs.Prelude.{◌≡◌, ℕ, suc, ◌+◌, Bool, true, false, n
 use Rattle.std.specs.List.{list_any}
 use Rattle.std.specs.Option.{option_map, option_map_or, option_or, is_none}
 use Rattle.std.specs.Bool.{then_some}
-use Rattle.std.specs.BTreeMap.{BTreeMap}
 use Rattle.std.proofs.Common.{sym, ◌∙◌, ap, arith}
 use Rattle.std.proofs.lemmas.List.{map-append}
 use Rattle.sect_base.specs.Told.{told}
@@ -20,7 +19,7 @@ use Rattle.sect_catalog.specs.declared.place.Place.{Place}
 use Rattle.sect_catalog.specs.Fault.{fault_of, are_checked_after, row_ids, config_ids, subpart_ids, same_kind, stands_twice, known_id, is_empty, bad_parent_after, bad_parent, above, too_many}
 use Rattle.sect_catalog.specs.Catalogue.{all_courses, all_configs, all_subparts, all_sections, sections_in}
 use Rattle.sect_catalog.specs.Limits.{with_limit, capped_course, capped_config, capped_subpart, capped_section}
-use Rattle.sect_catalog.specs.Place.{Entry, placed, section_entry, subpart_entries, config_entries, course_entry, at_row, row_entries, all_entries, place_in}
+use Rattle.sect_catalog.specs.Place.{Entry, placed, section_entry, subpart_entries, config_entries, course_entry, at_row, row_entries, all_entries, Index, place_in}
 use Rattle.sect_catalog.specs.Rising.{put_all_rising, Keeps}
 
 -- ---- plain lists and options
@@ -216,7 +215,7 @@ module _ (cap : Cap) (limit : Limit) where
   pub entries-same : (rows : List OfferingRow) → all_entries (map offering rows) ≡ all_entries rows
   entries-same rows = placed-same row_entries offering row-same 0 rows
 
-  pub limit-keeps : (rows : List OfferingRow) (index : BTreeMap (ℕ × ℕ) Place) (courses : List CourseId) (sections : ℕ) → Keeps rows index courses sections → Keeps (map offering rows) index courses sections
+  pub limit-keeps : (rows : List OfferingRow) (index : Index) (courses : List CourseId) (sections : ℕ) → Keeps rows index courses sections → Keeps (map offering rows) index courses sections
   limit-keeps rows index courses sections k = record {
     checked = checked-same [] rows ∙ k.checked;
     places = λ id. k.places id ∙ ap (λ es. place_in es id) (sym (entries-same rows));

@@ -1,19 +1,16 @@
 -- The set of cancelled sections, as one comes and as the last one goes.
-use Rattle.std.specs.Prelude.{◌≡◌, ℕ, Bool, true, false, not, ◌==◌, ◌||◌, cond, List, [], ◌∷◌, ◌++◌, refl}
+use Rattle.std.specs.Prelude.{◌≡◌, ℕ, nat_eq, Bool, true, false, not, ◌==◌, ◌||◌, cond, List, [], ◌∷◌, ◌++◌, refl}
 use Rattle.std.specs.List.{list_any}
-use Rattle.std.specs.Ordering.{nat_cmp, is_eq}
-use Rattle.std.specs.BTreeSet.{BTreeSet, contains}
-use Rattle.std.proofs.Common.{sym, ◌∙◌, ap, arith, append_assoc}
+use Rattle.std.specs.HashSet.{HashSet, contains}
+use Rattle.std.specs.declared.hash.BuildHasherDefault.{BuildHasherDefault}
+use Rattle.std.specs.declared.hash.FoldHasher.{FoldHasher}
+use Rattle.std.proofs.Common.{sym, ◌∙◌, ap, append_assoc}
 use Rattle.std.proofs.lemmas.Bool.{eqb-true}
-use Rattle.std.proofs.lemmas.Bool.Decides.{nat_tests}
 use Rattle.std.proofs.lemmas.List.{append-nil}
 use Rattle.sect_base.specs.declared.ids.SectionId.{SectionId}
 use Rattle.sect_catalog.specs.Rising.{are_apart_after, Marks}
 use Rattle.sect_catalog.proofs.AppendLemmas.{both, both-left, both-right}
 use Rattle.sect_catalog.proofs.SearchLemmas.{any-append}
-
-same_order : (a b : ℕ) → is_eq (nat_cmp a b) ≡ (a == b)
-same_order a b = grind (arith, nat_tests)
 
 not-true : (b : Bool) → not b ≡ true → b ≡ false
 not-true true h = sym h
@@ -36,11 +33,11 @@ apart-less before (s ∷ ss) id h =
       ap (list_any (λ t. t.0 == id.0)) (sym (append_assoc before (s ∷ []) ss)) ∙ rest.1,
     )
 
-pub marks-more : (ss : List SectionId) (id : SectionId) (old new : BTreeSet ℕ) → Marks ss old → list_any (λ s. s.0 == id.0) ss ≡ false
-    → ((q : ℕ) → contains nat_cmp new q ≡ cond (is_eq (nat_cmp id.0 q)) true (contains nat_cmp old q)) → Marks (ss ++ id ∷ []) new
+pub marks-more : (ss : List SectionId) (id : SectionId) (old new : HashSet ℕ (BuildHasherDefault FoldHasher)) → Marks ss old → list_any (λ s. s.0 == id.0) ss ≡ false
+    → ((q : ℕ) → contains nat_eq new q ≡ cond (id.0 == q) true (contains nat_eq old q)) → Marks (ss ++ id ∷ []) new
 marks-more ss id old new k fresh after = record {
   apart = apart-more [] ss id k.apart fresh;
-  has = λ q. after q ∙ (λ i. cond (same_order id.0 q i) true (k.has q i)) ∙ by_test (id.0 == q) (list_any (λ s. s.0 == q) ss) ∙ sym (any-append (λ s. s.0 == q) ss (id ∷ []));
+  has = λ q. after q ∙ ap (cond (id.0 == q) true) (k.has q) ∙ by_test (id.0 == q) (list_any (λ s. s.0 == q) ss) ∙ sym (any-append (λ s. s.0 == q) ss (id ∷ []));
 }
   where
     by_test : (b a : Bool) → cond b true a ≡ a || (b || false)
@@ -49,14 +46,14 @@ marks-more ss id old new k fresh after = record {
     by_test false true = refl
     by_test false false = refl
 
-pub marks-less : (ss : List SectionId) (id : SectionId) (old new : BTreeSet ℕ) → Marks (ss ++ id ∷ []) old
-    → ((q : ℕ) → contains nat_cmp new q ≡ cond (is_eq (nat_cmp id.0 q)) false (contains nat_cmp old q)) → Marks ss new
+pub marks-less : (ss : List SectionId) (id : SectionId) (old new : HashSet ℕ (BuildHasherDefault FoldHasher)) → Marks (ss ++ id ∷ []) old
+    → ((q : ℕ) → contains nat_eq new q ≡ cond (id.0 == q) false (contains nat_eq old q)) → Marks ss new
 marks-less ss id old new k after =
     let apart : (are_apart_after [] ss ≡ true) × (list_any (λ t. t.0 == id.0) ss ≡ false) = apart-less [] ss id k.apart in
     record {
       apart = apart.0;
       has = λ q.
-          after q ∙ (λ i. cond (same_order id.0 q i) false (k.has q i)) ∙ ap (cond (id.0 == q) false) (any-append (λ s. s.0 == q) ss (id ∷ []))
+          after q ∙ ap (cond (id.0 == q) false) (k.has q) ∙ ap (cond (id.0 == q) false) (any-append (λ s. s.0 == q) ss (id ∷ []))
           ∙ by_test q (id.0 == q) refl (list_any (λ s. s.0 == q) ss) refl apart.1;
     }
   where

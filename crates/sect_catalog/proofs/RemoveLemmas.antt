@@ -2,7 +2,6 @@
 use Rattle.std.specs.Prelude.{◌≡◌, ℕ, ◌+◌, ◌-◌, ◌^◌, ◌≤◌, min, nat_lt, Bool, true, false, not, ◌==◌, ◌&&◌, ◌||◌, cond, List, [], ◌∷◌, ◌++◌, length, map, filter, find, flat_map, Option, Some, None, refl}
 use Rattle.std.specs.List.{list_any, list_all}
 use Rattle.std.specs.Option.{option_or, option_map, is_none}
-use Rattle.std.specs.BTreeMap.{BTreeMap}
 use Rattle.std.proofs.Common.{sym, ◌∙◌, ap, arith, subst, append_assoc}
 use Rattle.std.proofs.lemmas.Bool.{eq-eqb}
 use Rattle.std.proofs.lemmas.Bool.Decides.{nat_tests}
@@ -12,10 +11,9 @@ use Rattle.sect_catalog.specs.declared.row.OfferingRow.{OfferingRow}
 use Rattle.sect_catalog.specs.declared.row.CourseRow.{CourseRow}
 use Rattle.sect_catalog.specs.declared.row.CatalogFault.{CatalogFault}
 use Rattle.sect_catalog.specs.declared.row.CatalogFault.TheVariants.{Known, BadParent}
-use Rattle.sect_catalog.specs.declared.place.Place.{Place}
 use Rattle.sect_catalog.specs.Catalogue.{Catalogue, all_courses, all_sections}
 use Rattle.sect_catalog.specs.Fault.{same_kind, config_ids, row_ids, stands_twice, known_id, bad_parent, fault_of, are_checked_after, are_checked}
-use Rattle.sect_catalog.specs.Place.{row_entries, all_entries, place_in, IsIndex, KeepsFirst, first_only}
+use Rattle.sect_catalog.specs.Place.{row_entries, all_entries, Index, place_in, IsIndex, KeepsFirst, first_only}
 use Rattle.sect_catalog.specs.Rising.{put_rising, put_all_rising, rising_courses, Keeps}
 use Rattle.sect_catalog.proofs.AppendLemmas.{both, both-left, both-right, all-row, all-rows, forgotten, row-parts, courses-of-more, row_sections, sections-more, counts-pass}
 use Rattle.sect_catalog.proofs.CountLemmas.{fault-parts}
@@ -44,7 +42,7 @@ checked-less before (r ∷ rs) o h =
 
 -- ---- the index
 
-index-less : (rows : List OfferingRow) (o : OfferingRow) (old new : BTreeMap (ℕ × ℕ) Place) (n : ℕ) → n ≡ length rows → IsIndex old (rows ++ o ∷ []) → KeepsFirst n old new → IsIndex new rows
+index-less : (rows : List OfferingRow) (o : OfferingRow) (old new : Index) (n : ℕ) → n ≡ length rows → IsIndex old (rows ++ o ∷ []) → KeepsFirst n old new → IsIndex new rows
 index-less rows o old new n len is keeps id =
     keeps id ∙ ap (first_only n) (is id ∙ ap (λ es. place_in es id) (row-parts rows o n len) ∙ place-append (all_entries rows) (row_entries n o) id)
     ∙ forgotten n (all_entries rows) (row_entries n o) id (all-rows n 0 rows (omega arith)) (all-row (λ at. not (nat_lt at.row n)) n o (λ at e. ap (λ k. not (nat_lt k n)) e ∙ past))
@@ -233,7 +231,7 @@ courses-less rows o h =
     (all-map (λ (c : CourseRow). c.id) (isnt_of o.courses) (all_courses rows) ∙ all-not (λ c'. list_any (λ c. c.id.0 == c'.id.0) o.courses) (all_courses rows) (new-courses rows o h)) refl)
 
 -- the whole, a row less
-pub removed : (rows : List OfferingRow) (o : OfferingRow) (old new : BTreeMap (ℕ × ℕ) Place) (courses : List CourseId) (sections count n : ℕ)
+pub removed : (rows : List OfferingRow) (o : OfferingRow) (old new : Index) (courses : List CourseId) (sections count n : ℕ)
     → Keeps (rows ++ o ∷ []) old courses sections → n ≡ length rows → KeepsFirst n old new → count ≡ min (row_sections o) (2 ^ 64 - 1)
     → Keeps rows new (filter (isnt_of o.courses) courses) (sections - count)
 removed rows o old new courses sections count n k len keeps counts =
@@ -248,7 +246,7 @@ removed rows o old new courses sections count n k len keeps counts =
           omega (arith, most, so, counts);
     }
 
-pub count_fits : (rows : List OfferingRow) (o : OfferingRow) (old : BTreeMap (ℕ × ℕ) Place) (courses : List CourseId) (sections count : ℕ)
+pub count_fits : (rows : List OfferingRow) (o : OfferingRow) (old : Index) (courses : List CourseId) (sections count : ℕ)
     → Keeps (rows ++ o ∷ []) old courses sections → count ≡ min (row_sections o) (2 ^ 64 - 1) → count ≤ sections
 count_fits rows o old courses sections count k counts =
     let so : sections ≡ length (all_sections rows) + row_sections o = k.counted ∙ sections-more rows o in

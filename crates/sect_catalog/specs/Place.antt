@@ -1,10 +1,10 @@
 -- Where the ids of rows stand: each id with its kind and its place, in the rows' order.
 use Rattle.std.specs.Prelude.{◌≡◌, ℕ, suc, nat_lt, Bool, ◌||◌, slice_get, cond, List, [], ◌∷◌, ◌++◌, Option, Some, None}
 use Rattle.std.specs.Option.{option_or, option_map, option_and_then, is_some}
-use Rattle.std.specs.Ordering.{nat_cmp, ordering_then}
-use Rattle.std.specs.BTreeMap.{BTreeMap, get}
+use Rattle.std.specs.HashMap.{HashMap, get}
 use Rattle.std.specs.Map.{lookup}
-use Rattle.std.specs.declared.cmp.Ordering.{Ordering}
+use Rattle.std.specs.declared.hash.BuildHasherDefault.{BuildHasherDefault}
+use Rattle.std.specs.declared.hash.FoldHasher.{FoldHasher}
 use Rattle.sect_catalog.specs.declared.row.OfferingRow.{OfferingRow}
 use Rattle.sect_catalog.specs.declared.row.CourseRow.{CourseRow}
 use Rattle.sect_catalog.specs.declared.row.ConfigRow.{ConfigRow}
@@ -58,16 +58,21 @@ all_entries rows = placed row_entries 0 rows
 abbrev pub place_in : List Entry → ℕ × ℕ → Option Place
 place_in entries id = lookup (same_kind id) entries
 
-abbrev pub id_cmp : ℕ × ℕ → ℕ × ℕ → Ordering
-id_cmp a b = ordering_then (nat_cmp a.0 b.0) (nat_cmp a.1 b.1)
+-- ids of kinds, each with a place
+abbrev pub Index : Type 0
+Index = HashMap (ℕ × ℕ) Place (BuildHasherDefault FoldHasher)
+
+-- the place that an index has for an id of a kind
+abbrev pub place_of : Index → ℕ × ℕ → Option Place
+place_of index id = get same_kind index id
 
 -- the index tells the first place of each id, and no more
-abbrev pub IsIndex : BTreeMap (ℕ × ℕ) Place → List OfferingRow → Type 0
-IsIndex index rows = (id : ℕ × ℕ) → get id_cmp index id ≡ place_in (all_entries rows) id
+abbrev pub IsIndex : Index → List OfferingRow → Type 0
+IsIndex index rows = (id : ℕ × ℕ) → place_of index id ≡ place_in (all_entries rows) id
 
 -- the new index has what the old one has, and the first places of the entries beside
-abbrev pub Notes : BTreeMap (ℕ × ℕ) Place → BTreeMap (ℕ × ℕ) Place → List Entry → Type 0
-Notes old new entries = (id : ℕ × ℕ) → get id_cmp new id ≡ option_or (get id_cmp old id) (place_in entries id)
+abbrev pub Notes : Index → Index → List Entry → Type 0
+Notes old new entries = (id : ℕ × ℕ) → place_of new id ≡ option_or (place_of old id) (place_in entries id)
 
 -- the place, where it is in the first rows
 abbrev pub first_only : ℕ → Option Place → Option Place
@@ -75,12 +80,12 @@ first_only rows None = None
 first_only rows (Some at) = cond (nat_lt at.row rows) (Some at) None
 
 -- the new index has the places of the old one in the first rows
-abbrev pub KeepsFirst : ℕ → BTreeMap (ℕ × ℕ) Place → BTreeMap (ℕ × ℕ) Place → Type 0
-KeepsFirst rows old new = (id : ℕ × ℕ) → get id_cmp new id ≡ first_only rows (get id_cmp old id)
+abbrev pub KeepsFirst : ℕ → Index → Index → Type 0
+KeepsFirst rows old new = (id : ℕ × ℕ) → place_of new id ≡ first_only rows (place_of old id)
 
 -- whether the index has the id, or the row has it twice
-abbrev pub is_taken : BTreeMap (ℕ × ℕ) Place → OfferingRow → ℕ × ℕ → Bool
-is_taken index o id = is_some (get id_cmp index id) || stands_twice (row_ids o) id
+abbrev pub is_taken : Index → OfferingRow → ℕ × ℕ → Bool
+is_taken index o id = is_some (place_of index id) || stands_twice (row_ids o) id
 
 -- what stands at a place
 abbrev pub config_at : List OfferingRow → Place → Option ConfigRow

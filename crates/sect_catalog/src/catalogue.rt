@@ -13,7 +13,7 @@ ghost use Rattle.sect_catalog.specs.Added.{with_row, row_fault};
 use crate::count::{count_fault, sections};
 use crate::fault::{bad_parent, missing_part};
 use crate::find::{config_at, course_at, offering_at, section_at};
-use crate::index;
+use crate::index::{self, Index};
 use crate::known::known_id;
 use crate::limit::{cap_key, put_at};
 use crate::place::{Key, Kind, Place, key, note_row};
@@ -21,7 +21,7 @@ use crate::rising::{drop_courses, put_courses};
 use crate::row::{AddFault, CatalogFault, ConfigRow, CourseRow, OfferingRow, SectionRow};
 use sect_base::{Cap, ConfigId, CourseId, Limit, Memory, OfferingId, SectionId};
 use std::alloc::Global;
-use std::collections::{BTreeMap, BTreeSet};
+use std::collections::{HashMap, HashSet};
 use std::marker::Model;
 
 /// Checked rows, and the sections that are cancelled, each in the order of its coming.
@@ -30,9 +30,9 @@ pub struct Catalogue {
     rows: Vec<OfferingRow>,
     cancelled: Vec<SectionId>,
     /// The ids of the cancelled sections.
-    marks: BTreeSet<u32>,
+    marks: HashSet<u32>,
     /// The place of each id.
-    places: BTreeMap<Key, Place>,
+    places: Index,
     /// The ids of all courses, in rising order.
     courses: Vec<CourseId>,
     /// How many sections there are.
@@ -58,8 +58,8 @@ impl Catalogue {
         Catalogue {
             rows: Vec::new(alloc),
             cancelled: Vec::new(alloc),
-            marks: BTreeSet::new(alloc),
-            places: BTreeMap::new(alloc),
+            marks: HashSet::new(alloc),
+            places: HashMap::new(alloc),
             courses: Vec::new(alloc),
             sections: 0,
         }

@@ -1,31 +1,33 @@
 // The index of ids: each id's first place in the rows.
 
 ghost use Rattle.std.specs.Prelude.{◌≡◌, ℕ, ◌∷◌, [], take, OnOk, OnErr};
-ghost use Rattle.std.specs.BTreeMap.{get};
 ghost use Rattle.std.specs.Option.{is_some};
-ghost use Rattle.sect_catalog.specs.Place.{id_cmp, Notes, KeepsFirst};
+ghost use Rattle.sect_catalog.specs.Place.{place_of, Notes, KeepsFirst};
 
 use crate::place::{Key, Place};
 use sect_base::Memory;
-use std::collections::BTreeMap;
+use std::collections::HashMap;
+
+/// Ids of kinds, each with a place.
+pub type Index = HashMap<Key, Place>;
 
 /// The place of an id.
-pub fn place(index: &BTreeMap<Key, Place>, id: Key) -> Option<Place>
-    ensures { result ≡ get id_cmp index.now id }
+pub fn place(index: &Index, id: Key) -> Option<Place>
+    ensures { result ≡ place_of index.now id }
 {
     index.get(&id).copied()
 }
 
 /// Whether the id has a place.
-pub fn has(index: &BTreeMap<Key, Place>, id: Key) -> bool
-    ensures { result ≡ is_some (get id_cmp index.now id) }
+pub fn has(index: &Index, id: Key) -> bool
+    ensures { result ≡ is_some (place_of index.now id) }
 {
     index.contains_key(&id)
 }
 
 /// Notes the entries' places. An id that has one keeps it. Where memory runs out, some first
 /// ones are noted.
-pub fn note(index: &mut BTreeMap<Key, Place>, entries: &[(Key, Place)]) -> Result<(), Memory>
+pub fn note(index: &mut Index, entries: &[(Key, Place)]) -> Result<(), Memory>
     ensures ok { OnOk result (Notes index.old index.new entries.now) }
     ensures err { OnErr result ((n : ℕ) × Notes index.old index.new (take n entries.now)) }
 {
@@ -35,9 +37,9 @@ pub fn note(index: &mut BTreeMap<Key, Place>, entries: &[(Key, Place)]) -> Resul
     Ok(())
 }
 
-fn note_one(index: &mut BTreeMap<Key, Place>, id: Key, at: Place) -> Result<(), Memory>
+fn note_one(index: &mut Index, id: Key, at: Place) -> Result<(), Memory>
     ensures ok { OnOk result (Notes index.old index.new ((id, at) ∷ [])) }
-    ensures err { OnErr result ((q : ℕ × ℕ) → get id_cmp index.new q ≡ get id_cmp index.old q) }
+    ensures err { OnErr result ((q : ℕ × ℕ) → place_of index.new q ≡ place_of index.old q) }
 {
     if has(index, id) {
         return Ok(());
@@ -47,7 +49,7 @@ fn note_one(index: &mut BTreeMap<Key, Place>, id: Key, at: Place) -> Result<(), 
 }
 
 /// Forgets the places that aren't in so many first rows. It takes no memory.
-pub fn keep_first(index: &mut BTreeMap<Key, Place>, rows: usize)
+pub fn keep_first(index: &mut Index, rows: usize)
     ensures { KeepsFirst rows index.old index.new }
 {
     index.retain(|_, place| place.row < rows);

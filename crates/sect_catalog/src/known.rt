@@ -5,14 +5,13 @@ ghost use Rattle.std.specs.Option.{option_map};
 ghost use Rattle.sect_catalog.specs.Fault.{subpart_ids, config_ids, row_ids};
 ghost use Rattle.sect_catalog.specs.Place.{is_taken as taken_of};
 
-use crate::index;
-use crate::place::{Key, Place};
+use crate::index::{Index, has};
+use crate::place::Key;
 use crate::row::{ConfigRow, CourseRow, OfferingRow, SectionRow, SubpartRow};
 use crate::times::times_in_row;
-use std::collections::BTreeMap;
 
 /// The first id of the row that is in the index, or stands twice in the row.
-pub fn known_id(index: &BTreeMap<Key, Place>, row: &OfferingRow) -> Option<u32>
+pub fn known_id(index: &Index, row: &OfferingRow) -> Option<u32>
     ensures { result ≡ option_map (λ id. id.1) (find (taken_of index.now row.now) (row_ids row.now)) }
 {
     if is_taken(index, row, (0, row.id.0)) {
@@ -24,17 +23,13 @@ pub fn known_id(index: &BTreeMap<Key, Place>, row: &OfferingRow) -> Option<u32>
     known_in_configs(index, row, row.configs.as_slice())
 }
 
-fn is_taken(index: &BTreeMap<Key, Place>, row: &OfferingRow, id: Key) -> bool
+fn is_taken(index: &Index, row: &OfferingRow, id: Key) -> bool
     ensures { result ≡ taken_of index.now row.now id }
 {
-    index::has(index, id) || times_in_row(row, id) > 1
+    has(index, id) || times_in_row(row, id) > 1
 }
 
-fn known_course(
-    index: &BTreeMap<Key, Place>,
-    row: &OfferingRow,
-    courses: &[CourseRow],
-) -> Option<u32>
+fn known_course(index: &Index, row: &OfferingRow, courses: &[CourseRow]) -> Option<u32>
     ensures { result ≡ option_map (λ id. id.1) (find (taken_of index.now row.now) (map (λ c. (1, c.id.0)) courses.now)) }
 {
     for course in courses {
@@ -45,11 +40,7 @@ fn known_course(
     None
 }
 
-fn known_in_configs(
-    index: &BTreeMap<Key, Place>,
-    row: &OfferingRow,
-    configs: &[ConfigRow],
-) -> Option<u32>
+fn known_in_configs(index: &Index, row: &OfferingRow, configs: &[ConfigRow]) -> Option<u32>
     ensures { result ≡ option_map (λ id. id.1) (find (taken_of index.now row.now) (flat_map config_ids configs.now)) }
 {
     for config in configs {
@@ -60,11 +51,7 @@ fn known_in_configs(
     None
 }
 
-fn known_in_config(
-    index: &BTreeMap<Key, Place>,
-    row: &OfferingRow,
-    config: &ConfigRow,
-) -> Option<u32>
+fn known_in_config(index: &Index, row: &OfferingRow, config: &ConfigRow) -> Option<u32>
     ensures { result ≡ option_map (λ id. id.1) (find (taken_of index.now row.now) (config_ids config.now)) }
 {
     if is_taken(index, row, (2, config.id.0)) {
@@ -73,11 +60,7 @@ fn known_in_config(
     known_in_subparts(index, row, config.subparts.as_slice())
 }
 
-fn known_in_subparts(
-    index: &BTreeMap<Key, Place>,
-    row: &OfferingRow,
-    subparts: &[SubpartRow],
-) -> Option<u32>
+fn known_in_subparts(index: &Index, row: &OfferingRow, subparts: &[SubpartRow]) -> Option<u32>
     ensures { result ≡ option_map (λ id. id.1) (find (taken_of index.now row.now) (flat_map subpart_ids subparts.now)) }
 {
     for subpart in subparts {
@@ -88,11 +71,7 @@ fn known_in_subparts(
     None
 }
 
-fn known_in_subpart(
-    index: &BTreeMap<Key, Place>,
-    row: &OfferingRow,
-    subpart: &SubpartRow,
-) -> Option<u32>
+fn known_in_subpart(index: &Index, row: &OfferingRow, subpart: &SubpartRow) -> Option<u32>
     ensures { result ≡ option_map (λ id. id.1) (find (taken_of index.now row.now) (subpart_ids subpart.now)) }
 {
     if is_taken(index, row, (3, subpart.id.0)) {
@@ -101,11 +80,7 @@ fn known_in_subpart(
     known_section(index, row, subpart.sections.as_slice())
 }
 
-fn known_section(
-    index: &BTreeMap<Key, Place>,
-    row: &OfferingRow,
-    sections: &[SectionRow],
-) -> Option<u32>
+fn known_section(index: &Index, row: &OfferingRow, sections: &[SectionRow]) -> Option<u32>
     ensures { result ≡ option_map (λ id. id.1) (find (taken_of index.now row.now) (map (λ s. (4, s.id.0)) sections.now)) }
 {
     for section in sections {

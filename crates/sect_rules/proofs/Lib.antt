@@ -6,3 +6,4 @@ pub mod CreditLemmas
 pub mod ReservedLemmas
 pub mod LeastLemmas
 pub mod OwnLemmas
+pub mod CourseLemmas

@@ -1,8 +1,8 @@
 -- The least of two, where there are any.
-use Rattle.std.specs.Prelude.{ℕ, Bool, nat_le, ◌||◌, cond, List, [], map, filter, Option, Some, None}
-use Rattle.sect_model.specs.Data.{SectionId, Choice}
-use Rattle.sect_model.specs.World.{World}
-use Rattle.sect_model.specs.Overlap.{sections_overlap}
+use Rattle.std.specs.Prelude.{ℕ, Bool, false, nat_le, ◌||◌, cond, List, [], map, filter, Option, Some, None}
+use Rattle.sect_time.specs.Pattern.{lists_overlap}
+use Rattle.sect_model.specs.Data.{SectionId, Choice, Reservation, Pattern}
+use Rattle.sect_model.specs.World.{World, meetings_of}
 use Rattle.sect_model.specs.Allowed.{permits_overlap}
 use Rattle.std.specs.Option.{option_map_or}
 
@@ -15,7 +15,12 @@ abbrev pub lesser_of : Option ℕ → Option ℕ → Option ℕ
 lesser_of None later = later
 lesser_of (Some n) later = Some (lesser n later)
 
--- the sections of a choice that this one overlaps, where neither permits it
-abbrev pub overlapped : World → Bool → SectionId → Choice → List ℕ
-overlapped w permitted section choice =
-    cond (permitted || permits_overlap w choice) [] (map (λ s. s.0) (filter (sections_overlap w section) choice.sections))
+-- the sections of a choice that these meetings overlap, where neither permits it
+abbrev pub overlapped : World → Bool → List Pattern → Choice → List ℕ
+overlapped w permitted meetings choice =
+    cond (permitted || permits_overlap w choice) [] (map (λ s. s.0) (filter (λ s. lists_overlap meetings (meetings_of w s)) choice.sections))
+
+-- the earlier sections of a choice that these meetings overlap, where its reservation doesn't permit it
+abbrev pub own_overlapped : World → Option Reservation → List SectionId → List Pattern → List ℕ
+own_overlapped w r earlier meetings =
+    cond (option_map_or (λ r. r.overlap) r false) [] (map (λ s. s.0) (filter (λ s. lists_overlap (meetings_of w s) meetings) earlier))

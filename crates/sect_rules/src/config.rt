@@ -11,7 +11,6 @@ ghost use Rattle.sect_model.specs.Rules.{first_broken, config_rules, is_restrict
 ghost use Rattle.sect_rules.specs.Standing.{admits_all as admits_places, own_config};
 
 use crate::moment::Moment;
-use crate::reserved::is_over;
 use sect_base::{ConfigId, CourseId, Level, OfferingId, ReservationId, Rule, SectionId};
 use sect_catalog::SubpartRow;
 use sect_reserve::{Includes, Reservation, Restriction, admits_config, admits_section};
@@ -94,11 +93,11 @@ impl Moment<'_> {
         self.keeps();
         let offering = self.offering(course)?.id;
         let r = self.named(id);
-        let level = Level::Config(config);
-        if !is_over(r) && self.is_full(level) {
+        let closed = self.closed(offering, r, Level::Config(config));
+        if closed.full {
             return Some((Rule::ConfigFull, config.0));
         }
-        if !is_over(r) && self.is_kept(offering, r, level) {
+        if closed.reserved {
             return Some((Rule::ConfigReserved, config.0));
         }
         if excludes_config(r, config) {

@@ -14,11 +14,12 @@ impl Moment<'_> {
         ensures { result ≡ first_broken (option_map_or (λ o. course_rules self.now.at self.now.student o course) (offering_of self.now.at course) []) }
     {
         let offering = self.offering(course)?;
-        if self.holds_offering(offering.id) {
+        if self.holds_offering(course, offering) {
             return Some((Rule::InOffering, offering.id.0));
         }
-        let credits = self.credits_held() + u32::from(self.credits(course));
-        if u32::from(self.max_credits()) < credits {
+        let most = self.max_credits();
+        let credits = self.credits_held(most) + u32::from(self.credits(course));
+        if u32::from(most) < credits {
             return Some((Rule::Credits, credits));
         }
         None

@@ -3,11 +3,12 @@
 ghost use Rattle.std.specs.Prelude.{◌≡◌, ◌<◌, ◌≤◌, ◌^◌, ◌&&◌, ◌==◌, not, cond, length, filter, count_by, sum_by};
 ghost use Rattle.std.specs.List.{list_any};
 ghost use Rattle.std.specs.Option.{option_map_or};
-ghost use Rattle.sect_model.specs.World.{is_of as course_is_of, credits_of};
+ghost use Rattle.sect_model.specs.World.{credits_of, held_by};
 ghost use Rattle.sect_model.specs.Allowed.{max_credits as most_credits};
 ghost use Rattle.sect_rules.specs.Moment.{is_given as given_up, counts_at as choice_counts, uses};
 
-use sect_base::{Choice, CourseId, Level, OfferingId, ReservationId, StudentId};
+use sect_base::{Choice, CourseId, Level, ReservationId, StudentId};
+use sect_catalog::CourseRow;
 use sect_model::Enrolment;
 use sect_space::World;
 
@@ -30,11 +31,16 @@ fn counts_at(world: &World, level: Level, choice: &Choice) -> bool
     }
 }
 
-/// How many of the enrolments that leave count at the level.
-pub fn counts_given(world: &World, level: Level, give: &[CourseId], held: &[Enrolment]) -> usize
-    ensures { result ≡ count_by (λ e. given_up give.now e.choice.course && choice_counts world.now.world level e.choice) held.now }
+/// How many of the student's enrolments leave and count at the level. Where nothing is given up, none is looked at.
+pub fn counts_given(world: &World, level: Level, give: &[CourseId], student: StudentId) -> usize
+    ensures { result ≡ count_by (λ e. given_up give.now e.choice.course && choice_counts world.now.world level e.choice) (held_by world.now.world student) }
 {
-    held.iter()
+    if give.is_empty() {
+        return 0;
+    }
+    world
+        .enrolments(student)
+        .iter()
         .filter(|e| is_given(give, e.choice.course) && counts_at(world, level, &e.choice))
         .count()
 }
@@ -58,11 +64,16 @@ fn is_by(id: ReservationId, choice: &Choice) -> bool
     }
 }
 
-/// How many of the enrolments that leave are by the reservation.
-pub fn given_by(id: ReservationId, give: &[CourseId], held: &[Enrolment]) -> usize
-    ensures { result ≡ count_by (λ e. given_up give.now e.choice.course && uses id e.choice) held.now }
+/// How many of the student's enrolments leave and are by the reservation. Where nothing is given up, none is looked at.
+pub fn given_by(world: &World, id: ReservationId, give: &[CourseId], student: StudentId) -> usize
+    ensures { result ≡ count_by (λ e. given_up give.now e.choice.course && uses id e.choice) (held_by world.now.world student) }
 {
-    held.iter()
+    if give.is_empty() {
+        return 0;
+    }
+    world
+        .enrolments(student)
+        .iter()
         .filter(|e| is_given(give, e.choice.course) && is_by(id, &e.choice))
         .count()
 }
@@ -74,18 +85,25 @@ pub fn made_by(id: ReservationId, done: &[Choice]) -> usize
     done.iter().filter(|choice| is_by(id, choice)).count()
 }
 
-/// Whether an enrolment that stays is in the offering.
-pub fn holds_kept(world: &World, id: OfferingId, give: &[CourseId], held: &[Enrolment]) -> bool
-    ensures { result ≡ list_any (λ e. not (given_up give.now e.choice.course) && course_is_of world.now.world id e.choice.course) held.now }
+/// Whether the course is one of the rows.
+fn is_listed(courses: &[CourseRow], id: CourseId) -> bool
+    ensures { result ≡ list_any (λ c. c.id.0 == id.0) courses.now }
 {
-    held.iter().any(|e| !is_given(give, e.choice.course) && world.is_of(id, e.choice.course))
+    courses.iter().any(|row| row.id == id)
 }
 
-/// Whether a choice is in the offering.
-pub fn holds_made(world: &World, id: OfferingId, done: &[Choice]) -> bool
-    ensures { result ≡ list_any (λ c. course_is_of world.now.world id c.course) done.now }
+/// Whether an enrolment that stays is in one of the courses.
+pub fn holds_kept(courses: &[CourseRow], give: &[CourseId], held: &[Enrolment]) -> bool
+    ensures { result ≡ list_any (λ e. not (given_up give.now e.choice.course) && list_any (λ c. c.id.0 == e.choice.course.0) courses.now) held.now }
 {
-    done.iter().any(|choice| world.is_of(id, choice.course))
+    held.iter().any(|e| !is_given(give, e.choice.course) && is_listed(courses, e.choice.course))
+}
+
+/// Whether a choice is of one of the courses.
+pub fn holds_made(courses: &[CourseRow], done: &[Choice]) -> bool
+    ensures { result ≡ list_any (λ d. list_any (λ c. c.id.0 == d.course.0) courses.now) done.now }
+{
+    done.iter().any(|choice| is_listed(courses, choice.course))
 }
 
 /// The credits of a course, 0 where it is unknown.

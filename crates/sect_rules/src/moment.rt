@@ -1,6 +1,6 @@
 // The world at a path, without a copy of it.
 
-ghost use Rattle.std.specs.Prelude.{◌≡◌, ◌≤◌, option_copied, flat_map, IsTrue};
+ghost use Rattle.std.specs.Prelude.{◌≡◌, ◌≤◌, Some, option_copied, flat_map, IsTrue};
 ghost use Rattle.std.specs.List.{list_all};
 ghost use Rattle.sect_catalog.specs.Fault.{are_checked};
 ghost use Rattle.sect_model.specs.Kept.{includes_fit};
@@ -29,7 +29,7 @@ use sect_model::Enrolment;
 use sect_people::People;
 use sect_reserve::{Reservation, Restriction};
 use sect_space::World;
-use sect_time::Day;
+use sect_time::{Day, Meeting};
 use std::marker::Model;
 
 /// The world after the courses given up have left and the choices made so far were added, as the
@@ -124,8 +124,7 @@ impl<'a> Moment<'a> {
     pub fn count(&self, level: Level) -> u64
         ensures { result ≡ count_of self.now.at level }
     {
-        let held = self.world.enrolments(self.student);
-        let left = counts_given(self.world, level, self.give, held);
+        let left = counts_given(self.world, level, self.give, self.student);
         let made = counts_made(self.world, level, self.done);
         u64::from(self.world.count(level)) - left as u64 + made as u64
     }
@@ -134,19 +133,21 @@ impl<'a> Moment<'a> {
     pub fn used(&self, id: ReservationId) -> u64
         ensures { result ≡ used_of self.now.at id }
     {
-        let held = self.world.enrolments(self.student);
-        let left = given_by(id, self.give, held);
+        let left = given_by(self.world, id, self.give, self.student);
         let made = made_by(id, self.done);
         u64::from(self.world.used(id)) - left as u64 + made as u64
     }
 
-    /// Whether the student holds a course of the offering.
-    pub fn holds_offering(&self, offering: OfferingId) -> bool
-        ensures { result ≡ has_offering self.now.at self.now.student offering }
+    /// Whether the student holds a course of the offering, which is that of this course. No course is looked up.
+    pub fn holds_offering(&self, course: CourseId, offering: &OfferingRow) -> bool
+        requires { offering_of self.now.at course ≡ Some offering.now }
+        ensures { result ≡ has_offering self.now.at self.now.student offering.now.id }
     {
+        let _ = course;
+        let courses = offering.courses.as_slice();
         let held = self.world.enrolments(self.student);
-        let kept = holds_kept(self.world, offering, self.give, held);
-        kept || holds_made(self.world, offering, self.done)
+        let kept = holds_kept(courses, self.give, held);
+        kept || holds_made(courses, self.done)
     }
 
     /// The student's maximum of credits.
@@ -157,11 +158,11 @@ impl<'a> Moment<'a> {
     }
 
     /// The credits of the student's enrolments. Those held before are at most the maximum.
-    pub fn credits_held(&self) -> u32
+    pub fn credits_held(&self, most: u16) -> u32
+        requires { most ≡ most_credits self.now.at self.now.student }
         ensures value { result ≡ credits_of_student self.now.at self.now.student }
         ensures few { result ≤ 71000 }
     {
-        let most = max_credits(self.world, self.student);
         let held = self.world.enrolments(self.student);
         let kept = credits_kept(self.world, self.give, held);
         prove!(kept <= u32::from(most));
@@ -197,16 +198,16 @@ impl<'a> Moment<'a> {
         let _ = &self.world;
     }
 
-    /// The least section of the student's other choices that this one overlaps, where neither
+    /// The least section of the student's other choices that the meetings overlap, where neither
     /// permits it.
-    pub fn least_held(&self, permitted: bool, section: SectionId) -> Option<u32>
-        ensures { result ≡ least (flat_map (λ e. overlapped self.now.at permitted section e.choice) (held_by self.now.at self.now.student)) }
+    pub fn least_held(&self, permitted: bool, meetings: &[Meeting]) -> Option<u32>
+        ensures { result ≡ least (flat_map (λ e. overlapped self.now.at permitted meetings.now e.choice) (held_by self.now.at self.now.student)) }
     {
         let held = self.world.enrolments(self.student);
         let (give, done) = (self.give, self.done);
         lesser_of(
-            self.least_kept(permitted, section, give, held),
-            self.least_made(permitted, section, done),
+            self.least_kept(permitted, meetings, give, held),
+            self.least_made(permitted, meetings, done),
         )
     }
 }

@@ -6,11 +6,10 @@ ghost use Rattle.std.specs.List.{list_any};
 ghost use Rattle.std.specs.Option.{option_map_or};
 ghost use Rattle.sect_time.specs.Pattern.{meetings_overlap, lists_overlap};
 ghost use Rattle.sect_model.specs.World.{meetings_of};
-ghost use Rattle.sect_model.specs.Overlap.{sections_overlap};
 ghost use Rattle.sect_model.specs.Allowed.{permits_overlap as choice_permits};
 ghost use Rattle.sect_model.specs.Rules.{least, held_overlaps, own_overlaps};
 ghost use Rattle.sect_rules.specs.Moment.{is_given as given_up};
-ghost use Rattle.sect_rules.specs.Overlapped.{lesser_of as lesser_option, overlapped};
+ghost use Rattle.sect_rules.specs.Overlapped.{lesser_of as lesser_option, overlapped, own_overlapped};
 
 use crate::held::is_given;
 use crate::moment::Moment;
@@ -64,12 +63,6 @@ impl Moment<'_> {
         }
     }
 
-    fn overlap(&self, a: SectionId, b: SectionId) -> bool
-        ensures { result ≡ sections_overlap self.now.at a b }
-    {
-        any_overlap(self.meetings(a), self.meetings(b))
-    }
-
     /// Whether the choice is by a reservation that permits overlap.
     fn permits_overlap(&self, choice: &Choice) -> bool
         ensures { result ≡ choice_permits self.now.at choice.now }
@@ -80,15 +73,15 @@ impl Moment<'_> {
         }
     }
 
-    /// The least of the sections that this one overlaps.
-    fn least_of(&self, section: SectionId, others: &[SectionId]) -> Option<u32>
-        ensures { result ≡ least (map (λ s. s.0) (filter (sections_overlap self.now.at section) others.now)) }
+    /// The least of the sections that the meetings overlap.
+    fn least_of(&self, meetings: &[Meeting], others: &[SectionId]) -> Option<u32>
+        ensures { result ≡ least (map (λ s. s.0) (filter (λ s. lists_overlap meetings.now (meetings_of self.now.at s)) others.now)) }
     {
         match others {
             [] => None,
             [first, rest @ ..] => {
-                let later = self.least_of(section, rest);
-                if self.overlap(section, *first) {
+                let later = self.least_of(meetings, rest);
+                if any_overlap(meetings, self.meetings(*first)) {
                     lesser_of(Some(first.0), later)
                 } else {
                     later
@@ -97,15 +90,15 @@ impl Moment<'_> {
         }
     }
 
-    /// The least of the sections that overlap this one.
-    fn least_before(&self, section: SectionId, others: &[SectionId]) -> Option<u32>
-        ensures { result ≡ least (map (λ s. s.0) (filter (λ s. sections_overlap self.now.at s section) others.now)) }
+    /// The least of the sections that overlap the meetings.
+    fn least_before(&self, meetings: &[Meeting], others: &[SectionId]) -> Option<u32>
+        ensures { result ≡ least (map (λ s. s.0) (filter (λ s. lists_overlap (meetings_of self.now.at s) meetings.now) others.now)) }
     {
         match others {
             [] => None,
             [first, rest @ ..] => {
-                let later = self.least_before(section, rest);
-                if self.overlap(*first, section) {
+                let later = self.least_before(meetings, rest);
+                if any_overlap(self.meetings(*first), meetings) {
                     lesser_of(Some(first.0), later)
                 } else {
                     later
@@ -114,90 +107,92 @@ impl Moment<'_> {
         }
     }
 
-    /// The least section of the choice that this one overlaps, where neither permits it.
-    fn least_in(&self, permitted: bool, section: SectionId, choice: &Choice) -> Option<u32>
-        ensures { result ≡ least (overlapped self.now.at permitted section choice.now) }
+    /// The least section of the choice that the meetings overlap, where neither permits it.
+    fn least_in(&self, permitted: bool, meetings: &[Meeting], choice: &Choice) -> Option<u32>
+        ensures { result ≡ least (overlapped self.now.at permitted meetings.now choice.now) }
     {
         if permitted || self.permits_overlap(choice) {
             return None;
         }
-        self.least_of(section, choice.sections.as_slice())
+        self.least_of(meetings, choice.sections.as_slice())
     }
 
-    /// The least section of the enrolment that this one overlaps, where it stays.
+    /// The least section of the enrolment that the meetings overlap, where it stays.
     fn least_where_kept(
         &self,
         permitted: bool,
-        section: SectionId,
+        meetings: &[Meeting],
         give: &[CourseId],
         choice: &Choice,
     ) -> Option<u32>
-        ensures { result ≡ least (cond (given_up give.now choice.now.course) [] (overlapped self.now.at permitted section choice.now)) }
+        ensures { result ≡ least (cond (given_up give.now choice.now.course) [] (overlapped self.now.at permitted meetings.now choice.now)) }
     {
         if is_given(give, choice.course) {
             None
         } else {
-            self.least_in(permitted, section, choice)
+            self.least_in(permitted, meetings, choice)
         }
     }
 
-    /// The least section that this one overlaps, of the enrolments that stay.
+    /// The least section that the meetings overlap, of the enrolments that stay.
     pub fn least_kept(
         &self,
         permitted: bool,
-        section: SectionId,
+        meetings: &[Meeting],
         give: &[CourseId],
         held: &[Enrolment],
     ) -> Option<u32>
-        ensures { result ≡ least (flat_map (λ e. cond (given_up give.now e.choice.course) [] (overlapped self.now.at permitted section e.choice)) held.now) }
+        ensures { result ≡ least (flat_map (λ e. cond (given_up give.now e.choice.course) [] (overlapped self.now.at permitted meetings.now e.choice)) held.now) }
     {
         let mut least = None;
         for e in held {
-            let later = self.least_where_kept(permitted, section, give, &e.choice);
+            let later = self.least_where_kept(permitted, meetings, give, &e.choice);
             least = lesser_of(least, later);
         }
         least
     }
 
-    /// The least section that this one overlaps, of the choices made.
-    pub fn least_made(&self, permitted: bool, section: SectionId, done: &[Choice]) -> Option<u32>
-        ensures { result ≡ least (flat_map (overlapped self.now.at permitted section) done.now) }
+    /// The least section that the meetings overlap, of the choices made.
+    pub fn least_made(&self, permitted: bool, meetings: &[Meeting], done: &[Choice]) -> Option<u32>
+        ensures { result ≡ least (flat_map (overlapped self.now.at permitted meetings.now) done.now) }
     {
         let mut least = None;
         for choice in done {
-            least = lesser_of(least, self.least_in(permitted, section, choice));
+            least = lesser_of(least, self.least_in(permitted, meetings, choice));
         }
         least
     }
 
-    /// The least section that overlaps this one, held or chosen earlier, where it isn't permitted.
+    /// The least section that overlaps the one of these meetings, held or chosen earlier, where it isn't permitted.
     pub fn least_overlap(
         &self,
         r: Option<&Reservation>,
         earlier: &[SectionId],
         section: SectionId,
+        meetings: &[Meeting],
     ) -> Option<u32>
+        requires { meetings.now ≡ meetings_of self.now.at section }
         ensures { result ≡ least (held_overlaps self.now.at self.now.student (option_copied r.entry) section ++ own_overlaps self.now.at (option_copied r.entry) earlier.now section) }
     {
         lesser_of(
-            self.least_held(is_overlapping(r), section),
-            self.least_own(r, earlier, section),
+            self.least_held(is_overlapping(r), meetings),
+            self.least_own(r, earlier, meetings),
         )
     }
 
-    /// The least of the earlier sections of this choice that overlap this one, where its
+    /// The least of the earlier sections of this choice that overlap the meetings, where its
     /// reservation doesn't permit it.
     fn least_own(
         &self,
         r: Option<&Reservation>,
         earlier: &[SectionId],
-        section: SectionId,
+        meetings: &[Meeting],
     ) -> Option<u32>
-        ensures { result ≡ least (own_overlaps self.now.at (option_copied r.entry) earlier.now section) }
+        ensures { result ≡ least (own_overlapped self.now.at (option_copied r.entry) earlier.now meetings.now) }
     {
         if is_overlapping(r) {
             return None;
         }
-        self.least_before(section, earlier)
+        self.least_before(meetings, earlier)
     }
 }

@@ -107,14 +107,14 @@ impl Moment<'_> {
     ) -> Option<(Rule, u32)>
         ensures { result ≡ first_broken (offering_rules self.now.at (option_copied r.entry) offering.now course) }
     {
-        let level = Level::Offering(offering.id);
         if !is_over(r) && self.is_full(Level::Course(course)) {
             return Some((Rule::CourseFull, course.0));
         }
-        if !is_over(r) && self.is_full(level) {
+        let closed = self.closed(offering.id, r, Level::Offering(offering.id));
+        if closed.full {
             return Some((Rule::OfferingFull, offering.id.0));
         }
-        if r.is_none() && self.is_kept(offering.id, None, level) {
+        if r.is_none() && closed.reserved {
             return Some((Rule::OfferingReserved, offering.id.0));
         }
         None

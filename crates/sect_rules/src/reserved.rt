@@ -1,11 +1,11 @@
 // Whether a level is full, and whether what is left is reserved.
 
-ghost use Rattle.std.specs.Prelude.{◌≡◌, ◌==◌, int_le, pos, IsTrue, option_copied};
+ghost use Rattle.std.specs.Prelude.{◌≡◌, ◌==◌, ◌&&◌, not, int_le, pos, IsTrue, Some, option_copied};
 ghost use Rattle.std.specs.List.{list_any};
 ghost use Rattle.sect_catalog.specs.Catalogue.{places as limit_places};
-ghost use Rattle.sect_model.specs.Counts.{permits_over};
-ghost use Rattle.sect_model.specs.Space.{has_place as place_at, names as level_named, named_by, space_of};
-ghost use Rattle.sect_model.specs.Rules.{is_full as full_at, is_reserved as reserved_at, is_kept as kept_at};
+ghost use Rattle.sect_model.specs.Counts.{permits_over, count_of};
+ghost use Rattle.sect_model.specs.Space.{places_at, names as level_named, named_by, space_of};
+ghost use Rattle.sect_model.specs.Rules.{is_full as full_at, is_kept as kept_at};
 ghost use Rattle.sect_rules.specs.Reserved.{held_back as back_at, are_own};
 
 use crate::moment::Moment;
@@ -22,6 +22,20 @@ pub fn limited(limit: Limit) -> Option<u64>
         Limit::Places(places) => Some(u64::from(places)),
     }
 }
+
+/// What closes a level to a choice.
+#[derive(Clone, Copy, PartialEq, Eq, Debug)]
+pub struct Closed {
+    /// It has a limit, and no place is left.
+    pub full: bool,
+    /// Places are left, all of them reserved, and not for the reservation of the choice.
+    pub reserved: bool,
+}
+
+const OPEN: Closed = Closed {
+    full: false,
+    reserved: false,
+};
 
 impl Moment<'_> {
     /// Whether a level with a limit has no place left.
@@ -46,11 +60,12 @@ impl Moment<'_> {
     }
 
     /// Whether a level with so many places, of this offering, has no unreserved space.
-    fn is_taken(&self, offering: OfferingId, level: Level, places: u64) -> bool
-        requires { IsTrue (are_own self.now.at offering level) }
+    fn is_taken(&self, offering: OfferingId, level: Level, places: u64, count: u64) -> bool
+        requires own { IsTrue (are_own self.now.at offering level) }
+        requires count { count ≡ count_of self.now.at level }
         ensures { result ≡ int_le (space_of self.now.at level places) (pos 0) }
     {
-        let mut left = places.saturating_sub(self.count(level));
+        let mut left = places.saturating_sub(count);
         for r in self.reservations(offering) {
             match self.held_back(r, level) {
                 Some(places) => left = left.saturating_sub(places),
@@ -60,23 +75,60 @@ impl Moment<'_> {
         left == 0
     }
 
-    /// Whether a level with a limit, of this offering, has no unreserved space.
-    fn is_reserved(&self, offering: OfferingId, level: Level) -> bool
-        requires { IsTrue (are_own self.now.at offering level) }
-        ensures { result ≡ reserved_at self.now.at level }
+    /// What closes a level of this offering, with so many places, to a choice by a reservation that doesn't permit over
+    /// limit, or by none.
+    fn closed_in(
+        &self,
+        offering: OfferingId,
+        r: Option<&Reservation>,
+        level: Level,
+        places: u64,
+    ) -> Closed
+        requires own { IsTrue (are_own self.now.at offering level) }
+        requires places { places_at self.now.at level ≡ Some places }
+        ensures full { result.full ≡ full_at self.now.at level }
+        ensures reserved { result.reserved ≡ kept_at self.now.at (option_copied r.entry) level }
     {
-        match self.places(level) {
-            Some(places) => self.is_taken(offering, level, places),
-            None => false,
+        let count = self.count(level);
+        let full = places <= count;
+        Closed {
+            full,
+            reserved: !full
+                && !is_named_by(r, level)
+                && self.is_taken(offering, level, places, count),
         }
     }
 
-    /// Whether what is left at a level of this offering is reserved, and not for this reservation.
-    pub fn is_kept(&self, offering: OfferingId, r: Option<&Reservation>, level: Level) -> bool
+    /// What closes a level of this offering to a choice by the reservation, or by none. Its places and its enrolments are
+    /// asked for once.
+    pub fn closed(&self, offering: OfferingId, r: Option<&Reservation>, level: Level) -> Closed
         requires { IsTrue (are_own self.now.at offering level) }
-        ensures { result ≡ kept_at self.now.at (option_copied r.entry) level }
+        ensures full { result.full ≡ not (permits_over (option_copied r.entry)) && full_at self.now.at level }
+        ensures reserved { result.reserved ≡ not (permits_over (option_copied r.entry)) && kept_at self.now.at (option_copied r.entry) level }
     {
-        !self.is_full(level) && !is_named_by(r, level) && self.is_reserved(offering, level)
+        self.closed_with(offering, r, level, self.places(level))
+    }
+
+    /// The same, where the number of places at the level is known.
+    pub fn closed_with(
+        &self,
+        offering: OfferingId,
+        r: Option<&Reservation>,
+        level: Level,
+        places: Option<u64>,
+    ) -> Closed
+        requires own { IsTrue (are_own self.now.at offering level) }
+        requires places { places ≡ places_at self.now.at level }
+        ensures full { result.full ≡ not (permits_over (option_copied r.entry)) && full_at self.now.at level }
+        ensures reserved { result.reserved ≡ not (permits_over (option_copied r.entry)) && kept_at self.now.at (option_copied r.entry) level }
+    {
+        if is_over(r) {
+            return OPEN;
+        }
+        match places {
+            Some(places) => self.closed_in(offering, r, level, places),
+            None => OPEN,
+        }
     }
 }
 

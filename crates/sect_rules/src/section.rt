@@ -2,9 +2,9 @@
 
 ghost use Rattle.std.specs.Prelude.{◌≡◌, ◌<◌, ◌==◌, [], ◌∷◌, ◌++◌, not, false, length, map, filter, option_copied, IsTrue};
 ghost use Rattle.std.specs.Option.{option_map_or, option_and_then};
-ghost use Rattle.sect_catalog.specs.Catalogue.{find_section};
+ghost use Rattle.sect_catalog.specs.Catalogue.{find_section, places as limit_places};
 ghost use Rattle.sect_reserve.specs.Audience.{admits_section as has_section, empty_or_any};
-ghost use Rattle.sect_model.specs.World.{offering_of, reservation_of};
+ghost use Rattle.sect_model.specs.World.{offering_of, reservation_of, meetings_of};
 ghost use Rattle.sect_model.specs.Choice.{has_parent};
 ghost use Rattle.sect_model.specs.Allowed.{free_times, meets_at};
 ghost use Rattle.sect_model.specs.Path.{next_subpart};
@@ -17,11 +17,11 @@ ghost use Rattle.sect_rules.specs.Tables.{standing_rules, space_rules, time_rule
 ghost use Rattle.sect_rules.specs.FreeTimes.{meets_free, first_free as first_free_time};
 
 use crate::moment::Moment;
-use crate::reserved::is_over;
+use crate::reserved::limited;
 use sect_base::{
     ConfigId, CourseId, Level, OfferingId, ReservationId, Rule, SectionId, Sections, Want,
 };
-use sect_catalog::OfferingRow;
+use sect_catalog::{OfferingRow, SectionRow};
 use sect_people::Ask;
 use sect_reserve::{Reservation, admits_section};
 use sect_time::{Meeting, overlaps};
@@ -79,6 +79,39 @@ fn with(sections: Sections, section: SectionId) -> Sections
     all
 }
 
+/// Whether there is a section, and it has a parent that isn't among those chosen.
+fn lacks_parent(sections: &[SectionId], row: Option<&SectionRow>) -> bool
+    ensures { result ≡ option_map_or (λ row. not (has_parent sections.now row)) (option_copied row.entry) false }
+{
+    match row {
+        Some(row) => match row.parent {
+            Some(parent) => !sections.contains(&parent),
+            None => false,
+        },
+        None => false,
+    }
+}
+
+/// The places of a section, None where it has no limit or there is none.
+fn places(row: Option<&SectionRow>) -> Option<u64>
+    ensures { result ≡ option_and_then (λ s. limit_places s.limit) (option_copied row.entry) }
+{
+    match row {
+        Some(row) => limited(row.limit),
+        None => None,
+    }
+}
+
+/// When a section meets, if there is one.
+fn meetings_in(row: Option<&SectionRow>) -> &[Meeting]
+    ensures { result.now ≡ option_map_or (λ s. s.meetings) (option_copied row.entry) [] }
+{
+    match row {
+        Some(row) => row.meetings.as_slice(),
+        None => &[],
+    }
+}
+
 impl Moment<'_> {
     /// Whether there is a reservation, and it doesn't admit the section in the next subpart.
     fn excludes_section(
@@ -91,31 +124,22 @@ impl Moment<'_> {
     ) -> bool
         ensures { result ≡ option_map_or (λ r. option_map_or (λ p. not (has_section r.includes p.id section)) (next_subpart self.now.at course config sections.now) false) (option_copied r.entry) false }
     {
-        match (r, self.subparts(course, config).get(sections.len())) {
-            (Some(r), Some(subpart)) => !admits_section(&r.includes, subpart.id, section),
-            _ => false,
-        }
-    }
-
-    /// Whether the section has a parent that isn't among those chosen.
-    fn lacks_parent(&self, sections: &[SectionId], section: SectionId) -> bool
-        ensures { result ≡ option_map_or (λ row. not (has_parent sections.now row)) (find_section self.now.at.catalogue.rows section) false }
-    {
-        match self.catalogue().section(section) {
-            Some(row) => match row.parent {
-                Some(parent) => !sections.contains(&parent),
+        match r {
+            Some(r) => match self.subparts(course, config).get(sections.len()) {
+                Some(subpart) => !admits_section(&r.includes, subpart.id, section),
                 None => false,
             },
             None => false,
         }
     }
 
-    /// The least position of a free time before the rank that the section meets.
-    fn least_free(&self, rank: u8, section: SectionId) -> Option<u32>
+    /// The least position of a free time before the rank that the section of these meetings meets.
+    fn least_free(&self, rank: u8, section: SectionId, meetings: &[Meeting]) -> Option<u32>
+        requires { meetings.now ≡ meetings_of self.now.at section }
         ensures { result ≡ least (map (λ f. f.0) (filter (λ f. meets_at self.now.at section f.1) (free_times self.now.at self.now.student rank))) }
     {
         let asks = self.people().asks(self.student())?;
-        first_free(self.meetings(section), u32::from(rank), 1, asks)
+        first_free(meetings, u32::from(rank), 1, asks)
     }
 
     /// The first rule on where a section stands.
@@ -127,8 +151,10 @@ impl Moment<'_> {
         config: ConfigId,
         sections: Sections,
         section: SectionId,
+        row: Option<&SectionRow>,
     ) -> Option<(Rule, u32)>
-        requires { length sections < 6 }
+        requires few { length sections < 6 }
+        requires row { option_copied row.entry ≡ find_section self.now.at.catalogue.rows section }
         ensures { result ≡ first_broken (standing_rules self.now.at self.now.student offering.now course (option_copied r.entry) config sections section) }
     {
         let earlier = sections.as_slice();
@@ -142,7 +168,7 @@ impl Moment<'_> {
         if self.catalogue().is_cancelled(section) {
             return Some((Rule::Cancelled, section.0));
         }
-        if self.lacks_parent(earlier, section) {
+        if lacks_parent(earlier, row) {
             return Some((Rule::Parent, section.0));
         }
         None
@@ -154,18 +180,17 @@ impl Moment<'_> {
         offering: OfferingId,
         r: Option<&Reservation>,
         section: SectionId,
+        row: Option<&SectionRow>,
     ) -> Option<(Rule, u32)>
-        requires { IsTrue (are_own self.now.at offering (Section section)) }
+        requires own { IsTrue (are_own self.now.at offering (Section section)) }
+        requires row { option_copied row.entry ≡ find_section self.now.at.catalogue.rows section }
         ensures { result ≡ first_broken (space_rules self.now.at (option_copied r.entry) section) }
     {
-        let level = Level::Section(section);
-        if is_over(r) {
-            return None;
-        }
-        if self.is_full(level) {
+        let closed = self.closed_with(offering, r, Level::Section(section), places(row));
+        if closed.full {
             return Some((Rule::SectionFull, section.0));
         }
-        if self.is_kept(offering, r, level) {
+        if closed.reserved {
             return Some((Rule::SectionReserved, section.0));
         }
         None
@@ -178,13 +203,16 @@ impl Moment<'_> {
         r: Option<&Reservation>,
         earlier: &[SectionId],
         section: SectionId,
+        row: Option<&SectionRow>,
     ) -> Option<(Rule, u32)>
+        requires { option_copied row.entry ≡ find_section self.now.at.catalogue.rows section }
         ensures { result ≡ first_broken (time_rules self.now.at self.now.student want.now (option_copied r.entry) earlier.now section) }
     {
-        if let Some(number) = self.least_overlap(r, earlier, section) {
+        let meetings = meetings_in(row);
+        if let Some(number) = self.least_overlap(r, earlier, section, meetings) {
             return Some((Rule::Overlap, number));
         }
-        if let Some(number) = self.least_free(want.rank, section) {
+        if let Some(number) = self.least_free(want.rank, section, meetings) {
             return Some((Rule::FreeTime, number));
         }
         if !is_asked(want.only.as_slice(), section) {
@@ -209,12 +237,15 @@ impl Moment<'_> {
         self.keeps();
         let offering = self.offering(course)?;
         let r = self.named(id);
-        if let Some(rule) = self.standing_rule(offering, course, r, config, sections, section) {
+        let row = self.catalogue().section(section);
+        if let Some(rule) = self.standing_rule(
+            offering, course, r, config, sections, section, row,
+        ) {
             return Some(rule);
         }
-        if let Some(rule) = self.space_rule(offering.id, r, section) {
+        if let Some(rule) = self.space_rule(offering.id, r, section, row) {
             return Some(rule);
         }
-        self.time_rule(want, r, sections.as_slice(), section)
+        self.time_rule(want, r, sections.as_slice(), section, row)
     }
 }

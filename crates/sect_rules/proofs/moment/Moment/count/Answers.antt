@@ -12,7 +12,7 @@ overflow_sub-result c =
     let i = c.self.inside in
     let w = i.world.now.world in
     let left : c.counts_given-left.result ≡ count_by (λ e. is_given i.give.now e.choice.course && counts_at w c.args.level e.choice) (held_by w i.student)
-    = c.counts_given-left.ensures ∙ ap (count_by (λ e. is_given i.give.now e.choice.course && counts_at w c.args.level e.choice)) c.enrolments-held.ensures in
+    = c.counts_given-left.ensures in
     omega (arith, left, left-few (counts_at w c.args.level) i.student i.give.now w.roster, count-by-choice w c.args.level, c.count.ensures, c.from.ensures)
 
 pub returns : goal.returns
@@ -20,7 +20,7 @@ returns c =
     let i = c.self.inside in
     let w = i.world.now.world in
     let left : c.counts_given-left.result ≡ count_by (λ e. is_given i.give.now e.choice.course && counts_at w c.args.level e.choice) (held_by w i.student)
-    = c.counts_given-left.ensures ∙ ap (count_by (λ e. is_given i.give.now e.choice.course && counts_at w c.args.level e.choice)) c.enrolments-held.ensures in
+    = c.counts_given-left.ensures in
     let made : c.counts_made-made.result ≡ count_by (counts_at w c.args.level) i.done.now = c.counts_made-made.ensures in
     let all : c.from.result - c.counts_given-left.result + c.counts_made-made.result ≡ count_of (moved w i.student i.give.now i.done.now) c.args.level
     = omega (arith, left, left-few (counts_at w c.args.level) i.student i.give.now w.roster, count-by-choice w c.args.level, count-moved w i.student i.give.now i.done.now c.args.level, made, c.count.ensures, c.from.ensures) in

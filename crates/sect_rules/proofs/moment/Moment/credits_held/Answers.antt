@@ -2,7 +2,7 @@
 use Rattle.std.proofs.Common.{◌≡◌, ◌+◌, sym, ◌∙◌, ap, arith}
 use Rattle.std.specs.Prelude.{cond, sum_by}
 use Rattle.sect_model.specs.World.{held_by, credits_of}
-use Rattle.sect_model.specs.Allowed.{credits_held}
+use Rattle.sect_model.specs.Allowed.{credits_held, max_credits}
 use Rattle.sect_rules.specs.Moment.{is_given}
 use Rattle.sect_rules.proofs.MomentLemmas.{held-moved}
 use Rattle.sect_rules.proofs.CreditLemmas.{sum-moved, kept-few}
@@ -12,17 +12,19 @@ pub credits_kept-kept-requires : goal.credits_kept-kept-requires
 credits_kept-kept-requires c =
     let i = c.self.inside in
     let w = i.world.now.world in
+    let most : c.args.most ≡ max_credits w i.student = c.requires ∙ sym (ap (λ v. max_credits v.at v.student) c.self.view_is) in
     let same : sum_by (λ e. cond (is_given i.give.now e.choice.course) 0 (credits_of w e.choice.course)) c.enrolments-held.result.now ≡ sum_by (λ e. cond (is_given i.give.now e.choice.course) 0 (credits_of w e.choice.course)) (held_by w i.student)
     = ap (sum_by (λ e. cond (is_given i.give.now e.choice.course) 0 (credits_of w e.choice.course))) c.enrolments-held.ensures in
-    omega (arith, same, kept-few w i.student i.give.now c.self.invariant.0.good c.self.invariant.1, c.max_credits-most.ensures, c.max_credits-most.type_inv)
+    omega (arith, same, kept-few w i.student i.give.now c.self.invariant.0.good c.self.invariant.1, most, c.type_inv.most)
 
 pub prove-unreachable-requires : goal.prove-unreachable-requires
 prove-unreachable-requires c =
     let i = c.self.inside in
     let w = i.world.now.world in
+    let most : c.args.most ≡ max_credits w i.student = c.requires ∙ sym (ap (λ v. max_credits v.at v.student) c.self.view_is) in
     let same : c.credits_kept-kept.result ≡ sum_by (λ e. cond (is_given i.give.now e.choice.course) 0 (credits_of w e.choice.course)) (held_by w i.student)
     = c.credits_kept-kept.ensures ∙ ap (sum_by (λ e. cond (is_given i.give.now e.choice.course) 0 (credits_of w e.choice.course))) c.enrolments-held.ensures in
-    omega (arith, same, kept-few w i.student i.give.now c.self.invariant.0.good c.self.invariant.1, c.max_credits-most.ensures, c.from.ensures, c.if-prove.true)
+    omega (arith, same, kept-few w i.student i.give.now c.self.invariant.0.good c.self.invariant.1, most, c.from.ensures, c.if-prove.true)
 
 pub returns-clause-value : goal.returns-clause-value
 returns-clause-value c =

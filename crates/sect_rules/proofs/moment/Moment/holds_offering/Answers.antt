@@ -1,19 +1,14 @@
 -- an enrolment that stays, or a choice that was made
 use Rattle.std.proofs.Common.{◌≡◌, sym, ◌∙◌, ap}
-use Rattle.std.specs.Prelude.{Bool, true, false, not, ◌&&◌, ◌||◌, List, refl}
+use Rattle.std.specs.Prelude.{Bool, true, false, not, ◌&&◌, ◌||◌, ◌==◌, Some, refl}
 use Rattle.std.specs.List.{list_any}
-use Rattle.sect_model.specs.World.{World, held_by, is_of}
+use Rattle.sect_catalog.specs.Catalogue.{has_course}
+use Rattle.sect_model.specs.World.{held_by, offering_of}
 use Rattle.sect_model.specs.Allowed.{holds_offering}
-use Rattle.sect_model.specs.Data.{StudentId, CourseId, OfferingId, Choice}
-use Rattle.sect_rules.specs.Moment.{is_given, moved}
+use Rattle.sect_rules.specs.Moment.{is_given}
 use Rattle.sect_model.proofs.Members.{not_both}
-use Rattle.sect_model.specs.Kept.{is_ordered}
-use Rattle.sect_rules.proofs.MomentLemmas.{held-moved, any-moved}
+use Rattle.sect_rules.proofs.CourseLemmas.{held-listed}
 use Rattle.sect_rules.proofs.moment.Moment.holds_offering.Goals as goal
-
-held-in : (w : World) (st : StudentId) (give : List CourseId) (done : List Choice) (o : OfferingId) → is_ordered w.roster ≡ true
-    → holds_offering (moved w st give done) st o ≡ list_any (λ e. not (is_given give e.choice.course) && is_of w o e.choice.course) (held_by w st) || list_any (λ c. is_of w o c.course) done
-held-in w st give done o h = ap (list_any (λ e. is_of w o e.choice.course)) (held-moved w st give done h) ∙ any-moved (λ c. is_of w o c.course) st give (held_by w st) done
 
 first : (a b : Bool) → a ≡ true → a ≡ a || b
 first true b h = refl
@@ -27,18 +22,23 @@ pub returns-then-kept : goal.returns-then-kept
 returns-then-kept c =
     let i = c.self.inside in
     let w = i.world.now.world in
-    let kept : c.holds_kept-kept.result ≡ list_any (λ e. not (is_given i.give.now e.choice.course) && is_of w c.args.offering e.choice.course) (held_by w i.student)
-    = c.holds_kept-kept.ensures ∙ ap (list_any (λ e. not (is_given i.give.now e.choice.course) && is_of w c.args.offering e.choice.course)) c.enrolments-held.ensures in
-    kept ∙ first _ (list_any (λ d. is_of w c.args.offering d.course) i.done.now) (sym kept ∙ c.if-kept.true)
-    ∙ sym (held-in w i.student i.give.now i.done.now c.args.offering c.self.invariant.0.in_order)
-    ∙ ap (λ v. holds_offering v.at v.student c.args.offering) c.self.view_is
+    let o = c.args.offering.now in
+    let its : offering_of w c.args.course ≡ Some o = ap (λ v. offering_of v.at c.args.course) c.self.view_is ∙ c.requires in
+    let kept : c.holds_kept-kept.result ≡ list_any (λ e. not (is_given i.give.now e.choice.course) && has_course o e.choice.course) (held_by w i.student)
+    = c.holds_kept-kept.ensures ∙ (λ j. list_any (λ e. not (is_given i.give.now e.choice.course) && list_any (λ x. x.id.0 == e.choice.course.0) (c.as_slice-courses.ensures j)) (c.enrolments-held.ensures j)) in
+    kept ∙ first _ (list_any (λ d. has_course o d.course) i.done.now) (sym kept ∙ c.if-kept.true)
+    ∙ sym (held-listed w c.self.invariant.0 i.student i.give.now i.done.now c.args.course o its)
+    ∙ ap (λ v. holds_offering v.at v.student o.id) c.self.view_is
 
 pub returns-else-kept : goal.returns-else-kept
 returns-else-kept c =
     let i = c.self.inside in
     let w = i.world.now.world in
-    let kept : c.holds_kept-kept.result ≡ list_any (λ e. not (is_given i.give.now e.choice.course) && is_of w c.args.offering e.choice.course) (held_by w i.student)
-    = c.holds_kept-kept.ensures ∙ ap (list_any (λ e. not (is_given i.give.now e.choice.course) && is_of w c.args.offering e.choice.course)) c.enrolments-held.ensures in
-    c.holds_made.ensures ∙ second (list_any (λ e. not (is_given i.give.now e.choice.course) && is_of w c.args.offering e.choice.course) (held_by w i.student)) (list_any (λ d. is_of w c.args.offering d.course) i.done.now) (sym kept ∙ c.if-kept.false)
-    ∙ sym (held-in w i.student i.give.now i.done.now c.args.offering c.self.invariant.0.in_order)
-    ∙ ap (λ v. holds_offering v.at v.student c.args.offering) c.self.view_is
+    let o = c.args.offering.now in
+    let its : offering_of w c.args.course ≡ Some o = ap (λ v. offering_of v.at c.args.course) c.self.view_is ∙ c.requires in
+    let kept : c.holds_kept-kept.result ≡ list_any (λ e. not (is_given i.give.now e.choice.course) && has_course o e.choice.course) (held_by w i.student)
+    = c.holds_kept-kept.ensures ∙ (λ j. list_any (λ e. not (is_given i.give.now e.choice.course) && list_any (λ x. x.id.0 == e.choice.course.0) (c.as_slice-courses.ensures j)) (c.enrolments-held.ensures j)) in
+    c.holds_made.ensures ∙ (λ j. list_any (λ d. list_any (λ x. x.id.0 == d.course.0) (c.as_slice-courses.ensures j)) i.done.now)
+    ∙ second (list_any (λ e. not (is_given i.give.now e.choice.course) && has_course o e.choice.course) (held_by w i.student)) (list_any (λ d. has_course o d.course) i.done.now) (sym kept ∙ c.if-kept.false)
+    ∙ sym (held-listed w c.self.invariant.0 i.student i.give.now i.done.now c.args.course o its)
+    ∙ ap (λ v. holds_offering v.at v.student o.id) c.self.view_is

@@ -11,7 +11,7 @@ returns-in-None c =
     sym (taken-all v c.args.level c.loop-r.left c.reservations-r-items.result.now c.loop-r.r-index c.r-item.result c.loop-r-test.true c.r-item.is c.in-None.ensures)
     ∙ sym c.loop-r.invariant
     ∙ ap (takes_all v c.args.level (c.args.places - count_of v c.args.level)) c.reservations-r-items.ensures
-    ∙ space-taken v c.args.offering c.args.level c.args.places c.requires
+    ∙ space-taken v c.args.offering c.args.level c.args.places c.requires.own
 
 pub returns : goal.returns
 returns c =
@@ -19,4 +19,4 @@ returns c =
     sym (taken-end v c.args.level c.loop-r.left c.reservations-r-items.result.now c.loop-r.r-index c.loop-r-test.false)
     ∙ sym c.loop-r.invariant
     ∙ ap (takes_all v c.args.level (c.args.places - count_of v c.args.level)) c.reservations-r-items.ensures
-    ∙ space-taken v c.args.offering c.args.level c.args.places c.requires
+    ∙ space-taken v c.args.offering c.args.level c.args.places c.requires.own

@@ -16,6 +16,6 @@ returns c =
     let asks = c.in_ok-asks.asks.now in
     let e = c.in_ok-asks.ensures ∙ (λ i. option_map (λ s. s.asks) (find_student (c.people.ensures i) (c.student.ensures i))) in
     c.first_free.ensures
-    ∙ (λ i. first_free (c.meetings.ensures i) (c.from.ensures i) 1 asks)
+    ∙ (λ i. first_free (c.requires i) (c.from.ensures i) 1 asks)
     ∙ sym (least-free (meetings_of v c.args.section) c.args.rank 1 asks)
     ∙ (λ i. least (map (λ f. f.0) (filter (λ f. lists_overlap (meetings_of v c.args.section) (f.1 ∷ [])) (asks-free c.args.rank (find_student v.students c.args.self.now.student) asks e i))))

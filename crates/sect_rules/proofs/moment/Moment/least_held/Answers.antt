@@ -16,8 +16,8 @@ returns c =
     let v = c.args.self.now.at in
     c.lesser_of.ensures
     ∙ (λ j. lesser_of
-    ((c.least_kept.ensures ∙ (λ k. least (flat_map (λ e. cond (is_given i.give.now e.choice.course) [] (overlapped v c.args.permitted c.args.section e.choice)) (c.enrolments-held.ensures k)))) j)
+    ((c.least_kept.ensures ∙ (λ k. least (flat_map (λ e. cond (is_given i.give.now e.choice.course) [] (overlapped v c.args.permitted c.args.meetings.now e.choice)) (c.enrolments-held.ensures k)))) j)
     (c.least_made.ensures j))
-    ∙ sym (least-both (λ e. overlapped v c.args.permitted c.args.section e.choice) (λ e. is_given i.give.now e.choice.course) (enrolment i.student) (held_by w i.student) i.done.now)
-    ∙ ap (λ es. least (flat_map (λ e. overlapped v c.args.permitted c.args.section e.choice) es)) (sym (held-moved w i.student i.give.now i.done.now c.self.invariant.0.in_order))
-    ∙ ap (λ m. least (flat_map (λ e. overlapped v c.args.permitted c.args.section e.choice) (held_by m.at m.student))) c.self.view_is
+    ∙ sym (least-both (λ e. overlapped v c.args.permitted c.args.meetings.now e.choice) (λ e. is_given i.give.now e.choice.course) (enrolment i.student) (held_by w i.student) i.done.now)
+    ∙ ap (λ es. least (flat_map (λ e. overlapped v c.args.permitted c.args.meetings.now e.choice) es)) (sym (held-moved w i.student i.give.now i.done.now c.self.invariant.0.in_order))
+    ∙ ap (λ m. least (flat_map (λ e. overlapped v c.args.permitted c.args.meetings.now e.choice) (held_by m.at m.student))) c.self.view_is

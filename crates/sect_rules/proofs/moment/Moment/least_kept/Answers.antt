@@ -9,4 +9,4 @@ pub loop-e-preserved : goal.loop-e-preserved
 loop-e-preserved c =
     c.lesser_of-least.ensures
     ∙ (λ i. lesser_of (c.loop-e.invariant i) (c.least_where_kept-later.ensures i))
-    ∙ sym (least-more (λ e. cond (is_given c.args.give.now e.choice.course) [] (overlapped c.args.self.now.at c.args.permitted c.args.section e.choice)) c.args.held.now c.loop-e.e-index c.e-item.result c.loop-e-test.true c.e-item.is)
+    ∙ sym (least-more (λ e. cond (is_given c.args.give.now e.choice.course) [] (overlapped c.args.self.now.at c.args.permitted c.args.meetings.now e.choice)) c.args.held.now c.loop-e.e-index c.e-item.result c.loop-e-test.true c.e-item.is)

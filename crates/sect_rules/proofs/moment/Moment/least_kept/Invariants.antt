@@ -7,4 +7,4 @@ use Rattle.sect_rules.specs.Overlapped.{overlapped}
 use Rattle.sect_rules.proofs.moment.Moment.least_kept.Given as goal
 
 abbrev pub invariant-loop-e : goal.invariant-loop-e
-invariant-loop-e l = l.least ≡ least (flat_map (λ e. cond (is_given l.give e.choice.course) [] (overlapped l.self.at l.permitted l.section e.choice)) (take l.e-index l.held))
+invariant-loop-e l = l.least ≡ least (flat_map (λ e. cond (is_given l.give e.choice.course) [] (overlapped l.self.at l.permitted l.meetings e.choice)) (take l.e-index l.held))

@@ -8,4 +8,4 @@ pub loop-choice-preserved : goal.loop-choice-preserved
 loop-choice-preserved c =
     c.lesser_of-least.ensures
     ∙ (λ i. lesser_of (c.loop-choice.invariant i) (c.least_in.ensures i))
-    ∙ sym (least-more (overlapped c.args.self.now.at c.args.permitted c.args.section) c.args.done.now c.loop-choice.choice-index c.choice-item.result c.loop-choice-test.true c.choice-item.is)
+    ∙ sym (least-more (overlapped c.args.self.now.at c.args.permitted c.args.meetings.now) c.args.done.now c.loop-choice.choice-index c.choice-item.result c.loop-choice-test.true c.choice-item.is)

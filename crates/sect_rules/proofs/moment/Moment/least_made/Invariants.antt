@@ -6,4 +6,4 @@ use Rattle.sect_rules.specs.Overlapped.{overlapped}
 use Rattle.sect_rules.proofs.moment.Moment.least_made.Given as goal
 
 abbrev pub invariant-loop-choice : goal.invariant-loop-choice
-invariant-loop-choice l = l.least ≡ least (flat_map (overlapped l.self.at l.permitted l.section) (take l.choice-index l.done))
+invariant-loop-choice l = l.least ≡ least (flat_map (overlapped l.self.at l.permitted l.meetings) (take l.choice-index l.done))

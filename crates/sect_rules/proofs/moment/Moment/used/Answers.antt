@@ -12,7 +12,7 @@ overflow_sub-result c =
     let i = c.self.inside in
     let w = i.world.now.world in
     let left : c.given_by-left.result ≡ count_by (λ e. is_given i.give.now e.choice.course && uses c.args.id e.choice) (held_by w i.student)
-    = c.given_by-left.ensures ∙ ap (count_by (λ e. is_given i.give.now e.choice.course && uses c.args.id e.choice)) c.enrolments-held.ensures in
+    = c.given_by-left.ensures in
     omega (arith, left, left-few (uses c.args.id) i.student i.give.now w.roster, c.used.ensures, c.from.ensures)
 
 pub returns : goal.returns
@@ -20,7 +20,7 @@ returns c =
     let i = c.self.inside in
     let w = i.world.now.world in
     let left : c.given_by-left.result ≡ count_by (λ e. is_given i.give.now e.choice.course && uses c.args.id e.choice) (held_by w i.student)
-    = c.given_by-left.ensures ∙ ap (count_by (λ e. is_given i.give.now e.choice.course && uses c.args.id e.choice)) c.enrolments-held.ensures in
+    = c.given_by-left.ensures in
     let made : c.made_by-made.result ≡ count_by (uses c.args.id) i.done.now = c.made_by-made.ensures in
     let all : c.from.result - c.given_by-left.result + c.made_by-made.result ≡ used_of (moved w i.student i.give.now i.done.now) c.args.id
     = omega (arith, left, left-few (uses c.args.id) i.student i.give.now w.roster, used-moved w i.student i.give.now i.done.now c.args.id, made, c.used.ensures, c.from.ensures) in
