@@ -1,11 +1,11 @@
 -- Logs and indexes with one more note.
-use Rattle.std.proofs.Common.{◌≡◌, ℕ, zero, suc, ◌+◌, ◌≤◌, ◌<◌, List, [], ◌∷◌, ◌++◌, length, refl, sym, ap, ◌∙◌, subst, inl, inr, ◌⊎◌, ⊎_elim, arith, Option, Some, None, slice_get, cond}
-use Rattle.std.specs.BTreeMap.{BTreeMap, get, is_at}
-use Rattle.std.specs.Ordering.{is_eq}
-use Rattle.std.specs.declared.cmp.Ordering.{Ordering}
-use Rattle.std.specs.declared.cmp.Ordering.TheVariants.{Less, Equal, Greater}
+use Rattle.std.proofs.Common.{◌≡◌, ℕ, zero, suc, ◌+◌, ◌≤◌, ◌<◌, List, [], ◌∷◌, ◌++◌, length, refl, sym, ap, ◌∙◌, subst, inl, inr, ◌⊎◌, ⊎_elim, arith, Some, slice_get, cond, eqb, Bool, false, ◌^◌}
+use Rattle.std.proofs.lemmas.Bool.{eq-eqb, ne_eqb}
+use Rattle.std.specs.Prelude.{nat_eq}
+use Rattle.std.specs.HashMap.{HashMap, get}
 use Rattle.sect_base.specs.declared.limit.Id.{Id}
 use Rattle.sect_base.specs.declared.limit.Caller.{Caller}
+use Rattle.sect_base.specs.declared.limit.Caller.TheVariants.{Registrar, Student}
 use Rattle.sect_once.specs.declared.entry.Entry.{Entry}
 use Rattle.sect_once.specs.declared.entry.Note.{Note}
 use Rattle.sect_once.specs.declared.entry.Note.TheVariants.{Acted, Faulted}
@@ -14,7 +14,7 @@ use Rattle.sect_once.specs.declared.entry.Mark.TheVariants.{Acts, Faults}
 use Rattle.sect_once.specs.declared.answer.Seen.{Seen}
 use Rattle.sect_once.specs.declared.answer.Seen.TheVariants.{New, Place, Reused}
 use Rattle.sect_once.specs.Desks.{FindsIn, SeesEntry}
-use Rattle.sect_once.specs.History.{history, log_of, acting, faulting, faulted, IsNew, IsIndex, ActsOnce, IsReplay, state_after}
+use Rattle.sect_once.specs.History.{caller_key, key_of, history, log_of, acting, faulting, faulted, IsNew, IsIndex, ActsOnce, IsReplay, state_after}
 
 module _ {C R : Type 0} where
   pub history-log_of : (ms : List Mark) (es : List (Entry C R)) → acting ms ≡ length es → history (log_of ms es) ≡ es
@@ -77,6 +77,20 @@ module _ {S C R : Type 0} (stepped : S → ℕ → Caller → C → S × R) wher
   IsReplay-append s [] e h r = (r, tt)
   IsReplay-append s (x ∷ es) e h r = (h.0, IsReplay-append (stepped s x.day x.id.caller x.command).0 es e h.1 r)
 
+-- callers with one key are the same
+own_caller : (a b : Caller) → caller_key a ≡ caller_key b → a ≡ b
+own_caller (Registrar m) (Registrar n) h = ap Registrar (omega (arith, h))
+own_caller (Registrar m) (Student s) h = absurd (omega (arith, h))
+own_caller (Student s) (Registrar n) h = absurd (omega (arith, h))
+own_caller (Student s) (Student t) h = let e : s.0 ≡ t.0 = omega (arith, h) in λ i. Student (record { 0 = e i })
+
+-- ids with one key are the same
+own_key : (a b : Id) → a.number < 2 ^ 64 → b.number < 2 ^ 64 → key_of a ≡ key_of b → a ≡ b
+own_key a b small small' h =
+    let number : a.number ≡ b.number = omega (arith, small, small', h) in
+    let caller : a.caller ≡ b.caller = own_caller a.caller b.caller (omega (arith, small, small', h)) in
+    λ i. record { caller = caller i; number = number i }
+
 module _ {C R : Type 0} where
   pub get-snoc : (es : List (Entry C R)) (e : Entry C R) (p : ℕ) (f : Entry C R) → slice_get (es ++ e ∷ []) p ≡ Some f → (slice_get es p ≡ Some f) ⊎ ((p ≡ length es) × (e ≡ f))
   get-snoc [] e zero f h = inr (refl, cc)
@@ -104,47 +118,33 @@ module _ {C R : Type 0} where
   get-last (x ∷ es) e = get-last es e
 
   -- an index acts once
-  pub index-once : (cmp : Id → Id → Ordering) (m : BTreeMap Id ℕ) (es : List (Entry C R)) → IsIndex cmp m es → ActsOnce es
-  index-once cmp m es x p q e f at at' same = let a = x.all p e at in let b = x.all q f at' in
-      let c : get cmp m e.id ≡ get cmp m f.id = ap (get cmp m) same in cc
+  pub index-once : {S : Type 0} (m : HashMap ℕ ℕ S) (es : List (Entry C R)) → IsIndex m es → ActsOnce es
+  index-once m es x p q e f at at' same = let a = x.all p e at in let b = x.all q f at' in
+      let c : get nat_eq m (key_of e.id) ≡ get nat_eq m (key_of f.id) = ap (λ (i : Id). get nat_eq m (key_of i)) same in cc
 
-  -- an id that the map has not is new
-  pub index-new : (cmp : Id → Id → Ordering) (m : BTreeMap Id ℕ) (es : List (Entry C R)) (id : Id) → IsIndex cmp m es → get cmp m id ≡ None → IsNew id es
-  index-new cmp m es id x none place e at same = let a = x.all place e at in let b : get cmp m e.id ≡ get cmp m id = ap (get cmp m) same in cc
+  -- an entry of another id has another key
+  other_key : {S : Type 0} (m : HashMap ℕ ℕ S) (es : List (Entry C R)) (id : Id) → IsIndex m es → IsNew id es → id.number < 2 ^ 64
+      → (place : ℕ) (e : Entry C R) → slice_get es place ≡ Some e → eqb (key_of id) (key_of e.id) ≡ false
+  other_key m es id x new small place e at = ne_eqb (key_of id) (key_of e.id) (λ (k : key_of id ≡ key_of e.id). new place e at (sym (own_key id e.id small (x.small place e at) k)))
 
-  -- a map with the same places
-  pub index-same : (cmp : Id → Id → Ordering) (m n : BTreeMap Id ℕ) (es : List (Entry C R)) → ((q : Id) → get cmp n q ≡ get cmp m q) → IsIndex cmp m es → IsIndex cmp n es
-  index-same cmp m n es stays x = record { found = λ id place h. x.found id place (sym (stays id) ∙ h); all = λ place e at. stays e.id ∙ x.all place e at }
-
-  -- a new id has no place
-  pub new-index : (cmp : Id → Id → Ordering) (m : BTreeMap Id ℕ) (es : List (Entry C R)) (id : Id) → IsIndex cmp m es → IsNew id es → get cmp m id ≡ None
-  new-index cmp m es id x new = new_at (get cmp m id) refl
-    where
-      new_at : (o : Option ℕ) → get cmp m id ≡ o → get cmp m id ≡ None
-      new_at None is = is
-      new_at (Some place) is = let t = x.found id place is in absurd (new place t.0 t.1 t.2)
+  -- a map with the same places at other keys than that of a new id
+  pub index-same : {S : Type 0} (m n : HashMap ℕ ℕ S) (es : List (Entry C R)) (id : Id) → IsNew id es → id.number < 2 ^ 64
+      → ((q : ℕ) → eqb (key_of id) q ≡ false → get nat_eq n q ≡ get nat_eq m q) → IsIndex m es → IsIndex n es
+  index-same m n es id new small stays x = record {
+    all = λ place e at. stays (key_of e.id) (other_key m es id x new small place e at) ∙ x.all place e at;
+    small = x.small;
+  }
 
   -- the map with one more place
-  pub index-append : (cmp : Id → Id → Ordering) → ((a b : Id) → cmp a b ≡ Equal → a ≡ b) → ((a : Id) → cmp a a ≡ Equal) → (m n : BTreeMap Id ℕ) (es : List (Entry C R)) (e : Entry C R)
-      → IsIndex cmp m es → get cmp m e.id ≡ None → ((q : Id) → get cmp n q ≡ cond (is_at (cmp e.id) q) (Some (length es)) (get cmp m q)) → IsIndex cmp n (es ++ e ∷ [])
-  index-append cmp same refl' m n es e x none puts = record {
-    found = λ id place h. found_at id place (cmp e.id id) refl h;
+  pub index-append : {S : Type 0} (m n : HashMap ℕ ℕ S) (es : List (Entry C R)) (e : Entry C R) → IsIndex m es → IsNew e.id es → e.id.number < 2 ^ 64
+      → ((q : ℕ) → get nat_eq n q ≡ cond (eqb (key_of e.id) q) (Some (length es)) (get nat_eq m q)) → IsIndex n (es ++ e ∷ [])
+  index-append m n es e x new small puts = record {
     all = λ place f at. ⊎_elim
-        (λ (t : slice_get es place ≡ Some f). all_at place f t (cmp e.id f.id) refl)
-        (λ (t : (place ≡ length es) × (e ≡ f)). subst (λ (z : ℕ × Entry C R). get cmp n z.1.id ≡ Some z.0) (λ i. (sym t.0 i, t.1 i)) last) (get-snoc es e place f at);
+        (λ (t : slice_get es place ≡ Some f). puts (key_of f.id) ∙ ap (λ (b : Bool). cond b (Some (length es)) (get nat_eq m (key_of f.id))) (other_key m es e.id x new small place f t) ∙ x.all place f t)
+        (λ (t : (place ≡ length es) × (e ≡ f)). subst (λ (z : ℕ × Entry C R). get nat_eq n (key_of z.1.id) ≡ Some z.0) (λ i. (sym t.0 i, t.1 i)) last) (get-snoc es e place f at);
+    small = λ place f at. ⊎_elim
+        (λ (t : slice_get es place ≡ Some f). x.small place f t)
+        (λ (t : (place ≡ length es) × (e ≡ f)). subst (λ (z : Entry C R). z.id.number < 2 ^ 64) t.1 small) (get-snoc es e place f at);
   } where
-    last : get cmp n e.id ≡ Some (length es)
-    last = let p = puts e.id in let q = refl' e.id in p ∙ ap (λ (o : Ordering). cond (is_eq o) (Some (length es)) (get cmp m e.id)) q
-
-    found_at : (id : Id) (place : ℕ) (o : Ordering) → cmp e.id id ≡ o → get cmp n id ≡ Some place → (f : Entry C R) × (slice_get (es ++ e ∷ []) place ≡ Some f) × (f.id ≡ id)
-    found_at id place Equal is h = let p : get cmp n id ≡ Some (length es) = puts id ∙ ap (λ (o : Ordering). cond (is_eq o) (Some (length es)) (get cmp m id)) is in
-        let k : length es ≡ place = cc in (e, subst (λ (z : ℕ). slice_get (es ++ e ∷ []) z ≡ Some e) k (get-last es e), same e.id id is)
-    found_at id place Less is h = let p : get cmp n id ≡ get cmp m id = puts id ∙ ap (λ (o : Ordering). cond (is_eq o) (Some (length es)) (get cmp m id)) is in
-        let t = x.found id place (sym p ∙ h) in (t.0, get-longer es e place t.0 t.1, t.2)
-    found_at id place Greater is h = let p : get cmp n id ≡ get cmp m id = puts id ∙ ap (λ (o : Ordering). cond (is_eq o) (Some (length es)) (get cmp m id)) is in
-        let t = x.found id place (sym p ∙ h) in (t.0, get-longer es e place t.0 t.1, t.2)
-
-    all_at : (place : ℕ) (f : Entry C R) → slice_get es place ≡ Some f → (o : Ordering) → cmp e.id f.id ≡ o → get cmp n f.id ≡ Some place
-    all_at place f at Equal is = let a = x.all place f at in let b : get cmp m e.id ≡ get cmp m f.id = ap (get cmp m) (same e.id f.id is) in absurd cc
-    all_at place f at Less is = puts f.id ∙ ap (λ (o : Ordering). cond (is_eq o) (Some (length es)) (get cmp m f.id)) is ∙ x.all place f at
-    all_at place f at Greater is = puts f.id ∙ ap (λ (o : Ordering). cond (is_eq o) (Some (length es)) (get cmp m f.id)) is ∙ x.all place f at
+    last : get nat_eq n (key_of e.id) ≡ Some (length es)
+    last = puts (key_of e.id) ∙ ap (λ (b : Bool). cond b (Some (length es)) (get nat_eq m (key_of e.id))) (eq-eqb (key_of e.id) (key_of e.id) refl)

@@ -2,14 +2,12 @@
 use Rattle.std.proofs.Common.{◌≡◌, ℕ, suc, zero, ◌+◌, ◌^◌, ◌≤◌, ◌<◌, Bool, true, false, List, [], ◌∷◌, ◌++◌, length, replicate, take, refl, sym, ap, ◌∙◌, subst, inl, inr, ◌⊎◌, ⊎_elim, arith, Option, Some, None, length-append, slice_get}
 use Rattle.std.specs.List.{AllZip}
 use Rattle.std.specs.Option.{is_some}
-use Rattle.std.specs.BTreeMap.{BTreeMap, get}
-use Rattle.std.specs.declared.cmp.Ordering.{Ordering}
+use Rattle.std.specs.Prelude.{IfSome}
 use Rattle.std.proofs.Math.Nat.{lt_of_not-le}
-use Rattle.sect_base.specs.declared.limit.Id.{Id}
 use Rattle.sect_base.specs.declared.limit.Caller.{Caller}
 use Rattle.sect_edge.specs.Keeper.{CountsRows, FindsRow, KeepsRows}
 use Rattle.sect_once.specs.declared.entry.Entry.{Entry}
-use Rattle.sect_once.specs.History.{acted_log, acting, faulting, history, log_of, state_after, ActsOnce, AreHeavy, HaveBytes, IsFull, IsIndex, IsNew, IsReplay, NeverFull, TellsRows}
+use Rattle.sect_once.specs.History.{acted_log, acting, faulting, history, log_of, state_after, ActsOnce, AreHeavy, HaveBytes, IsFull, IsNew, IsReplay, NeverFull, TellsRows}
 use Rattle.sect_once.specs.Desks.{IsDesk, IsSound, Standing, Trail}
 use Rattle.sect_once.specs.declared.answer.OpenFault.{OpenFault}
 use Rattle.sect_once.specs.declared.answer.OpenFault.TheVariants as shut
@@ -21,6 +19,11 @@ use Rattle.sect_once.specs.declared.entry.Note.TheVariants.{Acted}
 use Rattle.sect_once.specs.declared.entry.Mark.{Mark}
 use Rattle.sect_once.specs.declared.entry.Mark.TheVariants.{Acts}
 use Rattle.sect_once.proofs.Rows.{acted_log-append, history-acted_log, length-acted_log, never_full-append, never_full-nil, rows-append, tells-keeps}
+
+-- what is told of an item that is there
+pub some_has : {A : Type 0} {P : A → Type 0} {Q : Type 0} (o : Option A) → is_some o ≡ true → IfSome o P → ((a : A) → P a → Q) → Q
+some_has None h p then = absurd cc
+some_has (Some a) h p then = then a p
 
 pub keeps-trans : (told now now' : Option (List (List ℕ))) → KeepsRows told now → KeepsRows now now' → KeepsRows told now'
 keeps-trans None now now' h k = subst (λ (o : Option (List (List ℕ))). KeepsRows o now') h k
@@ -78,13 +81,6 @@ module _ {C R : Type 0} (is_row : Entry C R → List ℕ → Type 0) where
   light es n h room = lt_of_not-le (λ (big : 2 ^ 28 ≤ n). room (full_log es (inr record { size = n; bytes = h; heavy = big })))
 
 module _ {O C R : Type 0} (start : O) (stepped : O → ℕ → Caller → C → O × R) (is_row : Entry C R → List ℕ → Type 0) where
-  pub index-has : (cmp : Id → Id → Ordering) (m : BTreeMap Id ℕ) (es : List (Entry C R)) (id : Id) → IsIndex cmp m es → is_some (get cmp m id) ≡ true → HasActed start stepped is_row id es
-  index-has cmp m es id x has = has_at (get cmp m id) refl has
-    where
-      has_at : (o : Option ℕ) → get cmp m id ≡ o → is_some o ≡ true → HasActed start stepped is_row id es
-      has_at None is h = absurd cc
-      has_at (Some place) is h = let t = x.found id place is in (place, t.0, t.1, t.2)
-
   pub takes_from : (old new : Trail O C R) (row : List ℕ) (e : Entry C R) → (IsFull is_row (acted_log old.entries) → ⊥) → is_row e row → Rattle.sect_once.specs.History.IsNew e.id old.entries
       → (b : Bool) → Resumes start stepped is_row old new e b → Takes start stepped is_row old new row b
   takes_from old new row e room written is_new true h = (e, record { roomy = room; written = written; is_new = is_new; replied = h.0 }, h.1)

@@ -1,8 +1,7 @@
 -- What contracts see of a desk, and what its fields keep.
 use Rattle.std.specs.Prelude.{◌≡◌, ◌≢◌, ◌⊎◌, ℕ, ◌≤◌, ◌^◌, List, [], ◌∷◌, ◌++◌, length, slice_get, Option, Some}
 use Rattle.std.specs.List.{AllZip}
-use Rattle.std.specs.declared.cmp.Ordering.{Ordering}
-use Rattle.std.specs.BTreeMap.{BTreeMap}
+use Rattle.std.specs.HashMap.{HashMap}
 use Rattle.sect_base.specs.declared.limit.Id.{Id}
 use Rattle.sect_base.specs.declared.limit.Caller.{Caller}
 use Rattle.sect_edge.specs.Causes.{Rose}
@@ -45,10 +44,10 @@ module _ {O C R : Type 0} (start : O) (stepped : O → ℕ → Caller → C → 
     pub short : length trail.entries ≤ 2 ^ 20
 
   -- what the fields of a past keep
-  pub record IsPast (is_row : Entry C R → List ℕ → Type 0) (cmp : Id → Id → Ordering) (object : O) (entries : List (Entry C R)) (places : BTreeMap Id ℕ) (row_bytes : ℕ) : Type 0 where
+  pub record IsPast {S : Type 0} (is_row : Entry C R → List ℕ → Type 0) (object : O) (entries : List (Entry C R)) (places : HashMap ℕ ℕ S) (row_bytes : ℕ) : Type 0 where
     pub replayed : object ≡ state_after stepped start entries
     pub replies : IsReplay stepped start entries
-    pub index : IsIndex cmp places entries
+    pub index : IsIndex places entries
     pub bytes : HaveBytes is_row entries row_bytes
     pub short : length entries ≤ 2 ^ 20
 

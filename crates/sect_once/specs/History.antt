@@ -1,15 +1,24 @@
 -- Logs, their histories, and what makes one legal.
-use Rattle.std.specs.Prelude.{◌≡◌, ◌⊎◌, ℕ, ◌+◌, ◌^◌, ◌≤◌, List, [], ◌∷◌, ◌++◌, ⊤, length, sum_by, slice_get, Option, Some, None}
+use Rattle.std.specs.Prelude.{◌≡◌, ◌⊎◌, ℕ, ◌+◌, ◌*◌, ◌^◌, ◌<◌, ◌≤◌, nat_eq, List, [], ◌∷◌, ◌++◌, ⊤, length, sum_by, slice_get, Option, Some, None}
 use Rattle.std.specs.List.{AllZip}
-use Rattle.std.specs.declared.cmp.Ordering.{Ordering}
-use Rattle.std.specs.BTreeMap.{BTreeMap, get}
+use Rattle.std.specs.HashMap.{HashMap, get}
 use Rattle.sect_base.specs.declared.limit.Id.{Id}
 use Rattle.sect_base.specs.declared.limit.Caller.{Caller}
+use Rattle.sect_base.specs.declared.limit.Caller.TheVariants.{Registrar, Student}
 use Rattle.sect_once.specs.declared.entry.Entry.{Entry}
 use Rattle.sect_once.specs.declared.entry.Note.{Note}
 use Rattle.sect_once.specs.declared.entry.Note.TheVariants.{Acted, Faulted}
 use Rattle.sect_once.specs.declared.entry.Mark.{Mark}
 use Rattle.sect_once.specs.declared.entry.Mark.TheVariants.{Acts, Faults}
+
+-- a caller as one number: a registrar's is even, a student's is odd
+abbrev pub caller_key : Caller → ℕ
+caller_key (Registrar n) = 2 * n
+caller_key (Student s) = 2 * s.0 + 1
+
+-- an id as one number, which is its own where numbers of requests have 64 bits
+abbrev pub key_of : Id → ℕ
+key_of id = caller_key id.caller * 2 ^ 64 + id.number
 
 module _ {C R : Type 0} where
   -- the requests that acted, in their order
@@ -39,10 +48,10 @@ module _ {C R : Type 0} where
   abbrev pub ActsOnce : List (Entry C R) → Type 0
   ActsOnce es = (p q : ℕ) (e f : Entry C R) → slice_get es p ≡ Some e → slice_get es q ≡ Some f → e.id ≡ f.id → p ≡ q
 
-  -- the map has each entry's place at its id, and nothing else
-  pub record IsIndex (cmp : Id → Id → Ordering) (places : BTreeMap Id ℕ) (es : List (Entry C R)) : Type 0 where
-    pub found : (id : Id) (place : ℕ) → get cmp places id ≡ Some place → (e : Entry C R) × (slice_get es place ≡ Some e) × (e.id ≡ id)
-    pub all : (place : ℕ) (e : Entry C R) → slice_get es place ≡ Some e → get cmp places e.id ≡ Some place
+  -- the map has each entry's place at its id's key, and the numbers of requests have 64 bits
+  pub record IsIndex {S : Type 0} (places : HashMap ℕ ℕ S) (es : List (Entry C R)) : Type 0 where
+    pub all : (place : ℕ) (e : Entry C R) → slice_get es place ≡ Some e → get nat_eq places (key_of e.id) ≡ Some place
+    pub small : (place : ℕ) (e : Entry C R) → slice_get es place ≡ Some e → e.id.number < 2 ^ 64
 
   -- the log in which these entries acted and nothing was faulted
   abbrev pub acted_log : List (Entry C R) → List (Note C R)

@@ -1,52 +1,52 @@
 // How a request acts: it steps, copies its reply, prints its row and appends it.
-ghost use Rattle.std.specs.Prelude.{◌≡◌, ℕ, ◌+◌, ◌<◌, ◌≤◌, ◌^◌, ◌++◌, [], ◌∷◌, List, cond, length, Some, None, IfOk, OnOk, OnErr, IfErr};
-ghost use Rattle.std.specs.BTreeMap.{get, is_at};
+ghost use Rattle.std.specs.Prelude.{◌≡◌, ℕ, ◌+◌, ◌<◌, ◌≤◌, ◌^◌, ◌++◌, ◌==◌, nat_eq, [], ◌∷◌, List, cond, length, false, Some, IfOk, OnOk, OnErr, IfErr};
+ghost use Rattle.std.specs.HashMap.{get};
 ghost use Rattle.sect_base.specs.declared.limit.Id.{Id};
 ghost use Rattle.sect_edge.specs.declared.edge.KeepFault.{KeepFault};
 ghost use Rattle.sect_edge.specs.Causes.{HasCauseFor};
 ghost use Rattle.sect_edge.specs.Keeper.{AddsRow, KeepsRows};
 ghost use Rattle.sect_once.specs.declared.entry.Entry.{Entry};
 ghost use Rattle.sect_once.specs.Desks.{Adds};
-ghost use Rattle.sect_once.specs.History.{AreHeavy, HasRow, IsNew};
+ghost use Rattle.sect_once.specs.History.{AreHeavy, HasRow, IsNew, key_of};
 
 use crate::entry::Entry;
+use crate::key::key_of;
 use crate::object::Object;
 use crate::past::Past;
 use sect_base::{Id, Memory};
 use sect_edge::{KeepFault, Keeper};
 use sect_time::Day;
 use std::alloc::Global;
-use std::collections::BTreeMap;
+use std::collections::HashMap;
 
-/// A step that was taken: its entry, a copy of the reply, the entry's row, and how to undo it.
+// A step that was taken: its entry, a copy of the reply, and how to undo it.
 pub(crate) struct Stepped<C, R, U> {
     pub(crate) entry: Entry<C, R>,
     pub(crate) reply: R,
-    pub(crate) row: Vec<u8>,
     pub(crate) undo: U,
 }
 
-/// The bytes for which a row has room from the start: most rows are shorter.
-const ROW_ROOM: usize = 256;
-
-/// A copy of the entry's reply, and its row.
+// A copy of the entry's reply. The entry's row stands in the buffer alone.
 fn written<O: Object>(
     alloc: Global,
     entry: &Entry<O::Command, O::Reply>,
-) -> Result<(O::Reply, Vec<u8>), Memory>
+    row: &mut Vec<u8>,
+) -> Result<O::Reply, Memory>
     requires { HasRow O.is_row entry.now }
-    ensures { IfOk result (λ r. (r.0 ≡ entry.now.reply) × O.is_row entry.now r.1.items) }
+    ensures reply { IfOk result (λ reply. reply ≡ entry.now.reply) }
+    ensures row { OnOk result (O.is_row entry.now row.new.items) }
 {
     let reply = O::copy_reply(alloc, &entry.reply)?;
-    let mut row = Vec::with_capacity(alloc, ROW_ROOM)?;
-    O::print_entry(entry, &mut row)?;
-    Ok((reply, row))
+    row.clear();
+    O::print_entry(entry, row)?;
+    Ok(reply)
 }
 
-/// Steps the object, and prints what is to be kept of it, which has a row.
+// Steps the object, and prints what is to be kept of it, which has a row.
 fn step<O: Object>(
     alloc: Global,
     object: &mut O,
+    row: &mut Vec<u8>,
     id: Id,
     day: Day,
     command: O::Command,
@@ -55,7 +55,7 @@ fn step<O: Object>(
     ensures state { IfOk result (λ s. O.state object.new ≡ (O.stepped (O.state object.old) day id.caller command).0) }
     ensures entry { IfOk result (λ s. s.entry ≡ record { id = id; day = day; command = command; reply = s.reply }) }
     ensures reply { IfOk result (λ s. s.reply ≡ (O.stepped (O.state object.old) day id.caller command).1) }
-    ensures row { IfOk result (λ s. O.is_row s.entry s.row.items) }
+    ensures row { IfOk result (λ s. O.is_row s.entry row.new.items) }
     ensures undo { IfOk result (λ s. O.restores s.undo object.new (O.state object.old)) }
     ensures err { OnErr result (O.state object.new ≡ O.state object.old) }
 {
@@ -66,13 +66,8 @@ fn step<O: Object>(
         command,
         reply,
     };
-    match written::<O>(alloc, &entry) {
-        Ok((reply, row)) => Ok(Stepped {
-            entry,
-            reply,
-            row,
-            undo,
-        }),
+    match written::<O>(alloc, &entry, row) {
+        Ok(reply) => Ok(Stepped { entry, reply, undo }),
         Err(memory) => {
             object.undo(undo);
             Err(memory)
@@ -80,28 +75,27 @@ fn step<O: Object>(
     }
 }
 
-/// Appends the row, and gives the id its place.
+// Appends the row, and gives the id its place.
 fn keep<K: Keeper>(
-    places: &mut BTreeMap<Id, u32>,
+    places: &mut HashMap<u128, u32>,
     keeper: &mut K,
     id: Id,
     place: u32,
     row: &[u8],
 ) -> Result<(), KeepFault>
-    requires { get ⟦<Id as Ord>⟧.cmp places.old id ≡ None }
-    ensures places { OnOk result ((q : Id) → get ⟦<Id as Ord>⟧.cmp places.new q ≡ cond (is_at (⟦<Id as Ord>⟧.cmp id) q) (Some place) (get ⟦<Id as Ord>⟧.cmp places.old q)) }
-    ensures places_stay { OnErr result ((q : Id) → get ⟦<Id as Ord>⟧.cmp places.new q ≡ get ⟦<Id as Ord>⟧.cmp places.old q) }
+    ensures small { id.number < 2 ^ 64 }
+    ensures places { OnOk result ((q : ℕ) → get nat_eq places.new q ≡ cond (key_of id == q) (Some place) (get nat_eq places.old q)) }
+    ensures places_stay { OnErr result ((q : ℕ) → (key_of id == q) ≡ false → get nat_eq places.new q ≡ get nat_eq places.old q) }
     ensures rows { OnOk result (AddsRow (K.rows keeper.old) (K.rows keeper.new) row.now) }
     ensures rows_stay { OnErr result (KeepsRows (K.rows keeper.old) (K.rows keeper.new)) }
     ensures cause { HasCauseFor KeepFault.Failed (K.faults keeper.old) (K.faults keeper.new) result }
 {
-    if places.insert(id, place).is_err() {
-        return Err(KeepFault::Memory);
-    }
+    let key = key_of(&id);
+    places.insert(key, place)?;
     match keeper.append(row) {
         Ok(()) => Ok(()),
         Err(fault) => {
-            places.remove(&id);
+            places.remove(&key);
             Err(fault)
         }
     }
@@ -127,20 +121,15 @@ impl<O: Object> Past<O> {
         ensures cause { HasCauseFor KeepFault.Failed (K.faults keeper.old) (K.faults keeper.new) result }
     {
         self.entries.reserve(1)?;
-        let Ok(stepped) = step(alloc, &mut self.object, id, day, command) else {
+        let Ok(stepped) = step(alloc, &mut self.object, &mut self.row, id, day, command) else {
             return Err(KeepFault::Memory);
         };
-        let Stepped {
-            entry,
-            reply,
-            row,
-            undo,
-        } = stepped;
+        let Stepped { entry, reply, undo } = stepped;
         let place = self.entries.len() as u32;
-        let kept = keep(&mut self.places, keeper, id, place, row.as_slice());
+        let kept = keep(&mut self.places, keeper, id, place, self.row.as_slice());
         match kept {
             Ok(()) => {
-                self.row_bytes += row.len() as u64;
+                self.row_bytes += self.row.len() as u64;
                 self.entries.push_reserved(entry);
                 Ok(reply)
             }

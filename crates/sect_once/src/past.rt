@@ -1,25 +1,29 @@
 // What has acted: the object with the entries that brought it where it is, and the place of each id.
-ghost use Rattle.std.specs.Prelude.{◌≡◌, ◌↔◌, ◌<◌, ◌≤◌, ◌^◌, [], length, slice_get, cond, IsTrue, None, Some, OnErr, OnOk};
-ghost use Rattle.std.specs.BTreeMap.{get, is_at};
+ghost use Rattle.std.specs.Prelude.{◌≡◌, ℕ, ◌↔◌, ◌<◌, ◌≤◌, ◌^◌, ◌==◌, nat_eq, true, false, [], length, slice_get, cond, IfNone, IfSome, IsTrue, Some, OnErr, OnOk};
+ghost use Rattle.std.specs.HashMap.{get};
 ghost use Rattle.sect_base.specs.declared.limit.Id.{Id};
 ghost use Rattle.sect_once.specs.Desks.{FindsIn, IsTrail, SeesEntry};
-ghost use Rattle.sect_once.specs.History.{AreHeavy};
+ghost use Rattle.sect_once.specs.Opening.{HasActed};
+ghost use Rattle.sect_once.specs.History.{AreHeavy, IsNew, key_of};
 
 use crate::answer::Seen;
 use crate::entry::Entry;
+use crate::key::key_of;
 use crate::object::Object;
 use sect_base::{Id, Memory};
 use std::alloc::Global;
-use std::collections::BTreeMap;
+use std::collections::HashMap;
 use std::marker::Model;
 
-/// An object that is the replay of its entries. The bytes of their rows are counted.
+/// An object that is the replay of its entries. Each entry names its id, and a look-up tests it. The bytes of their rows are
+/// counted, and the last row stands in a buffer for the next.
 #[derive(Drop)]
 pub(crate) struct Past<O: Object> {
     pub(crate) object: O,
     pub(crate) entries: Vec<Entry<O::Command, O::Reply>>,
-    pub(crate) places: BTreeMap<Id, u32>,
+    pub(crate) places: HashMap<u128, u32>,
     pub(crate) row_bytes: u64,
+    pub(crate) row: Vec<u8>,
 }
 
 impl<O: Object> Model for Past<O> {
@@ -29,7 +33,7 @@ impl<O: Object> Model for Past<O> {
 
     ghost view = { λ p. record { object = O.state p.object; entries = p.entries.items } };
 
-    ghost invariant = { λ p. IsPast O.start O.stepped O.is_row ⟦<Id as Ord>⟧.cmp (O.state p.object) p.entries.items p.places p.row_bytes };
+    ghost invariant = { λ p. IsPast O.start O.stepped O.is_row (O.state p.object) p.entries.items p.places p.row_bytes };
 }
 
 /// The notes with which a log is full.
@@ -38,23 +42,14 @@ pub(crate) const MOST_NOTES: usize = 1 << 20;
 /// The bytes of rows with which a log is full.
 pub(crate) const MOST_BYTES: u64 = 1 << 28;
 
-/// The place of an id.
-fn place_of(places: &BTreeMap<Id, u32>, id: &Id) -> Option<u32>
-    ensures { result ≡ get ⟦<Id as Ord>⟧.cmp places.now id.now }
+// Gives an id its place.
+pub(crate) fn place_in(places: &mut HashMap<u128, u32>, id: &Id, place: u32) -> Result<(), Memory>
+    ensures small { id.now.number < 2 ^ 64 }
+    ensures places { OnOk result ((q : ℕ) → get nat_eq places.new q ≡ cond (key_of id.now == q) (Some place) (get nat_eq places.old q)) }
+    ensures stay { OnErr result ((q : ℕ) → (key_of id.now == q) ≡ false → get nat_eq places.new q ≡ get nat_eq places.old q) }
 {
-    places.get(id).copied()
-}
-
-/// Gives a new id its place.
-pub(crate) fn place_in(places: &mut BTreeMap<Id, u32>, id: Id, place: u32) -> Result<(), Memory>
-    requires { get ⟦<Id as Ord>⟧.cmp places.old id ≡ None }
-    ensures places { OnOk result ((q : Id) → get ⟦<Id as Ord>⟧.cmp places.new q ≡ cond (is_at (⟦<Id as Ord>⟧.cmp id) q) (Some place) (get ⟦<Id as Ord>⟧.cmp places.old q)) }
-    ensures stay { OnErr result ((q : Id) → get ⟦<Id as Ord>⟧.cmp places.new q ≡ get ⟦<Id as Ord>⟧.cmp places.old q) }
-{
-    match places.insert(id, place) {
-        Ok(_) => Ok(()),
-        Err(_) => Err(Memory),
-    }
+    places.insert(key_of(id), place)?;
+    Ok(())
 }
 
 fn entry_at<C, R>(entries: &[Entry<C, R>], place: u32) -> &Entry<C, R>
@@ -64,7 +59,7 @@ fn entry_at<C, R>(entries: &[Entry<C, R>], place: u32) -> &Entry<C, R>
     &entries[place as usize]
 }
 
-/// What an entry is to a command with its id.
+// What an entry is to a command with its id.
 fn seen_at<O: Object>(entry: &Entry<O::Command, O::Reply>, place: u32, command: &O::Command) -> Seen
     ensures { SeesEntry entry.now place command.now result }
 {
@@ -83,8 +78,9 @@ impl<O: Object> Past<O> {
         Past {
             object: O::empty(alloc),
             entries: Vec::new(alloc),
-            places: BTreeMap::new(alloc),
+            places: HashMap::new(alloc),
             row_bytes: 0,
+            row: Vec::new(alloc),
         }
     }
 
@@ -110,13 +106,35 @@ impl<O: Object> Past<O> {
         entry_at(self.entries.as_slice(), place)
     }
 
+    // The entry with an id, and its place.
+    fn entry_with(&self, id: &Id) -> Option<(u32, &Entry<O::Command, O::Reply>)>
+        ensures found { IfSome result (λ r. (slice_get self.now.entries r.0 ≡ Some r.1.now) × (r.1.now.id ≡ id.now)) }
+        ensures none { IfNone result (IsNew id.now self.now.entries) }
+    {
+        let place = *self.places.get(&key_of(id))?;
+        let entry = self.entries.get(place as usize)?;
+        if entry.id == *id {
+            Some((place, entry))
+        } else {
+            None
+        }
+    }
+
+    /// Whether an entry has the id.
+    pub(crate) fn has(&self, id: &Id) -> bool
+        ensures acted { result ≡ true → HasActed O.start O.stepped O.is_row id.now self.now.entries }
+        ensures new { result ≡ false → IsNew id.now self.now.entries }
+    {
+        self.entry_with(id).is_some()
+    }
+
     /// What the entries have of an id and a command.
     pub(crate) fn find(&self, id: &Id, command: &O::Command) -> Seen
         ensures { FindsIn self.now.entries id.now command.now result }
     {
-        match place_of(&self.places, id) {
+        match self.entry_with(id) {
             None => Seen::New,
-            Some(place) => seen_at::<O>(entry_at(self.entries.as_slice(), place), place, command),
+            Some((place, entry)) => seen_at::<O>(entry, place, command),
         }
     }
 

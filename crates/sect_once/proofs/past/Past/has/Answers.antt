@@ -1,6 +1,6 @@
 use Rattle.std.proofs.Common.{◌∙◌, sym}
-use Rattle.sect_once.proofs.Openings.{index-has}
+use Rattle.sect_once.proofs.Openings.{some_has}
 use Rattle.sect_once.proofs.past.Past.has.Goals as goal
 
 pub returns-clause-acted : goal.returns-clause-acted
-returns-clause-acted g c = rw (← c.self.view_is) (λ h. index-has g.O.Object.start g.O.Object.stepped g.O.Object.is_row _ c.self.inside.places c.self.inside.entries.items c.args.id.now c.self.invariant.index (sym c.contains_key.ensures ∙ h))
+returns-clause-acted g c = λ h. some_has c.entry_with.result (sym c.is_some.ensures ∙ h) c.entry_with.ensures.found (λ a p. (a.0, a.1.now, p.0, p.1))
