@@ -1,7 +1,9 @@
 pub mod AnsweredLemmas
 pub mod AnswerLemmas
 pub mod DoneLemmas
+pub mod LimitLemmas
 pub mod MoveLemmas
+pub mod OpenedLemmas
 pub mod OpeningLemmas
 pub mod PlaceLemmas
 pub mod StepLemmas

@@ -1,5 +1,5 @@
 -- What a command opens is marked, so the entries that aren't marked have no move after it.
-use Rattle.std.specs.Prelude.{◌≡◌, ℕ, max, nat_lt, Bool, true, false, not, ◌&&◌, ◌||◌, ◌==◌, cond, List, [], ◌∷◌, ◌++◌, map, find, filter, Option, Some, None, IsTrue, refl, ◌⊎◌}
+use Rattle.std.specs.Prelude.{◌≡◌, ℕ, max, nat_lt, Bool, true, false, not, ◌&&◌, ◌||◌, ◌==◌, cond, List, [], ◌∷◌, ◌++◌, map, find, filter, Option, Some, None, Result, OnOk, IsTrue, refl, ◌⊎◌}
 use Rattle.std.specs.List.{list_any, list_all}
 use Rattle.std.specs.Option.{option_map_or, option_and_then, is_some}
 use Rattle.std.proofs.Common.{sym, ◌∙◌, ap, subst, arith, inl, inr}
@@ -12,14 +12,14 @@ use Rattle.sect_command.specs.declared.command.Command.TheVariants.{Offering, St
 use Rattle.sect_command.specs.declared.reply.Reply.{Reply}
 use Rattle.sect_command.specs.declared.reply.Reply.TheVariants.{Swapped}
 use Rattle.sect_reserve.specs.Audience.{active}
-use Rattle.sect_model.specs.Data.{StudentId, SectionId, OfferingId, OfferingRow, Want, Choice, Move, Reservation, Restriction}
+use Rattle.sect_model.specs.Data.{StudentId, SectionId, Cap, Limit, OfferingId, OfferingRow, Want, Choice, Move, Reservation, Restriction}
 use Rattle.sect_model.specs.declared.held.Waiting.{Waiting}
 use Rattle.sect_model.specs.declared.pick.Outcome.{Outcome}
 use Rattle.sect_model.specs.declared.pick.Outcome.TheVariants.{Found, Blocked as blocked, Spent as spent}
 use Rattle.sect_model.specs.declared.change.Change.{Change}
 use Rattle.sect_model.specs.declared.change.Change.TheVariants.{Offering as new_offering, Student as new_student, Requests as new_requests, Reserve as new_reservation, Unreserve as gone_reservation, Expiry, Restrict as new_restriction, Unrestrict as gone_restriction, Cap as new_cap, Cancelled, Day, Enrol as new_enrolment, Leave}
 use Rattle.sect_model.specs.World.{World, State, offering_of, is_of, reservation_of, enrol}
-use Rattle.sect_model.specs.Change.{reservation_from, restriction_from, cancel}
+use Rattle.sect_model.specs.Change.{reservation_from, restriction_from, cancel, put_limit}
 use Rattle.sect_model.specs.Refusals.{restriction_of}
 use Rattle.sect_model.specs.Outcome.{outcome_of}
 use Rattle.sect_model.specs.Move.{are_allowed}
@@ -28,16 +28,25 @@ use Rattle.sect_model.specs.Settle.{found_in, make_move, without}
 use Rattle.sect_model.specs.Fits.{Fits, changed}
 use Rattle.sect_model.specs.Kept.{KeptWorld, KeptState, entry_fits}
 use Rattle.sect_model.specs.Accepted.{CommandFits}
-use Rattle.sect_model.specs.Step.{Acted, act, moved, enrolled, enrol_move}
+use Rattle.sect_model.specs.Premises.{MoveFits}
+use Rattle.sect_model.specs.Batch.{batch_of, join_lines}
+use Rattle.sect_model.specs.Step.{Acted, act, batched, moved, enrolled, enrol_move}
 use Rattle.sect_model.specs.Freer.{Among, NoMove, may_open, flips, wants}
 use Rattle.sect_model.proofs.Members
-use Rattle.sect_model.proofs.Members.{neither-left, neither-right, none-of, both-left, not_both, decide}
+use Rattle.sect_model.proofs.Members.{all-at, neither-left, neither-right, none-of, both-left, not_both}
+use Rattle.sect_model.proofs.FreerLemmas.{member}
 use Rattle.sect_model.proofs.KeptMoves.{found-allowed}
 use Rattle.sect_model.proofs.FreerIndex.{wants-listed}
+use Rattle.sect_space.specs.declared.back.Back.{Back}
+use Rattle.sect_space.specs.Back.{back_of}
 use Rattle.sect_wait.specs.Queued.{Queued, new_entry, state_of}
 use Rattle.sect_wait.specs.Marked.{Marked, is_marked, OthersHaveNoMove, MarksKept, MarksMore, concerns}
-use Rattle.sect_wait.proofs.MarkLemmas.{changed-others, among-append, others-without}
-use Rattle.sect_machine.specs.Opening.{opens, opened, enrolled_opens, is_swapped, is_joined, reserved_in, restricted_in}
+use Rattle.sect_wait.specs.Indexed.{MarksTold}
+use Rattle.sect_wait.proofs.MarkLemmas.{changed-others, among-append, more-test, neither, on-ok, others-without}
+use Rattle.sect_wait.proofs.ToldLemmas.{nobody-marked, told-marks}
+use Rattle.sect_machine.specs.Opening.{RecordsLimit, batch_opens, enrolled_opens, flip_opens, is_joined, last_offering, opened, opens, reserved_in, restricted_in, swap_opens}
+use Rattle.sect_machine.proofs.LimitLemmas.{limit-closed}
+use Rattle.sect_machine.proofs.OpenedLemmas.{Stays, batch-stays, swap-stays}
 
 no : {P : Type 0} → true ≡ false → P
 no h = absurd (differ h)
@@ -79,6 +88,10 @@ restricted w e (Some r) k h = wanted w r.offering e k h
 -- ---- a command
 
 module _ (s : State) (k : KeptState s) (m n l : Marked) (others : OthersHaveNoMove s.world s.entries m) where
+  -- an entry that isn't marked has no move
+  stays : (e : Waiting) → Among s.entries e → is_marked m e.ticket ≡ false → Stays e s.world
+  stays e a unmarked = record { kept = k.world; fits = all-at (entry_fits s.world) s.entries k.entries_fit e (member s.entries e a); no_move = others e a unmarked }
+
   -- nothing of the world was changed
   same-world : MarksKept m n → MarksKept n l → OthersHaveNoMove s.world s.entries l
   same-world before after e a unmarked = others e a (before e.ticket (after e.ticket unmarked))
@@ -113,11 +126,30 @@ module _ (s : State) (k : KeptState s) (m n l : Marked) (others : OthersHaveNoMo
   by-enrolment student want budget (blocked tree visits) e known before after = same-world before after.kept
   by-enrolment student want budget (spent b) e known before after = same-world before after.kept
 
-  by-swap : (mv : Move) (o : Outcome) → MarksKept m n → MarksMore (λ e. is_swapped (moved s mv Swapped o).reply) (moved s mv Swapped o).state.entries n l
+  by-swap : (mv : Move) (budget : ℕ) (o : Outcome) → outcome_of s.world mv budget ≡ o → MoveFits s.world mv → MarksKept m n
+      → MarksMore (swap_opens (moved s mv Swapped o).state.world mv.student mv.give (moved s mv Swapped o).reply) (moved s mv Swapped o).state.entries n l
       → OthersHaveNoMove (moved s mv Swapped o).state.world (moved s mv Swapped o).state.entries l
-  by-swap mv (Found choices visits) before after = λ e a unmarked. no (after.added e a unmarked)
-  by-swap mv (blocked tree visits) before after = same-world before after.kept
-  by-swap mv (spent b) before after = same-world before after.kept
+  by-swap mv budget (Found choices visits) found fits before after = λ e a unmarked.
+      (swap-stays e s.world mv choices fits (found-allowed s.world mv budget choices (ap found_in found)) (after.added e a unmarked) (stays e a (before e.ticket (after.kept e.ticket unmarked)))).no_move
+  by-swap mv budget (blocked tree visits) found fits before after = same-world before after.kept
+  by-swap mv budget (spent b) found fits before after = same-world before after.kept
+
+  -- a limit that was set
+  by-limit : (cap : Cap) (limit : Limit) (backs now : List Back) → Fits s.world (new_cap cap limit) → now ≡ backs ++ back_of s.world (new_cap cap limit) ∷ [] → MarksKept m n
+      → MarksMore (concerns None (last_offering (put_limit s.world cap limit) now)) s.entries n l → OthersHaveNoMove (put_limit s.world cap limit) s.entries l
+  by-limit cap limit backs now fits recorded before after =
+      changed-others s.world (put_limit s.world cap limit) s.entries m l (new_cap cap limit) k.world fits k.entries_fit refl others (record {
+        kept = λ t h. before t (after.kept t h);
+        added = λ e a h. limit-closed s.world cap limit backs now e k.world fits recorded (after.added e a h);
+      })
+
+  -- a batch that was made
+  by-batch : (students : List StudentId) → list_all (λ x. is_some (find_student s.world.students x)) students ≡ true → MarksKept m n
+      → MarksMore (batch_opens (batched s students).state.world (batched s students).reply) (batched s students).state.entries n l
+      → OthersHaveNoMove (batched s students).state.world (batched s students).state.entries l
+  by-batch students known before after = λ e a unmarked.
+      batch-stays s students e known (λ old. stays e old (before e.ticket (after.kept e.ticket unmarked)))
+      (join_lines (record { state = record s { world = (batch_of s.world students).world }; lines = [] }) (batch_of s.world students).answered) refl (after.added e a unmarked) a
 
   by-cancel : (id : SectionId) (b : Bool) → is_cancelled s.world.catalogue id ≡ b → (is_cancelled s.world.catalogue id ≡ false → Fits s.world (Cancelled id)) → MarksMore (λ e. false) s.entries m n → MarksKept n l
       → OthersHaveNoMove (cancel s.world id) s.entries l
@@ -134,42 +166,42 @@ module _ (s : State) (k : KeptState s) (m n l : Marked) (others : OthersHaveNoMo
       by_place (inr (inl new)) = no (sym (eq-eqb f.ticket e.ticket (ap (λ (x : Waiting). x.ticket) new)) ∙ after.added e a unmarked)
       by_place (inr (inr new)) = absurd new
 
-  pub act-others : (command : Command) → CommandFits s.world command → MarksMore (opens s.world command) s.entries m n
-      → MarksMore (opened (act s command).state.world command (act s command).reply) (act s command).state.entries n l → OthersHaveNoMove (act s command).state.world (act s command).state.entries l
-  act-others (Offering row) fits before after = one-change (new_offering row) (λ e. false) fits (λ e h. refl) before after.kept
-  act-others (student_row row) fits before after = one-change (new_student row) (concerns (Some row.id) None) fits (λ e h. neither-left (row.id.0 == e.student.0) false h) before after.kept
-  act-others (Requests student asks) fits before after = one-change (new_requests student asks) (concerns (Some student) None) fits (λ e h. neither-left (student.0 == e.student.0) false h) before after.kept
-  act-others (Reserve row) fits before after =
+  pub act-others : (backs now : List Back) (command : Command) → RecordsLimit s.world command backs now → CommandFits s.world command → MarksMore (opens s.world command) s.entries m n
+      → MarksMore (opened (act s command).state.world now command (act s command).reply) (act s command).state.entries n l → OthersHaveNoMove (act s command).state.world (act s command).state.entries l
+  act-others backs now (Offering row) recorded fits before after = one-change (new_offering row) (λ e. false) fits (λ e h. refl) before after.kept
+  act-others backs now (student_row row) recorded fits before after = one-change (new_student row) (concerns (Some row.id) None) fits (λ e h. neither-left (row.id.0 == e.student.0) false h) before after.kept
+  act-others backs now (Requests student asks) recorded fits before after = one-change (new_requests student asks) (concerns (Some student) None) fits (λ e h. neither-left (student.0 == e.student.0) false h) before after.kept
+  act-others backs now (Reserve row) recorded fits before after =
       one-change (new_reservation (reservation_from s.world row)) (concerns None (find_offering s.world.catalogue.rows row.offering)) fits (λ e h. wanted s.world row.offering e k.world h) before after.kept
-  act-others (Unreserve id) fits before after =
+  act-others backs now (Unreserve id) recorded fits before after =
       one-change (gone_reservation id) (concerns None (reserved_in s.world id)) fits (λ e h. reserved s.world e (reservation_of s.world id) k.world h) before after.kept
-  act-others (Expire id expiry) fits before after =
+  act-others backs now (Expire id expiry) recorded fits before after =
       one-change (Expiry id expiry) (concerns None (reserved_in s.world id)) fits (λ e h. reserved s.world e (reservation_of s.world id) k.world h) before after.kept
-  act-others (Restrict row) fits before after =
+  act-others backs now (Restrict row) recorded fits before after =
       one-change (new_restriction (restriction_from s.world row)) (concerns None (find_offering s.world.catalogue.rows row.offering)) fits (λ e h. wanted s.world row.offering e k.world h) before after.kept
-  act-others (Unrestrict id) fits before after =
+  act-others backs now (Unrestrict id) recorded fits before after =
       one-change (gone_restriction id) (concerns None (restricted_in s.world id)) fits (λ e h. restricted s.world e (restriction_of s.world id) k.world h) before after.kept
-  act-others (SetLimit level limit) fits before after = one-change (new_cap level limit) (λ e. true) fits (λ e h. no h) before after.kept
-  act-others (Cancel id) fits before after = by-cancel id (is_cancelled s.world.catalogue id) refl fits before after.kept
-  act-others (Enrol student want budget) fits before after =
+  act-others backs now (SetLimit level limit) recorded fits before after = by-limit level limit backs now fits recorded before.kept after
+  act-others backs now (Cancel id) recorded fits before after = by-cancel id (is_cancelled s.world.catalogue id) refl fits before after.kept
+  act-others backs now (Enrol student want budget) recorded fits before after =
       by-enrolment student want budget (outcome_of s.world (enrol_move student want) budget) refl fits.student before.kept after
-  act-others (Drop student course) fits before after =
+  act-others backs now (Drop student course) recorded fits before after =
       one-change (Leave student course) (λ e. may_open s.world e (Leave student course)) fits (λ e h. h) before after.kept
-  act-others (Swap student give take budget) fits before after =
+  act-others backs now (Swap student give take budget) recorded fits before after =
       let mv : Move = record { student = student; give = give; take = take } in
-      by-swap mv (outcome_of s.world mv budget) before.kept after
-  act-others (Wait student want give class) fits before after = by-join (new_entry s.next student want give class) before.kept after
-  act-others (Unwait student ticket) fits before after = others-without s.world s.entries l ticket (same-world before.kept after.kept)
-  act-others (Batch students) fits before after = λ e a unmarked. no (after.added e a unmarked)
+      by-swap mv budget (outcome_of s.world mv budget) refl fits before.kept after
+  act-others backs now (Wait student want give class) recorded fits before after = by-join (new_entry s.next student want give class) before.kept after
+  act-others backs now (Unwait student ticket) recorded fits before after = others-without s.world s.entries l ticket (same-world before.kept after.kept)
+  act-others backs now (Batch students) recorded fits before after = by-batch students fits before.kept after
 
 -- once a command was answered, and what it opens is marked
-pub acted-others : (w v : World) (q p : Queued) (command : Command) (reply : Reply) (m n l : Marked) → KeptState (state_of w q) → CommandFits w command
-    → act (state_of w q) command ≡ record { state = state_of v p; reply = reply } → OthersHaveNoMove w q.entries m → MarksMore (opens w command) q.entries m n → MarksMore (opened v command reply) p.entries n l
-    → OthersHaveNoMove v p.entries l
-acted-others w v q p command reply m n l k fits is others before after =
+pub acted-others : (w v : World) (q p : Queued) (backs now : List Back) (command : Command) (reply : Reply) (m n l : Marked) → KeptState (state_of w q) → CommandFits w command
+    → act (state_of w q) command ≡ record { state = state_of v p; reply = reply } → RecordsLimit w command backs now → OthersHaveNoMove w q.entries m → MarksMore (opens w command) q.entries m n
+    → MarksMore (opened v now command reply) p.entries n l → OthersHaveNoMove v p.entries l
+acted-others w v q p backs now command reply m n l k fits is recorded others before after =
     subst (λ (a : Acted). OthersHaveNoMove a.state.world a.state.entries l) is
-    (act-others (state_of w q) k m n l others command fits before
-    (subst (λ (a : Acted). MarksMore (opened a.state.world command a.reply) a.state.entries n l) (sym is) after))
+    (act-others (state_of w q) k m n l others backs now command recorded fits before
+    (subst (λ (a : Acted). MarksMore (opened a.state.world now command a.reply) a.state.entries n l) (sym is) after))
 
 -- the day, once what it opens is marked
 pub day-others : (w v : World) (es : List Waiting) (day : ℕ) (m n : Marked) → KeptWorld w → IsTrue (list_all (entry_fits w) es) → v ≡ changed w (Day (max w.day day)) → OthersHaveNoMove w es m
@@ -178,43 +210,60 @@ day-others w v es day m n k fit is others marks = changed-others w v es m n (Day
 
 -- ---- marks of a day
 
-any-narrow : {X : Type 0} (p q : X → Bool) (xs : List X) → list_any q xs ≡ false → list_any (λ x. p x && q x) xs ≡ false
-any-narrow p q [] h = refl
-any-narrow p q (x ∷ xs) h = by_test (p x) (neither-left (q x) _ h) (any-narrow p q xs (neither-right (q x) _ h))
-  where
-    by_test : (b : Bool) → q x ≡ false → list_any (λ y. p y && q y) xs ≡ false → (b && q x) || list_any (λ y. p y && q y) xs ≡ false
-    by_test true one rest = (λ i. one i || list_any (λ y. p y && q y) xs) ∙ rest
-    by_test false one rest = rest
+and-left : (a b : Bool) → a ≡ false → a && b ≡ false
+and-left true b h = cc
+and-left false b h = refl
 
--- all are marked
-pub all-more : (test : Waiting → Bool) (es : List Waiting) (m n : Marked) → n ≡ record m { all = true } → MarksMore test es m n
-all-more test es m n is = record {
-  kept = λ t h. no (ap (λ x. is_marked x t) (sym is) ∙ h);
-  added = λ e a h. no (ap (λ x. is_marked x e.ticket) (sym is) ∙ h);
-}
+and-right : (a b : Bool) → b ≡ false → a && b ≡ false
+and-right true b h = h
+and-right false b h = refl
 
--- nothing had to be marked
-pub none-more : (test : Waiting → Bool) (es : List Waiting) (m : Marked) → ((e : Waiting) → test e ≡ false) → MarksMore test es m m
-none-more test es m none = record { kept = λ t h. h; added = λ e a h. none e }
+-- the entries that want the reservation's offering are marked
+pub flip-marks : {A E : Type 0} (w : World) (day : ℕ) (r : Reservation) (o : Option OfferingRow) (es : List Waiting) (m n : Marked) (result : Result A E) → KeptWorld w
+    → o ≡ find_offering w.catalogue.rows r.offering → OnOk result (MarksMore (concerns None o) es m n) → OnOk result (MarksMore (flip_opens w day r) es m n)
+flip-marks w day r o es m n result k its marks =
+    on-ok result (more-test (flip_opens w day r) (concerns None (find_offering w.catalogue.rows r.offering)) es m n (λ e h. and-left (wants w e.want r.offering) (flips w day r) (wanted w r.offering e k h)))
+    (subst (λ x. OnOk result (MarksMore (concerns None x) es m n)) its marks)
 
--- a day on which no reservation begins or ends opens nothing
-pub quiet-day : (w : World) (day : ℕ) (es : List Waiting) (m : Marked) → list_any (flips w (max w.day day)) w.reservations ≡ false → MarksMore (λ e. may_open w e (Day (max w.day day))) es m m
-quiet-day w day es m none = none-more (λ e. may_open w e (Day (max w.day day))) es m (λ e. any-narrow (λ r. wants w e.want r.offering) (flips w (max w.day day)) w.reservations none)
+-- a reservation that neither begins nor ends
+pub unflipped : (w : World) (day : ℕ) (r : Reservation) (es : List Waiting) (m : Marked) → flips w day r ≡ false → MarksMore (flip_opens w day r) es m m
+unflipped w day r es m none = nobody-marked (flip_opens w day r) es m (λ e. and-right (wants w e.want r.offering) (flips w day r) none)
 
 no-flip : (b : Bool) → cond b (not b) b ≡ false
 no-flip true = refl
 no-flip false = refl
 
-no-flips : (w : World) (rs : List Reservation) → list_any (flips w w.day) rs ≡ false
-no-flips w rs = none-of (flips w w.day) rs (λ r m. no-flip (active r w.day))
-
--- on the way to the later of two days
-pub flips-later : (w : World) (day : ℕ) (rs : List Reservation) (b : Bool) → nat_lt w.day day ≡ b → b && list_any (flips w day) rs ≡ list_any (flips w (max w.day day)) rs
-flips-later w day rs true h = ap (λ d. list_any (flips w d) rs) (later w.day day h)
-  where
-    later : (a b : ℕ) → nat_lt a b ≡ true → b ≡ max a b
-    later a b h = grind (arith, nat_tests, h)
-flips-later w day rs false h = sym (ap (λ d. list_any (flips w d) rs) (same w.day day h) ∙ no-flips w rs)
+-- a day that isn't later opens nothing
+pub same-day : (w : World) (day : ℕ) (es : List Waiting) (m : Marked) → nat_lt w.day day ≡ false → MarksMore (λ e. may_open w e (Day (max w.day day))) es m m
+same-day w day es m h = nobody-marked (λ e. may_open w e (Day (max w.day day))) es m (λ e.
+    ap (λ d. may_open w e (Day d)) (same w.day day h)
+    ∙ none-of (λ r. flip_opens w w.day r e) w.reservations (λ r i. and-right (wants w e.want r.offering) (flips w w.day r) (no-flip (active r w.day))))
   where
     same : (a b : ℕ) → nat_lt a b ≡ false → max a b ≡ a
     same a b h = grind (arith, nat_tests, h)
+
+-- on the way to a later day
+pub later-day : {A E : Type 0} (w : World) (day : ℕ) (rs : List Reservation) (es : List Waiting) (m n : Marked) (result : Result A E) → nat_lt w.day day ≡ true → rs ≡ w.reservations
+    → OnOk result (MarksMore (λ e. list_any (λ r. flip_opens w day r e) rs) es m n) → OnOk result (MarksMore (λ e. may_open w e (Day (max w.day day))) es m n)
+later-day w day rs es m n result h all marks =
+    subst (λ d. OnOk result (MarksMore (λ e. may_open w e (Day d)) es m n)) (later w.day day h)
+    (subst (λ xs. OnOk result (MarksMore (λ e. list_any (λ r. flip_opens w day r e) xs) es m n)) all marks)
+  where
+    later : (a b : ℕ) → nat_lt a b ≡ true → b ≡ max a b
+    later a b h = grind (arith, nat_tests, h)
+
+-- ---- marks of two kinds, one after the other
+
+pub either-marks : {A E : Type 0} (f g : Waiting → Bool) (es : List Waiting) (m k n : Marked) (r : Result A E) → MarksMore f es m k → OnOk r (MarksMore g es k n)
+    → OnOk r (MarksMore (λ e. f e || g e) es m n)
+either-marks f g es m k n r first marks = on-ok r join marks
+  where
+    join : MarksMore g es k n → MarksMore (λ e. f e || g e) es m n
+    join second = record {
+      kept = λ t h. first.kept t (second.kept t h);
+      added = λ e a h. neither (f e) (g e) (first.added e a (second.kept e.ticket h)) (second.added e a h);
+    }
+
+-- a marked ticket marks its entry
+pub ticket-marks : (ticket : ℕ) (es : List Waiting) (m n : Marked) → MarksTold (Some (ticket ∷ [])) m n → MarksMore (λ e. ticket == e.ticket) es m n
+ticket-marks ticket es m n marks = told-marks (λ e. ticket == e.ticket) es (Some (ticket ∷ [])) m n (λ e a h. neither-left (ticket == e.ticket) false h) marks

@@ -1,11 +1,12 @@
 // What a command does that isn't refused, before settling.
 
-ghost use Rattle.std.specs.Prelude.{◌≡◌, IfOk};
+ghost use Rattle.std.specs.Prelude.{◌≡◌, IfOk, OnOk};
 ghost use Rattle.sect_model.specs.Accepted.{CommandFits};
 ghost use Rattle.sect_model.specs.Step.{act as act_of};
 ghost use Rattle.sect_space.specs.Undo.{Undoable};
 ghost use Rattle.sect_wait.specs.Queued.{state_of};
 ghost use Rattle.sect_machine.specs.Acting.{amended_or};
+ghost use Rattle.sect_machine.specs.Opening.{RecordsLimit};
 ghost use Rattle.sect_machine.specs.Tracked.{Tracked};
 ghost use Rattle.sect_wait.specs.Undo.{Undoable as QueueUndoable};
 
@@ -32,6 +33,7 @@ pub fn act<L: Ledger>(
     requires undoable { Undoable world.old undo.old.backs }
     requires queue_undoable { QueueUndoable queue.old left.old }
     ensures acted { IfOk result (λ reply. act_of (state_of world.old.world queue.old.queue) command.now ≡ record { state = state_of world.new.world queue.new.queue; reply = reply }) }
+    ensures recorded { OnOk result (RecordsLimit world.old.world command.now undo.old.backs undo.new.backs) }
     ensures tracked { Tracked world.old undo.old.backs queue.old left.old world.new undo.new.backs queue.new left.new }
 {
     match command {

@@ -4,6 +4,7 @@
 mod act;
 mod change;
 mod day;
+mod flipping;
 pub mod laws;
 mod limits;
 mod lines;
@@ -11,6 +12,7 @@ mod machine;
 mod marking;
 mod moves;
 mod object;
+mod opened;
 mod place;
 mod plan;
 mod recheck;

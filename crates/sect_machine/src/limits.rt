@@ -1,10 +1,11 @@
 // Limits, cancelled sections, and courses that are given up.
 
-ghost use Rattle.std.specs.Prelude.{◌≡◌, false, OnOk};
+ghost use Rattle.std.specs.Prelude.{◌≡◌, ◌++◌, [], ◌∷◌, false, OnOk};
 ghost use Rattle.sect_catalog.specs.Catalogue.{is_cancelled as cancelled_in};
 ghost use Rattle.sect_model.specs.Change.{put_limit, cancel as world_without};
 ghost use Rattle.sect_model.specs.World.{leave};
 ghost use Rattle.sect_model.specs.Fits.{Fits};
+ghost use Rattle.sect_space.specs.Back.{back_of};
 ghost use Rattle.sect_space.specs.Undo.{Since, Undoable};
 
 use crate::change::make;
@@ -17,6 +18,7 @@ pub fn set_limit(world: &mut World, cap: Cap, limit: Limit, undo: &mut Undo) -> 
     requires fits { Fits world.old.world (Change.Cap cap limit) }
     requires undoable { Undoable world.old undo.old.backs }
     ensures ok { OnOk result (world.new.world ≡ put_limit world.old.world cap limit) }
+    ensures recorded { OnOk result (undo.new.backs ≡ undo.old.backs ++ back_of world.old.world (Change.Cap cap limit) ∷ []) }
     ensures since { Since world.old.world undo.old.backs world.new.world undo.new.backs }
     ensures undoable { Undoable world.new undo.new.backs }
 {

@@ -1,64 +1,17 @@
 // Which entries a command marks: those that it may give a move.
 
-ghost use Rattle.std.specs.Prelude.{◌≡◌, List, max, nat_lt, OnOk, option_copied};
-ghost use Rattle.std.specs.List.{list_any};
-ghost use Rattle.sect_model.specs.Freer.{flips as is_flipping, may_open};
-ghost use Rattle.sect_model.specs.declared.change.Change.TheVariants.{Day as NextDay};
+ghost use Rattle.std.specs.Prelude.{◌≡◌, List, OnOk, option_copied};
 ghost use Rattle.sect_model.specs.declared.held.Waiting.{Waiting as Entry};
 ghost use Rattle.sect_wait.specs.Marked.{MarksMore};
-ghost use Rattle.sect_machine.specs.Opening.{enrolled_opens, is_joined as is_new, is_swapped as is_swap, opened, opens, reserved_in as reserved_offering, restricted_in as restricted_offering};
+ghost use Rattle.sect_machine.specs.Opening.{enrolled_opens, is_joined as is_new, last_offering as offering_last_changed, opened, opens, reserved_in as reserved_offering, restricted_in as restricted_offering};
 
+use crate::opened::{mark_batched, mark_swapped};
 use sect_base::{Memory, ReservationId, RestrictionId, StudentId};
 use sect_catalog::OfferingRow;
 use sect_command::{Command, Reply};
 use sect_model::Enrolment;
-use sect_reserve::{Reservation, active};
-use sect_space::World;
-use sect_time::Day;
-use sect_wait::{Marks, Queue, mark, mark_enrolment, mark_leaving};
-
-/// Marks all entries where a reservation begins or ends on the way to the later of the two days.
-pub fn mark_day(world: &World, day: Day, marks: &mut Marks)
-    ensures { (entries : List Entry) → MarksMore (λ e. may_open world.now.world e (NextDay (max world.now.world.day day))) entries marks.old marks.new }
-{
-    if any_flips(world, day) {
-        marks.mark_all();
-    }
-}
-
-/// Whether a reservation is active on only one of the world's day and a later day.
-fn any_flips(world: &World, day: Day) -> bool
-    ensures { result ≡ list_any (is_flipping world.now.world (max world.now.world.day day)) world.now.world.reservations }
-{
-    if is_later(day, world.day()) {
-        flips_among(world, day, world.all_reservations())
-    } else {
-        false
-    }
-}
-
-fn is_later(day: Day, than: Day) -> bool
-    ensures { result ≡ nat_lt than day }
-{
-    than.get() < day.get()
-}
-
-fn flips_among(world: &World, day: Day, rows: &[Reservation]) -> bool
-    ensures { result ≡ list_any (is_flipping world.now.world day) rows.now }
-{
-    rows.iter().any(|row| flips(world, day, row))
-}
-
-/// Whether the reservation is active on only one of the world's day and this day.
-fn flips(world: &World, day: Day, row: &Reservation) -> bool
-    ensures { result ≡ is_flipping world.now.world day row.now }
-{
-    if active(row, world.day()) {
-        !active(row, day)
-    } else {
-        active(row, day)
-    }
-}
+use sect_space::{Undo, World};
+use sect_wait::{Marks, Queue, mark, mark_enrolment, mark_leaving, mark_ticket};
 
 /// Marks the entries that a command may give a move whose change is known before it acts. Where memory runs out, some of
 /// them are marked.
@@ -87,10 +40,6 @@ pub fn mark_before(
             mark(queue, None, row, marks)
         }
         Command::Unrestrict(id) => mark(queue, None, restricted_in(world, *id), marks),
-        Command::SetLimit { cap: _, limit: _ } => {
-            marks.mark_all();
-            Ok(())
-        }
         Command::Drop { student, course } => {
             mark_leaving(world, queue, *student, *course, marks)
         }
@@ -98,42 +47,40 @@ pub fn mark_before(
     }
 }
 
-/// Marks the entries that a command may have given a move, by its reply, in the world after it. Where memory runs out, some
-/// of them are marked.
+/// Marks the entries that a command may have given a move, by its reply and what was recorded of it, in the world after it.
+/// Where memory runs out, some of them are marked.
 pub fn mark_after(
     world: &World,
     queue: &Queue,
     command: &Command,
     reply: &Reply,
+    undo: &Undo,
     marks: &mut Marks,
 ) -> Result<(), Memory>
-    ensures { OnOk result (MarksMore (opened world.now.world command.now reply.now) queue.now.queue.entries marks.old marks.new) }
+    ensures { OnOk result (MarksMore (opened world.now.world undo.now.backs command.now reply.now) queue.now.queue.entries marks.old marks.new) }
 {
     match command {
+        Command::SetLimit { cap: _, limit: _ } => {
+            mark(queue, None, last_offering(world, undo), marks)
+        }
         Command::Enrol {
             student,
             want: _,
             budget: _,
         } => mark_enrolled(world, queue, *student, reply, marks),
         Command::Swap {
-            student: _,
-            give: _,
+            student,
+            give,
             take: _,
             budget: _,
-        } => {
-            mark_swapped(reply, marks);
-            Ok(())
-        }
+        } => mark_swapped(world, queue, *student, give.as_slice(), reply, marks),
         Command::Wait {
             student: _,
             want: _,
             give: _,
             class: _,
         } => mark_joined(reply, marks),
-        Command::Batch { students: _ } => {
-            marks.mark_all();
-            Ok(())
-        }
+        Command::Batch { students: _ } => mark_batched(world, queue, reply, marks),
         _ => Ok(()),
     }
 }
@@ -158,23 +105,14 @@ fn mark_enrolled(
     Ok(())
 }
 
-/// Marks all entries where a swap was made.
-fn mark_swapped(reply: &Reply, marks: &mut Marks)
-    ensures { (entries : List Entry) → MarksMore (λ e. is_swap reply.now) entries marks.old marks.new }
-{
-    if let Reply::Swapped(_) = reply {
-        marks.mark_all();
-    }
-}
-
 /// Marks the entry that joined.
 fn mark_joined(reply: &Reply, marks: &mut Marks) -> Result<(), Memory>
     ensures { OnOk result ((entries : List Entry) → MarksMore (is_new reply.now) entries marks.old marks.new) }
 {
-    if let Reply::Waiting(ticket) = reply {
-        marks.mark(*ticket)?;
+    match reply {
+        Reply::Waiting(ticket) => mark_ticket(*ticket, marks),
+        _ => Ok(()),
     }
-    Ok(())
 }
 
 /// The offering of a reservation.
@@ -191,4 +129,16 @@ fn restricted_in(world: &World, id: RestrictionId) -> Option<&OfferingRow>
 {
     let row = world.restriction(id)?;
     world.catalogue().offering(row.offering)
+}
+
+/// The offering that the change recorded last concerns.
+fn last_offering<'a>(world: &'a World, undo: &Undo) -> Option<&'a OfferingRow>
+    ensures { option_copied result ≡ offering_last_changed world.now.world undo.now.backs }
+{
+    let len = undo.len();
+    if len == 0 {
+        return None;
+    }
+    let id = undo.mark(len - 1).offering?;
+    world.catalogue().offering(id)
 }

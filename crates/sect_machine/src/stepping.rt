@@ -16,7 +16,8 @@ ghost use Rattle.sect_machine.specs.Tracked.{Tracked};
 
 use crate::act::act;
 use crate::change::set_day;
-use crate::marking::{mark_after, mark_before, mark_day};
+use crate::flipping::mark_day;
+use crate::marking::{mark_after, mark_before};
 use crate::replies::reply_after;
 use crate::told::ToldStep;
 use crate::undo::MachineUndo;
@@ -158,7 +159,7 @@ fn settled<L: Ledger>(
     ensures others { OnOk result (OthersHaveNoMove world.new.world queue.new.queue.entries marks.new) }
 {
     world.is_kept();
-    mark_day(world, day, marks);
+    mark_day(world, queue, day, marks)?;
     set_day(world, day, undo)?;
     let reply = answer(
         alloc, world, queue, marks, caller, command, undo, left, steps,
@@ -241,6 +242,6 @@ fn marked_act<L: Ledger>(
 {
     mark_before(world, queue, command, marks)?;
     let reply = act(alloc, world, queue, command, undo, left, steps)?;
-    mark_after(world, queue, command, &reply, marks)?;
+    mark_after(world, queue, command, &reply, undo, marks)?;
     Ok(reply)
 }

@@ -2,7 +2,7 @@
 use Rattle.std.specs.Prelude.{◌≡◌, ℕ, Bool, true, false, not, ◌&&◌, ◌||◌, ◌==◌, List, [], ◌∷◌, length, map, flat_map, count_by, Some, refl}
 use Rattle.std.specs.List.{list_any}
 use Rattle.std.specs.Option.{option_map_or}
-use Rattle.std.proofs.Common.{sym, ◌∙◌, ap, subst, inl, inr}
+use Rattle.std.proofs.Common.{sym, ◌∙◌, ap, subst, arith, inl, inr}
 use Rattle.std.proofs.lemmas.Bool.{eqb-true, eq-eqb}
 use Rattle.sect_catalog.specs.Catalogue.{has_course}
 use Rattle.sect_catalog.specs.Fault.{config_ids, row_ids, are_checked}
@@ -65,4 +65,4 @@ none-given p [] held e = sym (none held)
     none : (held : List Enrolment) → count_by (λ x. false) held ≡ 0
     none [] = refl
     none (x ∷ xs) = none xs
-none-given p (c ∷ cs) held e = cc
+none-given p (c ∷ cs) held e = let z : length (c ∷ cs) ≡ 0 = eqb-true (length (c ∷ cs)) 0 e in absurd (omega (arith, z))

@@ -154,7 +154,7 @@ impl Moment<'_> {
         row: Option<&SectionRow>,
     ) -> Option<(Rule, u32)>
         requires few { length sections < 6 }
-        requires row { option_copied row.entry ≡ find_section self.now.at.catalogue.rows section }
+        requires row { option_copied row ≡ find_section self.now.at.catalogue.rows section }
         ensures { result ≡ first_broken (standing_rules self.now.at self.now.student offering.now course (option_copied r.entry) config sections section) }
     {
         let earlier = sections.as_slice();
@@ -183,7 +183,7 @@ impl Moment<'_> {
         row: Option<&SectionRow>,
     ) -> Option<(Rule, u32)>
         requires own { IsTrue (are_own self.now.at offering (Section section)) }
-        requires row { option_copied row.entry ≡ find_section self.now.at.catalogue.rows section }
+        requires row { option_copied row ≡ find_section self.now.at.catalogue.rows section }
         ensures { result ≡ first_broken (space_rules self.now.at (option_copied r.entry) section) }
     {
         let closed = self.closed_with(offering, r, Level::Section(section), places(row));
@@ -205,7 +205,7 @@ impl Moment<'_> {
         section: SectionId,
         row: Option<&SectionRow>,
     ) -> Option<(Rule, u32)>
-        requires { option_copied row.entry ≡ find_section self.now.at.catalogue.rows section }
+        requires { option_copied row ≡ find_section self.now.at.catalogue.rows section }
         ensures { result ≡ first_broken (time_rules self.now.at self.now.student want.now (option_copied r.entry) earlier.now section) }
     {
         let meetings = meetings_in(row);

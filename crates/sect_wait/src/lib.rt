@@ -15,7 +15,7 @@ mod tickets;
 mod undo;
 
 pub use back::QueueBack;
-pub use marking::{mark, mark_enrolment, mark_leaving};
+pub use marking::{mark, mark_enrolment, mark_leaving, mark_ticket};
 pub use marks::Marks;
 pub use queue::Queue;
 pub use sect_model::{Placed, Waiting};

@@ -1,6 +1,6 @@
 // Which entries a change marks: those that it may give a move.
 
-ghost use Rattle.std.specs.Prelude.{◌≡◌, ◌==◌, [], ◌∷◌, cond, None as Nobody, Some as Told, OnOk, option_copied};
+ghost use Rattle.std.specs.Prelude.{◌≡◌, ◌==◌, [], ◌∷◌, cond, None as Nobody, Some as Told, OnErr, OnOk, option_copied};
 ghost use Rattle.std.specs.List.{list_all};
 ghost use Rattle.std.specs.Option.{is_some};
 ghost use Rattle.sect_catalog.specs.Catalogue.{places as places_of};
@@ -116,9 +116,10 @@ fn mark_each(tickets: &[u64], marks: &mut Marks) -> Result<(), Memory>
     Ok(())
 }
 
-/// Marks the ticket where it isn't marked yet.
-fn mark_ticket(ticket: u64, marks: &mut Marks) -> Result<(), Memory>
-    ensures { OnOk result (MarksTold (Told (ticket ∷ [])) marks.old marks.new) }
+/// Marks the ticket where it isn't marked yet. Where memory runs out, the marks are as before.
+pub fn mark_ticket(ticket: u64, marks: &mut Marks) -> Result<(), Memory>
+    ensures told { OnOk result (MarksTold (Told (ticket ∷ [])) marks.old marks.new) }
+    ensures err { OnErr result (marks.new ≡ marks.old) }
 {
     if !marks.has(ticket) {
         marks.mark(ticket)?;

@@ -10,5 +10,5 @@ returns-clause-others g c =
     let p = c.act.new.queue.queue in
     let command = c.args.command.now in
     let reply = c.in_ok-reply.reply in
-    acted-others w v q p command reply c.args.marks.now c.mark_before.new.marks c.mark_after.new.marks c.requires.kept c.requires.fits c.in_ok-reply.ensures.acted c.requires.others
-    c.in_ok-mark_before.ensures c.in_ok-mark_after.ensures
+    acted-others w v q p c.args.undo.now.backs c.act.new.undo.backs command reply c.args.marks.now c.mark_before.new.marks c.mark_after.new.marks c.requires.kept c.requires.fits
+    c.in_ok-reply.ensures.acted c.in_ok-reply.ensures.recorded c.requires.others c.in_ok-mark_before.ensures c.in_ok-mark_after.ensures

@@ -28,7 +28,7 @@ answer-requires-clause-kept g c =
 pub answer-requires-clause-others : goal.answer-requires-clause-others
 answer-requires-clause-others g c =
     day-others c.args.world.now.world c.set_day.new.world.world c.args.queue.now.queue.entries c.args.day c.args.marks.now c.mark_day.new.marks c.requires.kept.world c.requires.kept.entries_fit
-    c.in_ok-set_day.ensures.ok c.requires.others (c.mark_day.ensures c.args.queue.now.queue.entries)
+    c.in_ok-set_day.ensures.ok c.requires.others c.in_ok-mark_day.ensures
 
 pub place_all-requires-clause-fit : goal.place_all-requires-clause-fit
 place_all-requires-clause-fit g c =

@@ -15,7 +15,7 @@ credits_kept-kept-requires c =
     let most : c.args.most ≡ max_credits w i.student = c.requires ∙ sym (ap (λ v. max_credits v.at v.student) c.self.view_is) in
     let same : sum_by (λ e. cond (is_given i.give.now e.choice.course) 0 (credits_of w e.choice.course)) c.enrolments-held.result.now ≡ sum_by (λ e. cond (is_given i.give.now e.choice.course) 0 (credits_of w e.choice.course)) (held_by w i.student)
     = ap (sum_by (λ e. cond (is_given i.give.now e.choice.course) 0 (credits_of w e.choice.course))) c.enrolments-held.ensures in
-    omega (arith, same, kept-few w i.student i.give.now c.self.invariant.0.good c.self.invariant.1, most, c.type_inv.most)
+    omega (arith, same, kept-few w i.student i.give.now c.self.invariant.0.good c.self.invariant.1, most, c.ranges.most.fits)
 
 pub prove-unreachable-requires : goal.prove-unreachable-requires
 prove-unreachable-requires c =

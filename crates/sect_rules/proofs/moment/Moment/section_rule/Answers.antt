@@ -1,5 +1,6 @@
 -- the section is the offering's own, and its table is in three parts
-use Rattle.std.proofs.Common.{◌≡◌, ◌++◌, sym, ◌∙◌, Option, Some, None, []}
+use Rattle.std.proofs.Common.{◌≡◌, ◌++◌, sym, ◌∙◌, ap, Option, Some, None, []}
+use Rattle.sect_catalog.specs.Catalogue.{find_section}
 use Rattle.std.specs.Prelude.{ℕ, List, option_copied}
 use Rattle.std.specs.Option.{option_map_or}
 use Rattle.sect_model.specs.Data.{StudentId, CourseId, ConfigId, SectionId, OfferingRow, Want, Reservation, Rule}
@@ -37,12 +38,17 @@ module _ (v : World) (st : StudentId) (want : Want) (course : CourseId) (config 
       ∙ first-next (standing o r) (space_rules v r section ++ time_rules v st want r sections section) n
 
 pub standing_rule-requires : goal.standing_rule-requires
-standing_rule-requires c = sections-few c.args.self.now.at c.keeps.ensures.checked c.args.course c.args.config c.args.sections c.args.section c.requires
+standing_rule-requires c = record {
+  few = sections-few c.args.self.now.at c.keeps.ensures.checked c.args.course c.args.config c.args.sections c.args.section c.requires;
+  row = c.section-row.ensures ∙ ap (λ k. find_section k.rows c.args.section) c.catalogue.ensures;
+}
 
 pub space_rule-requires : goal.space_rule-requires
-space_rule-requires c =
-    section-own c.args.self.now.at c.keeps.ensures.checked c.args.course c.args.config c.args.sections c.args.section c.in_ok-offering.offering.now c.keeps.ensures.fit
-    (sym c.in_ok-offering.ensures) c.requires
+space_rule-requires c = record {
+  own = section-own c.args.self.now.at c.keeps.ensures.checked c.args.course c.args.config c.args.sections c.args.section c.in_ok-offering.offering.now c.keeps.ensures.fit
+      (sym c.in_ok-offering.ensures) c.requires;
+  row = c.section-row.ensures ∙ ap (λ k. find_section k.rows c.args.section) c.catalogue.ensures;
+}
 
 pub returns-in-Some : goal.returns-in-Some
 returns-in-Some c =
