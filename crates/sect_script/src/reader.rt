@@ -127,7 +127,7 @@ impl LineReader {
         }
     }
 
-    /// Takes the next piece from the source. Nothing stands ready then only at the end.
+    // Takes the next piece from the source. Nothing stands ready then only at the end.
     fn refill<S: Source>(&mut self, source: &mut S) -> Result<(), Failed>
         requires { self.old ≡ [] }
         ensures ok { OnOk result (Consumes (S.left source.old) (S.left source.new) self.new) }
@@ -141,8 +141,8 @@ impl LineReader {
         Ok(())
     }
 
-    /// Moves the bytes before the next line feed behind the line, or all that there are. True where it came to
-    /// a line feed.
+    // Moves the bytes before the next line feed behind the line, or all that there are. True where it came to
+    // a line feed.
     fn move_line(&mut self, line: &mut Vec<u8>) -> Result<bool, AllocError>
         ensures { IfOk result (λ found. Moves found self.old self.new line.old.items line.new.items) }
     {
@@ -162,7 +162,7 @@ impl LineReader {
     }
 }
 
-/// The place of the first line feed.
+// The place of the first line feed.
 fn line_feed_at(bytes: &[u8]) -> Option<usize>
     ensures within { IfSome result (λ at. at < length bytes.now) }
     ensures found { IfSome result (λ at. slice_index bytes.now at ≡ 10) }

@@ -1,4 +1,4 @@
-//! A count of the steps of a computation. It takes no bytes when the program runs.
+// A count of the steps of a computation. It takes no bytes when the program runs.
 #![tactic(auto)]
 
 ghost use Rattle.std.specs.Prelude.{◌≡◌, ◌+◌, ◌<◌};

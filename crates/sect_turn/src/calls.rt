@@ -14,7 +14,7 @@ use std::alloc::{AllocFailed, Global};
 use std::snapshot::Snapshot;
 use std::sync::Wait;
 
-/// A row with the value alone.
+// A row with the value alone.
 fn row_of<V>(alloc: Global, value: V) -> Result<Vec<Option<V>>, V>
     ensures ok { IfOk result (λ row. row.items ≡ Some value ∷ []) }
     ensures err { IfErr result (λ back. back ≡ value) }
@@ -29,7 +29,7 @@ fn row_of<V>(alloc: Global, value: V) -> Result<Vec<Option<V>>, V>
     }
 }
 
-/// The value of such a row.
+// The value of such a row.
 fn value_of<V>(mut row: Vec<Option<V>>) -> V
     requires { (value : V) × (row.items ≡ Some value ∷ []) }
     ensures { row.items ≡ Some result ∷ [] }
