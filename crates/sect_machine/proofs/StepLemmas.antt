@@ -26,6 +26,8 @@ use Rattle.sect_model.proofs.Accepted.{accepted-fits}
 use Rattle.sect_model.proofs.RefutedLemmas.{step-refutes}
 use Rattle.sect_model.proofs.StepLemmas.{day-state, step-keeps, step-settles}
 use Rattle.sect_wait.specs.Queued.{Queued, state_of}
+use Rattle.sect_machine.specs.declared.told.ToldStep.{ToldStep}
+use Rattle.sect_machine.specs.Settling.{placements}
 use Rattle.sect_machine.specs.Standing.{IsResting}
 use Rattle.sect_machine.proofs.AnswerLemmas.{answered-keeps}
 
@@ -43,11 +45,19 @@ answered-kept s t u day caller command reply k on is =
     subst KeptState (ap (λ (a : Acted). a.state) is) (answered-keeps t caller command (subst KeptState (sym on) (day-state s day k)))
 
 -- the day, the answer, and settling
-pub stepped-is : {E : Type 0} (s t u v : State) (day : ℕ) (caller : Caller) (command : Command) (reply : Reply) (r : Result Reply E) → t ≡ on_day s day → answered t caller command ≡ record { state = u; reply = reply }
-    → IfOk r (λ told. settled_after (record { state = u; reply = reply }) ≡ record { state = v; reply = told }) → IfOk r (λ told. step s day caller command ≡ record { state = v; reply = told })
+pub stepped-is : {E X : Type 0} (s t u v : State) (day : ℕ) (caller : Caller) (command : Command) (reply : Reply) (r : Result (Reply × X) E) → t ≡ on_day s day → answered t caller command ≡ record { state = u; reply = reply }
+    → IfOk r (λ told. settled_after (record { state = u; reply = reply }) ≡ record { state = v; reply = told.0 }) → IfOk r (λ told. step s day caller command ≡ record { state = v; reply = told.0 })
 unfolding step
 stepped-is s t u v day caller command reply (Ok told) on is settled = ap (λ x. settled_after (answered x caller command)) (sym on) ∙ ap settled_after is ∙ settled
 stepped-is s t u v day caller command reply (Err e) on is settled = tt
+
+-- whom settling places behind the answer
+pub placed-is : {E X : Type 0} (s t u : State) (day : ℕ) (caller : Caller) (command : Command) (reply : Reply) (r : Result (X × List Placed) E) → t ≡ on_day s day → answered t caller command ≡ record { state = u; reply = reply }
+    → IfOk r (λ told. told.1 ≡ (settle u).placed) → IfOk r (λ told. told.1 ≡ placements s day caller command)
+unfolding placements
+placed-is s t u day caller command reply (Ok told) on is placed =
+    placed ∙ sym (ap (λ x. (settle (answered x caller command).state).placed) (sym on) ∙ ap (λ (a : Acted). (settle a.state).placed) is)
+placed-is s t u day caller command reply (Err e) on is placed = tt
 
 -- settling, with the reply that it leaves
 pub settled-is : (u v : State) (reply told : Reply) (placed : List Placed) → settle u ≡ record { state = v; placed = placed } → ((x : State) → told ≡ reply_after reply (record { state = x; placed = placed }))
@@ -63,9 +73,9 @@ rests s u day caller command reply k is = subst IsResting (ap (λ (a : Acted). a
   settled = step-settles s day caller command;
 })
 
-pub rests-after : {E : Type 0} {X : Type 0} (w v : World) (q p : Queued) (day : ℕ) (caller : Caller) (command : Command) (r : Result (Reply × X) E) → KeptState (state_of w q) → IsResting (state_of w q)
-    → IfOk r (λ x. step (state_of w q) day caller command ≡ record { state = state_of v p; reply = x.0 }) → OnErr r (v ≡ w) → OnErr r (p ≡ q) → IsResting (state_of v p)
-rests-after w v q p day caller command (Ok x) k resting is world queue = rests (state_of w q) (state_of v p) day caller command x.0 k is
+pub rests-after : {E : Type 0} (w v : World) (q p : Queued) (day : ℕ) (caller : Caller) (command : Command) (r : Result ToldStep E) → KeptState (state_of w q) → IsResting (state_of w q)
+    → IfOk r (λ x. step (state_of w q) day caller command ≡ record { state = state_of v p; reply = x.reply }) → OnErr r (v ≡ w) → OnErr r (p ≡ q) → IsResting (state_of v p)
+rests-after w v q p day caller command (Ok x) k resting is world queue = rests (state_of w q) (state_of v p) day caller command x.reply k is
 rests-after w v q p day caller command (Err e) k resting is world queue = subst IsResting (λ i. state_of (sym world i) (sym queue i)) resting
 
 pub state-after : {E : Type 0} {X : Type 0} (s u : State) (day : ℕ) (caller : Caller) (command : Command) (r : Result (Reply × X) E) → IfOk r (λ x. step s day caller command ≡ record { state = u; reply = x.0 })

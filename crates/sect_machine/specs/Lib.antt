@@ -3,5 +3,6 @@ pub mod Answering
 pub mod NotDone
 pub mod Opening
 pub mod Placed
+pub mod Settling
 pub mod Standing
 pub mod Tracked

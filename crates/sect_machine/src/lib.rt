@@ -22,10 +22,12 @@ mod rows;
 mod state;
 mod stepping;
 mod survey;
+mod told;
 mod undo;
 mod waits;
 
 pub use machine::Machine;
 pub use sect_command::{Command, Query, Reply, View};
 pub use state::State;
+pub use told::ToldStep;
 pub use undo::MachineUndo;

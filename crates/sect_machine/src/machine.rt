@@ -5,10 +5,12 @@ ghost use Rattle.sect_model.specs.Kept.{KeptState};
 ghost use Rattle.sect_model.specs.Look.{look as looked_at};
 ghost use Rattle.sect_model.specs.Settle.{is_settled};
 ghost use Rattle.sect_model.specs.Step.{step as step_of};
+ghost use Rattle.sect_machine.specs.Settling.{placements};
 ghost use Rattle.sect_machine.specs.Standing.{state_in, Restores};
 ghost use Rattle.sect_model.specs.World.{State};
 
 use crate::stepping::step;
+use crate::told::ToldStep;
 use crate::undo::MachineUndo;
 use sect_base::{Caller, Memory};
 use sect_command::{Command, Query, Reply, View};
@@ -51,16 +53,25 @@ impl Machine {
         self.queue.is_kept();
     }
 
-    /// Acts a command of a caller on a day, and settles. After want of memory the state is as before.
-    pub(crate) fn act(
+    /// The world. It takes no memory.
+    pub fn world(&self) -> &World
+        ensures { result.now.world ≡ (state_in self.now).world }
+    {
+        &self.world
+    }
+
+    /// Acts a command of a caller on a day, settles, and tells whom settling placed, in order. After want of memory the state is
+    /// as before.
+    pub fn step_told(
         &mut self,
         day: Day,
         caller: Caller,
         command: &Command,
-    ) -> Result<(Reply, MachineUndo), Memory>
+    ) -> Result<ToldStep, Memory>
         ensures state { IfOk result (λ r. state_in self.new ≡ (step_of (state_in self.old) day caller command.now).state) }
-        ensures reply { IfOk result (λ r. r.0 ≡ (step_of (state_in self.old) day caller command.now).reply) }
-        ensures undo { IfOk result (λ r. Restores r.1 self.new (state_in self.old)) }
+        ensures reply { IfOk result (λ r. r.reply ≡ (step_of (state_in self.old) day caller command.now).reply) }
+        ensures placed { IfOk result (λ r. r.placed ≡ placements (state_in self.old) day caller command.now) }
+        ensures undo { IfOk result (λ r. Restores r.undo self.new (state_in self.old)) }
         ensures err { OnErr result (state_in self.new ≡ state_in self.old) }
     {
         self.is_kept();
@@ -73,6 +84,26 @@ impl Machine {
             caller,
             command,
         )
+    }
+
+    /// The same, where nobody asks whom settling placed.
+    pub(crate) fn act(
+        &mut self,
+        day: Day,
+        caller: Caller,
+        command: &Command,
+    ) -> Result<(Reply, MachineUndo), Memory>
+        ensures state { IfOk result (λ r. state_in self.new ≡ (step_of (state_in self.old) day caller command.now).state) }
+        ensures reply { IfOk result (λ r. r.0 ≡ (step_of (state_in self.old) day caller command.now).reply) }
+        ensures undo { IfOk result (λ r. Restores r.1 self.new (state_in self.old)) }
+        ensures err { OnErr result (state_in self.new ≡ state_in self.old) }
+    {
+        let ToldStep {
+            reply,
+            placed: _,
+            undo,
+        } = self.step_told(day, caller, command)?;
+        Ok((reply, undo))
     }
 
     /// Answers a query.

@@ -4,11 +4,13 @@ ghost use Rattle.std.specs.Prelude.{◌≡◌, ◌<◌, IfOk, IsTrue, OnErr, OnO
 ghost use Rattle.std.specs.List.{list_all};
 ghost use Rattle.sect_model.specs.Accepted.{CommandFits};
 ghost use Rattle.sect_model.specs.Kept.{KeptState, entry_fits};
+ghost use Rattle.sect_model.specs.Settle.{settle as settled_from};
 ghost use Rattle.sect_model.specs.Step.{act as act_of, answered, settled_after, step as step_of};
 ghost use Rattle.sect_space.specs.Undo.{Undoable};
 ghost use Rattle.sect_wait.specs.Marked.{OthersHaveNoMove};
 ghost use Rattle.sect_wait.specs.Queued.{state_of};
 ghost use Rattle.sect_wait.specs.Undo.{Undoable as QueueUndoable};
+ghost use Rattle.sect_machine.specs.Settling.{placements};
 ghost use Rattle.sect_machine.specs.Standing.{IsResting, Restores};
 ghost use Rattle.sect_machine.specs.Tracked.{Tracked};
 
@@ -17,9 +19,11 @@ use crate::change::set_day;
 use crate::flipping::mark_day;
 use crate::marking::{mark_after, mark_before};
 use crate::replies::reply_after;
+use crate::told::ToldStep;
 use crate::undo::MachineUndo;
-use sect_base::{Caller, Memory};
+use sect_base::{Caller, Items, Memory};
 use sect_command::{Command, Reply};
+use sect_model::Placed;
 use sect_refuse::refusal;
 use sect_space::{Undo, World};
 use sect_steps::Steps;
@@ -29,7 +33,7 @@ use std::alloc::Global;
 use std::marker::Brand;
 use std::sync::ledger::{Blank, Ledger};
 
-/// Acts a command of a caller on a day, and settles. Where memory runs out, world and queue are as before.
+/// Acts a command of a caller on a day, and settles, and tells whom settling placed. Where memory runs out, world and queue are as before.
 pub fn step(
     alloc: Global,
     world: &mut World,
@@ -38,11 +42,12 @@ pub fn step(
     day: Day,
     caller: Caller,
     command: &Command,
-) -> Result<(Reply, MachineUndo), Memory>
+) -> Result<ToldStep, Memory>
     requires resting { IsResting (state_of world.old.world queue.old.queue) }
     requires others { OthersHaveNoMove world.old.world queue.old.queue.entries marks.old }
-    ensures acted { IfOk result (λ r. step_of (state_of world.old.world queue.old.queue) day caller command.now ≡ record { state = state_of world.new.world queue.new.queue; reply = r.0 }) }
-    ensures undo { IfOk result (λ r. Restores r.1 (record { world = world.new; queue = queue.new }) (state_of world.old.world queue.old.queue)) }
+    ensures acted { IfOk result (λ r. step_of (state_of world.old.world queue.old.queue) day caller command.now ≡ record { state = state_of world.new.world queue.new.queue; reply = r.reply }) }
+    ensures placed { IfOk result (λ r. r.placed ≡ placements (state_of world.old.world queue.old.queue) day caller command.now) }
+    ensures undo { IfOk result (λ r. Restores r.undo (record { world = world.new; queue = queue.new }) (state_of world.old.world queue.old.queue)) }
     ensures world_err { OnErr result (world.new.world ≡ world.old.world) }
     ensures queue_err { OnErr result (queue.new.queue ≡ queue.old.queue) }
     ensures others { OthersHaveNoMove world.new.world queue.new.queue.entries marks.new }
@@ -69,14 +74,15 @@ fn counted<L: Ledger>(
     caller: Caller,
     command: &Command,
     blank: Blank,
-) -> Result<(Reply, MachineUndo), Memory>
+) -> Result<ToldStep, Memory>
     requires name { blank.name ≡ L.name }
     requires parts { blank.parts ≡ L.parts }
     requires some { 0 < blank.parts }
     requires resting { IsResting (state_of world.old.world queue.old.queue) }
     requires others { OthersHaveNoMove world.old.world queue.old.queue.entries marks.old }
-    ensures acted { IfOk result (λ r. step_of (state_of world.old.world queue.old.queue) day caller command.now ≡ record { state = state_of world.new.world queue.new.queue; reply = r.0 }) }
-    ensures undo { IfOk result (λ r. Restores r.1 (record { world = world.new; queue = queue.new }) (state_of world.old.world queue.old.queue)) }
+    ensures acted { IfOk result (λ r. step_of (state_of world.old.world queue.old.queue) day caller command.now ≡ record { state = state_of world.new.world queue.new.queue; reply = r.reply }) }
+    ensures placed { IfOk result (λ r. r.placed ≡ placements (state_of world.old.world queue.old.queue) day caller command.now) }
+    ensures undo { IfOk result (λ r. Restores r.undo (record { world = world.new; queue = queue.new }) (state_of world.old.world queue.old.queue)) }
     ensures world_err { OnErr result (world.new.world ≡ world.old.world) }
     ensures queue_err { OnErr result (queue.new.queue ≡ queue.old.queue) }
     ensures others { OthersHaveNoMove world.new.world queue.new.queue.entries marks.new }
@@ -95,11 +101,12 @@ fn all_or_none<L: Ledger>(
     caller: Caller,
     command: &Command,
     steps: &mut Steps<L>,
-) -> Result<(Reply, MachineUndo), Memory>
+) -> Result<ToldStep, Memory>
     requires resting { IsResting (state_of world.old.world queue.old.queue) }
     requires others { OthersHaveNoMove world.old.world queue.old.queue.entries marks.old }
-    ensures acted { IfOk result (λ r. step_of (state_of world.old.world queue.old.queue) day caller command.now ≡ record { state = state_of world.new.world queue.new.queue; reply = r.0 }) }
-    ensures undo { IfOk result (λ r. Restores r.1 (record { world = world.new; queue = queue.new }) (state_of world.old.world queue.old.queue)) }
+    ensures acted { IfOk result (λ r. step_of (state_of world.old.world queue.old.queue) day caller command.now ≡ record { state = state_of world.new.world queue.new.queue; reply = r.reply }) }
+    ensures placed { IfOk result (λ r. r.placed ≡ placements (state_of world.old.world queue.old.queue) day caller command.now) }
+    ensures undo { IfOk result (λ r. Restores r.undo (record { world = world.new; queue = queue.new }) (state_of world.old.world queue.old.queue)) }
     ensures world_err { OnErr result (world.new.world ≡ world.old.world) }
     ensures queue_err { OnErr result (queue.new.queue ≡ queue.old.queue) }
     ensures others { OthersHaveNoMove world.new.world queue.new.queue.entries marks.new }
@@ -112,13 +119,14 @@ fn all_or_none<L: Ledger>(
         alloc, world, queue, marks, day, caller, command, &mut undo, &mut left, steps,
     );
     match stepped {
-        Ok(reply) => Ok((
+        Ok((reply, placed)) => Ok(ToldStep {
             reply,
-            MachineUndo {
+            placed,
+            undo: MachineUndo {
                 world: undo,
                 queue: left,
             },
-        )),
+        }),
         Err(memory) => {
             world.undo(undo);
             queue.undo(left);
@@ -128,7 +136,7 @@ fn all_or_none<L: Ledger>(
     }
 }
 
-/// The day, what the command does, and settling. Where memory runs out, some of it is done.
+/// The day, what the command does, and settling, with whom it placed. Where memory runs out, some of it is done.
 fn settled<L: Ledger>(
     alloc: Global,
     world: &mut World,
@@ -140,12 +148,13 @@ fn settled<L: Ledger>(
     undo: &mut Undo,
     left: &mut QueueUndo,
     steps: &mut Steps<L>,
-) -> Result<Reply, Memory>
+) -> Result<(Reply, Items<Placed>), Memory>
     requires kept { KeptState (state_of world.old.world queue.old.queue) }
     requires others { OthersHaveNoMove world.old.world queue.old.queue.entries marks.old }
     requires undoable { Undoable world.old undo.old.backs }
     requires queue_undoable { QueueUndoable queue.old left.old }
-    ensures acted { IfOk result (λ reply. step_of (state_of world.old.world queue.old.queue) day caller command.now ≡ record { state = state_of world.new.world queue.new.queue; reply = reply }) }
+    ensures acted { IfOk result (λ told. step_of (state_of world.old.world queue.old.queue) day caller command.now ≡ record { state = state_of world.new.world queue.new.queue; reply = told.0 }) }
+    ensures placed { IfOk result (λ told. told.1 ≡ placements (state_of world.old.world queue.old.queue) day caller command.now) }
     ensures tracked { Tracked world.old undo.old.backs queue.old left.old world.new undo.new.backs queue.new left.new }
     ensures others { OnOk result (OthersHaveNoMove world.new.world queue.new.queue.entries marks.new) }
 {
@@ -158,7 +167,8 @@ fn settled<L: Ledger>(
     place_all(alloc, world, queue, marks, reply, undo, left, steps)
 }
 
-/// Places those who wait and can be placed, of which the reply to a wait tells. Where memory runs out, nobody is placed.
+/// Places those who wait and can be placed, of which the reply to a wait tells, and tells whom. Where memory runs out, nobody is
+/// placed.
 fn place_all<L: Ledger>(
     alloc: Global,
     world: &mut World,
@@ -168,17 +178,19 @@ fn place_all<L: Ledger>(
     undo: &mut Undo,
     left: &mut QueueUndo,
     steps: &mut Steps<L>,
-) -> Result<Reply, Memory>
+) -> Result<(Reply, Items<Placed>), Memory>
     requires fit { IsTrue (list_all (entry_fits world.old.world) queue.old.queue.entries) }
     requires others { OthersHaveNoMove world.old.world queue.old.queue.entries marks.old }
     requires undoable { Undoable world.old undo.old.backs }
     requires queue_undoable { QueueUndoable queue.old left.old }
-    ensures settled { IfOk result (λ told. settled_after (record { state = state_of world.old.world queue.old.queue; reply = reply }) ≡ record { state = state_of world.new.world queue.new.queue; reply = told }) }
+    ensures settled { IfOk result (λ told. settled_after (record { state = state_of world.old.world queue.old.queue; reply = reply }) ≡ record { state = state_of world.new.world queue.new.queue; reply = told.0 }) }
+    ensures placed { IfOk result (λ told. told.1 ≡ (settled_from (state_of world.old.world queue.old.queue)).placed) }
     ensures tracked { Tracked world.old undo.old.backs queue.old left.old world.new undo.new.backs queue.new left.new }
     ensures others { OnOk result (OthersHaveNoMove world.new.world queue.new.queue.entries marks.new) }
 {
     let placed = settle(alloc, world, queue, marks, undo, left, steps)?;
-    Ok(reply_after(reply, placed.as_slice()))
+    let told = reply_after(reply, placed.as_slice());
+    Ok((told, placed))
 }
 
 /// The refusal of a command, or what it does. Where memory runs out, some of it is done.

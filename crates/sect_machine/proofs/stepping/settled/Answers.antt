@@ -7,7 +7,7 @@ use Rattle.sect_machine.specs.Tracked.{Tracked}
 use Rattle.sect_model.specs.Kept.{KeptState}
 use Rattle.sect_model.proofs.StepLemmas.{day-state}
 use Rattle.sect_machine.proofs.OpeningLemmas.{day-others}
-use Rattle.sect_machine.proofs.StepLemmas.{answered-kept, stepped-is}
+use Rattle.sect_machine.proofs.StepLemmas.{answered-kept, placed-is, stepped-is}
 use Rattle.sect_machine.proofs.TrackLemmas.{tracks-world, tracks-both}
 use Rattle.sect_machine.proofs.stepping.settled.Goals as goal
 
@@ -46,6 +46,14 @@ returns-clause-acted g c =
     let v : State = state_of c.place_all.new.world.world c.place_all.new.queue.queue in
     let on : t ≡ on_day s c.args.day = ap (λ x. state_of x c.args.queue.now.queue) c.in_ok-set_day.ensures.ok in
     stepped-is s t u v c.args.day c.args.caller c.args.command.now c.in_ok-reply.reply c.place_all.result on c.in_ok-reply.ensures.acted c.place_all.ensures.settled
+
+pub returns-clause-placed : goal.returns-clause-placed
+returns-clause-placed g c =
+    let s : State = state_of c.args.world.now.world c.args.queue.now.queue in
+    let t : State = state_of c.set_day.new.world.world c.args.queue.now.queue in
+    let u : State = state_of c.answer.new.world.world c.answer.new.queue.queue in
+    let on : t ≡ on_day s c.args.day = ap (λ x. state_of x c.args.queue.now.queue) c.in_ok-set_day.ensures.ok in
+    placed-is s t u c.args.day c.args.caller c.args.command.now c.in_ok-reply.reply c.place_all.result on c.in_ok-reply.ensures.acted c.place_all.ensures.placed
 
 pub returns-clause-tracked : goal.returns-clause-tracked
 returns-clause-tracked g c =

@@ -4,7 +4,7 @@ use Rattle.sect_model.specs.Kept.{KeptState}
 use Rattle.sect_wait.specs.Queued.{state_of}
 use Rattle.sect_machine.specs.Standing.{state_in}
 use Rattle.sect_machine.proofs.StepLemmas.{rests-after}
-use Rattle.sect_machine.proofs.machine.Machine.act.Goals as goal
+use Rattle.sect_machine.proofs.machine.Machine.step_told.Goals as goal
 
 pub invariant_of-self : goal.invariant_of-self
 invariant_of-self c =
