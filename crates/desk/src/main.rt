@@ -8,7 +8,9 @@ ghost use Rattle.sect_usage.specs.Grammar.{words_of};
 
 mod sending;
 
-use sect_app::{Needs, Status, WordFault, Words, desk, needs, number_of, print_status, read_words};
+use sect_app::{
+    Needs, Paths, Status, WordFault, Words, desk, needs, number_of, print_status, read_words,
+};
 use sect_clap::read_again;
 use sect_edge::{KeepFault, MemKeeper, OpenGate};
 use sect_journal::{Journal, JournalFault};
@@ -74,11 +76,11 @@ fn start<R: AllocGlobal + Threads + Wait + Sync>(
         return Err(End::Told(Status::Memory));
     }
     let Needs {
-        db,
-        journal,
+        paths,
         port,
         workers,
     } = needs;
+    let Paths { db, journal } = paths;
     match port {
         Some(port) => {
             let listener = listen(rt, port)?;

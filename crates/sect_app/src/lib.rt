@@ -10,6 +10,6 @@ mod top;
 pub use sect_script::{
     Handler, LineEnd, LineError, LineFault, LineReader, RunEnd, Status, run_lines, write_all,
 };
-pub use sect_usage::{Needs, WordFault, Words, needs, read_words};
+pub use sect_usage::{Needs, Paths, WordFault, Words, needs, read_words};
 pub use status::{number_of, print_status};
 pub use top::desk;

@@ -2,10 +2,10 @@
 
 ghost use Rattle.std.specs.Prelude.{◌≡◌, map};
 ghost use Rattle.std.specs.String.{string_bytes};
-ghost use Rattle.sect_usage.specs.Grammar.{is_help};
 ghost use Rattle.sect_clerk_words.specs.Grammar.{asked_alone, lone_of, words_of};
 
 use crate::verb::{Topic, Verb, read_verb};
+use sect_usage::helps;
 use sect_words::same_bytes;
 
 /// What the words ask for.
@@ -30,16 +30,6 @@ pub fn read_words(words: &[String]) -> Option<Words>
             None if others.is_empty() => read_lone(word.as_bytes()),
             _ => None,
         },
-    }
-}
-
-/// Whether the words are `--help` alone.
-fn helps(words: &[String]) -> bool
-    ensures { result ≡ is_help (map string_bytes words.now) }
-{
-    match words {
-        [word] => same_bytes(word.as_bytes(), b"--help"),
-        _ => false,
     }
 }
 

@@ -23,7 +23,7 @@ use Rattle.sect_usage.specs.Laws.{is_plain}
 use Rattle.sect_usage.specs.Spelling.{MayBeAsked, PlainWords, word_list}
 
 -- a plain word stands alone
-positional_word : (word : List ℕ) (words : List (List ℕ)) → is_plain word ≡ true → items_of (word ∷ words) ≡ positional word ∷ items_of words
+pub positional_word : (word : List ℕ) (words : List (List ℕ)) → is_plain word ≡ true → items_of (word ∷ words) ≡ positional word ∷ items_of words
 positional_word [] words plain = absurd (cc)
 positional_word (b ∷ bs) words plain = by (b == 45) refl
   where
@@ -41,7 +41,7 @@ value_word name (b ∷ bs) plain = by (b == 45) refl
     by false e = rw e refl
 
 -- a plain word doesn't ask for help
-no_help : (word : List ℕ) → is_plain word ≡ true → bytes_eq word (codes "--help") ≡ false
+pub no_help : (word : List ℕ) → is_plain word ≡ true → bytes_eq word (codes "--help") ≡ false
 no_help word plain = by (bytes_eq word (codes "--help")) refl
   where
     by : (test : Bool) → bytes_eq word (codes "--help") ≡ test → test ≡ false
@@ -55,7 +55,7 @@ more_plain : (ds more : List ℕ) → is_plain ds ≡ true → is_plain (ds ++ m
 more_plain [] more plain = absurd (cc)
 more_plain (b ∷ bs) more plain = plain
 
-number_plain : (n : ℕ) → n < 2 ^ 64 → is_plain (decimal n) ≡ true
+pub number_plain : (n : ℕ) → n < 2 ^ 64 → is_plain (decimal n) ≡ true
 number_plain = decimal_by_steps (λ n ds. is_plain ds ≡ true) (λ n low. digit_plain n []) (λ n ds long plain. more_plain ds ((48 + n % 10) ∷ []) plain)
 
 date_plain : (year month date : ℕ) → is_plain (date_text year month date) ≡ true
@@ -69,7 +69,7 @@ day_plain day fits =
 read_number : (most n : ℕ) → most < 2 ^ 64 → n ≤ most → number_of most (decimal n) ≡ Some n
 read_number most n small fits = (exact_upto most small).again n fits
 
-read_id : (n : ℕ) → n < 2 ^ 32 → number_of 4294967295 (decimal n) ≡ Some n
+pub read_id : (n : ℕ) → n < 2 ^ 32 → number_of 4294967295 (decimal n) ≡ Some n
 read_id n fits = read_number 4294967295 n (omega arith) (omega (arith, fits))
 
 -- a table's rows are asked for

@@ -7,12 +7,15 @@ pub mod laws;
 mod needed;
 mod needing;
 mod number;
+mod options;
 mod verb;
 mod words;
 
 pub use help::{help_of, version};
 pub use items::{next_positional, value as option_value};
-pub use needed::{Needs, WordFault};
-pub use needing::needs;
+pub use needed::{Needs, Paths, WordFault};
+pub use needing::{needs, paths};
+pub use number::id;
+pub use options::{Options, alone, helps, is_keeper, only, takes_words};
 pub use verb::{Topic, Verb};
 pub use words::{Words, read_words};

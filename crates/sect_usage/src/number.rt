@@ -18,8 +18,8 @@ pub(crate) fn number(word: &[u8], most: u64) -> Option<u64>
     }
 }
 
-/// The number of 32 bits.
-pub(crate) fn id(word: &[u8]) -> Option<u32>
+/// The number of 32 bits that is written in digits. None exactly where the word is none.
+pub fn id(word: &[u8]) -> Option<u32>
     ensures { result ≡ number_of 4294967295 word.now }
 {
     Some(number(word, 4_294_967_295)? as u32)

@@ -1,8 +1,9 @@
 // The commands and their options.
 
 ghost use Rattle.std.specs.Prelude.{◌≡◌};
-ghost use Rattle.sect_usage.specs.Grammar.{is_keeper as is_keeper_name, is_of_serve as is_serve_name, takes as takes_name, verb_of};
+ghost use Rattle.sect_usage.specs.Grammar.{is_of_serve as is_serve_name, takes as takes_name, verb_of};
 
+use crate::options::{Options, is_keeper};
 use sect_words::same_bytes;
 
 /// A command.
@@ -55,9 +56,17 @@ pub(crate) fn read_verb(word: &[u8]) -> Option<Verb>
     }
 }
 
+impl Options for Verb {
+    ghost known = { takes_name };
+
+    fn has(&self, name: &[u8]) -> bool {
+        takes(*self, name)
+    }
+}
+
 /// Whether the command has the option.
 #[tactic(auto, unfolding(crate::specs::Grammar::takes))]
-pub(crate) fn takes(verb: Verb, name: &[u8]) -> bool
+fn takes(verb: Verb, name: &[u8]) -> bool
     ensures { result ≡ takes_name verb name.now }
 {
     match verb {
@@ -71,13 +80,6 @@ pub(crate) fn takes(verb: Verb, name: &[u8]) -> bool
         Verb::Plan => is_keeper(name) || same_bytes(name, b"budget"),
         Verb::Survey => is_keeper(name),
     }
-}
-
-/// Whether the option names a keeper.
-fn is_keeper(name: &[u8]) -> bool
-    ensures { result ≡ is_keeper_name name.now }
-{
-    same_bytes(name, b"db") || same_bytes(name, b"journal")
 }
 
 /// Whether the option is one of `serve` alone.

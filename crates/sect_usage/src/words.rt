@@ -3,11 +3,12 @@
 ghost use Rattle.std.specs.Prelude.{◌≡◌, Some, map, option_map};
 ghost use Rattle.std.specs.String.{string_bytes};
 ghost use Rattle.sect_usage.specs.Items.{items_of, positionals, value_of};
-ghost use Rattle.sect_usage.specs.Grammar.{allows, asked_by, asked_for, import_of, is_given, is_help, lone_of, make_of, one_keeper, plan_of, query_by, query_of, serve_of, table_of, takes as takes_name, term_of, the_one, where_none, words_of};
+ghost use Rattle.sect_usage.specs.Grammar.{asked_by, asked_for, import_of, lone_of, make_of, plan_of, query_by, query_of, serve_of, table_of, term_of, where_none, words_of};
 
-use crate::items::{Item, next_item, next_positional, value};
+use crate::items::{next_positional, value};
 use crate::number::{between, day, id, number, usual};
-use crate::verb::{Topic, Verb, read_verb, takes};
+use crate::options::{alone, helps, only, takes_words};
+use crate::verb::{Topic, Verb, read_verb};
 use sect_base::{Budget, OfferingId, SectionId, StudentId};
 use sect_command::{Query, Table};
 use sect_time::Day;
@@ -62,16 +63,6 @@ pub fn read_words(words: &[String]) -> Option<Words>
     }
 }
 
-/// Whether the words are `--help` alone.
-fn helps(words: &[String]) -> bool
-    ensures { result ≡ is_help (map string_bytes words.now) }
-{
-    match words {
-        [word] => same_bytes(word.as_bytes(), b"--help"),
-        _ => false,
-    }
-}
-
 /// What a word in place of a command asks for.
 #[tactic(auto, unfolding(crate::specs::Grammar::lone_of))]
 fn read_lone(word: &[u8]) -> Option<Words>
@@ -91,48 +82,11 @@ fn read_lone(word: &[u8]) -> Option<Words>
 fn asked(verb: Verb, words: &[String]) -> Option<Words>
     ensures { result ≡ asked_by verb (items_of (map string_bytes words.now)) }
 {
-    if allowed(verb, words) && one_keeper_named(words) {
+    if takes_words(&verb, words) {
         asked_of(verb, words)
     } else {
         None
     }
-}
-
-/// Whether each word is an item, and each option is one of the command that stands once.
-fn allowed(verb: Verb, words: &[String]) -> bool
-    ensures { result ≡ allows (takes_name verb) (items_of (map string_bytes words.now)) }
-{
-    let mut rest = words;
-    while let Some((item, behind)) = next_item(rest) {
-        match item {
-            Item::Bad => return false,
-            Item::Positional(_) => {}
-            Item::Setting(name, _) => {
-                if !takes(verb, name) || given(name, behind) {
-                    return false;
-                }
-            }
-        }
-        rest = behind;
-    }
-    true
-}
-
-/// Whether there is an option of this name.
-fn given(name: &[u8], words: &[String]) -> bool
-    ensures { result ≡ is_given (value_of name.now (items_of (map string_bytes words.now))) }
-{
-    match value(name, words) {
-        Some(_) => true,
-        None => false,
-    }
-}
-
-/// Whether not both keepers are named.
-fn one_keeper_named(words: &[String]) -> bool
-    ensures { result ≡ one_keeper (items_of (map string_bytes words.now)) }
-{
-    !(given(b"db", words) && given(b"journal", words))
 }
 
 /// What a command asks for by words that it allows.
@@ -150,27 +104,6 @@ fn asked_of(verb: Verb, words: &[String]) -> Option<Words>
         Verb::Export => read_export(words),
         Verb::Plan => read_plan(words),
         Verb::Survey => alone(Words::Survey, words),
-    }
-}
-
-/// What is asked for, where no word stands alone.
-fn alone(asked: Words, words: &[String]) -> Option<Words>
-    ensures { result ≡ where_none (Some asked) (positionals (items_of (map string_bytes words.now))) }
-{
-    match next_positional(words) {
-        Some(_) => None,
-        None => Some(asked),
-    }
-}
-
-/// The only word that stands alone.
-fn only(words: &[String]) -> Option<&[u8]>
-    ensures { option_map (λ w. w.now) result ≡ the_one (positionals (items_of (map string_bytes words.now))) }
-{
-    let (word, behind) = next_positional(words)?;
-    match next_positional(behind) {
-        Some(_) => None,
-        None => Some(word),
     }
 }
 
@@ -209,9 +142,9 @@ fn read_query(kind: &[u8], words: &[String]) -> Option<Query>
     ensures { result ≡ query_by kind.now (positionals (items_of (map string_bytes words.now))) }
 {
     if same_bytes(kind, b"waiting") {
-        lone_query(Query::Waiting, words)
+        alone(Query::Waiting, words)
     } else if same_bytes(kind, b"unmet") {
-        lone_query(Query::Unmet, words)
+        alone(Query::Unmet, words)
     } else if same_bytes(kind, b"roll") {
         let id = id(only(words)?)?;
         Some(Query::Roll(SectionId(id)))
@@ -223,16 +156,6 @@ fn read_query(kind: &[u8], words: &[String]) -> Option<Query>
         Some(Query::Schedule(StudentId(id)))
     } else {
         None
-    }
-}
-
-/// A query, where no word stands alone.
-fn lone_query(query: Query, words: &[String]) -> Option<Query>
-    ensures { result ≡ where_none (Some query) (positionals (items_of (map string_bytes words.now))) }
-{
-    match next_positional(words) {
-        Some(_) => None,
-        None => Some(query),
     }
 }
 

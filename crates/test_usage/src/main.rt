@@ -46,7 +46,7 @@ fn told(alloc: Global, line: &str) -> Result<String, AllocError> {
 fn asked_for(alloc: Global, words: &[String]) -> Result<String, AllocError> {
     let asked = read_words(words);
     match needs(alloc, words) {
-        Ok(needs) => match (needs.db, needs.journal) {
+        Ok(needs) => match (needs.paths.db, needs.paths.journal) {
             (Some(path), _) => format!(in alloc; "{asked:?} db {path}"),
             (None, Some(path)) => format!(in alloc; "{asked:?} journal {path}"),
             (None, None) => format!(in alloc; "{asked:?}"),
