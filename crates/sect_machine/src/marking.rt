@@ -5,13 +5,12 @@ ghost use Rattle.sect_model.specs.declared.held.Waiting.{Waiting as Entry};
 ghost use Rattle.sect_wait.specs.Marked.{MarksMore};
 ghost use Rattle.sect_machine.specs.Opening.{enrolled_opens, is_joined as is_new, last_offering as offering_last_changed, opened, opens, reserved_in as reserved_offering, restricted_in as restricted_offering};
 
-use crate::opened::{mark_batched, mark_swapped};
+use crate::opened::{mark_batched, mark_choice, mark_swapped};
 use sect_base::{Memory, ReservationId, RestrictionId, StudentId};
 use sect_catalog::OfferingRow;
 use sect_command::{Command, Reply};
-use sect_model::Enrolment;
 use sect_space::{Undo, World};
-use sect_wait::{Marks, Queue, mark, mark_enrolment, mark_leaving, mark_ticket};
+use sect_wait::{Marks, Queue, mark, mark_leaving, mark_ticket};
 
 /// Marks the entries that a command may give a move whose change is known before it acts. Where memory runs out, some of
 /// them are marked.
@@ -96,11 +95,7 @@ fn mark_enrolled(
     ensures { OnOk result (MarksMore (enrolled_opens world.now.world student reply.now) queue.now.queue.entries marks.old marks.new) }
 {
     if let Reply::Enrolled(choice) = reply {
-        let enrolment = Enrolment {
-            student,
-            choice: *choice,
-        };
-        return mark_enrolment(world, queue, &enrolment, marks);
+        return mark_choice(world, queue, student, choice, marks);
     }
     Ok(())
 }

@@ -1,6 +1,8 @@
 // Which entries a made swap and a made batch mark: those that one of their changes may give a move.
 
 ghost use Rattle.std.specs.Prelude.{◌||◌, OnOk};
+ghost use Rattle.sect_model.specs.Freer.{may_open};
+ghost use Rattle.sect_model.specs.declared.change.Change.TheVariants.{Enrol};
 ghost use Rattle.sect_wait.specs.Marked.{MarksMore};
 ghost use Rattle.sect_machine.specs.Opening.{batch_opens, leaving_opens, lines_open, result_opens, swap_opens, taking_opens};
 
@@ -70,13 +72,26 @@ fn mark_taken(
     ensures { OnOk result (MarksMore (taking_opens world.now.world student choices.now) queue.now.queue.entries marks.old marks.new) }
 {
     for choice in choices {
-        let enrolment = Enrolment {
-            student,
-            choice: *choice,
-        };
-        mark_enrolment(world, queue, &enrolment, marks)?;
+        mark_choice(world, queue, student, choice, marks)?;
     }
     Ok(())
+}
+
+/// Marks what the student's enrolment by the choice may have opened. Where memory runs out, some of it is marked.
+pub fn mark_choice(
+    world: &World,
+    queue: &Queue,
+    student: StudentId,
+    choice: &Choice,
+    marks: &mut Marks,
+) -> Result<(), Memory>
+    ensures { OnOk result (MarksMore (λ e. may_open world.now.world e (Enrol (record { student = student; choice = choice.now }))) queue.now.queue.entries marks.old marks.new) }
+{
+    let enrolment = Enrolment {
+        student,
+        choice: *choice,
+    };
+    mark_enrolment(world, queue, &enrolment, marks)
 }
 
 /// Marks what the lines of a batch may have opened. Where memory runs out, some of it is marked.
@@ -109,13 +124,7 @@ fn mark_line(world: &World, queue: &Queue, line: &Line, marks: &mut Marks) -> Re
     ensures { OnOk result (MarksMore (result_opens world.now.world line.now.student line.now.result) queue.now.queue.entries marks.old marks.new) }
 {
     match &line.result {
-        LineResult::Met(choice) => {
-            let enrolment = Enrolment {
-                student: line.student,
-                choice: *choice,
-            };
-            mark_enrolment(world, queue, &enrolment, marks)
-        }
+        LineResult::Met(choice) => mark_choice(world, queue, line.student, choice, marks),
         LineResult::Waiting(ticket) => mark_ticket(*ticket, marks),
         _ => Ok(()),
     }

@@ -11,4 +11,4 @@ pub returns-in-Waiting : goal.returns-in-Waiting
 returns-in-Waiting c =
     on-ok c.mark_ticket.result (λ told entries.
     subst (λ (x : Reply). MarksMore (is_joined x) entries c.args.marks.now c.mark_ticket.new.marks) (sym c.in-Waiting.is)
-    (ticket-marks c.in-Waiting.ticket.now entries c.args.marks.now c.mark_ticket.new.marks told)) c.mark_ticket.ensures.told
+    (ticket-marks c.in-Waiting.ticket entries c.args.marks.now c.mark_ticket.new.marks told)) c.mark_ticket.ensures.told

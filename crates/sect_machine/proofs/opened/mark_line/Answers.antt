@@ -14,4 +14,4 @@ returns-in-Waiting c =
     let n = c.mark_ticket.new.marks in
     let r = c.mark_ticket.result in
     subst (λ (x : LineResult). OnOk r (MarksMore (result_opens c.args.world.now.world c.args.line.now.student x) es m n)) (sym c.in-Waiting.is)
-    (on-ok r (ticket-marks c.in-Waiting.ticket.now es m n) c.mark_ticket.ensures.told)
+    (on-ok r (ticket-marks c.in-Waiting.ticket es m n) c.mark_ticket.ensures.told)
