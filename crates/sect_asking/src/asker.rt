@@ -104,8 +104,8 @@ impl<O: TextObject, K: Keeper, C: Clock> Handler for Asker<O, K, C> {
     }
 }
 
-/// The request of a line that isn't passed over.
-fn read_request(alloc: Global, line: &[u8]) -> Result<LineAsk, LineFault>
+/// The request of a line that isn't passed over. `Bad` comes exactly where it is none.
+pub fn read_request(alloc: Global, line: &[u8]) -> Result<LineAsk, LineFault>
     requires { is_passed_over line.now ≡ false }
     ensures found { IfOk result (λ ask. IsLine line.now ask) }
     ensures bad { IsErrOf result faults.Bad → IsKnown line.now → ⊥ }
@@ -120,7 +120,7 @@ fn read_request(alloc: Global, line: &[u8]) -> Result<LineAsk, LineFault>
 }
 
 /// The day that a line names, or else the clock's next.
-fn asked_on<C: Clock>(named: Option<Day>, clock: &mut C) -> Day
+pub fn asked_on<C: Clock>(named: Option<Day>, clock: &mut C) -> Day
     ensures on { IsAskedOn named (C.days clock.old) (C.days clock.new) result }
     ensures text { FitsDay result }
 {
@@ -131,7 +131,7 @@ fn asked_on<C: Clock>(named: Option<Day>, clock: &mut C) -> Day
 }
 
 /// Whether a line is empty, or begins with `#`.
-fn is_passed_over(line: &[u8]) -> bool
+pub fn is_passed_over(line: &[u8]) -> bool
     ensures { result ≡ is_passed_over line.now }
 {
     match line {

@@ -6,5 +6,5 @@ mod asker;
 mod runs;
 
 pub use answer::print_answer;
-pub use asker::Asker;
+pub use asker::{Asker, asked_on, is_passed_over, read_request};
 pub use runs::{run, shut_status};
