@@ -58,7 +58,8 @@ where
 
 /// The status with which serving ends.
 fn serve_status(end: ServeEnd) -> Status
-    ensures { result ≡ status_of_end end }
+    ensures status { result ≡ status_of_end end }
+    ensures others { (result ≢ Status.BadWords) × (result ≢ Status.ReadFault) × (result ≢ Status.WriteFault) }
 {
     match end {
         ServeEnd::Done => Status::Done,
