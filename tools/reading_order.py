@@ -195,7 +195,7 @@ CHAPTERS = [
      ['sect_rows/specs/' + n + '.antt' for n in ('States', 'Laws')]),
     ('The machine',
      'What contracts see of a machine, what a step records, what a command that is not done leaves, and which entries a command may give a move.',
-     ['sect_machine/specs/' + n + '.antt' for n in ('Standing', 'Tracked', 'Acting', 'Answering', 'Placed', 'NotDone', 'Opening')]
+     ['sect_machine/specs/' + n + '.antt' for n in ('Standing', 'Tracked', 'Acting', 'Answering', 'Placed', 'Settling', 'NotDone', 'Opening')]
      + ['sect_view/specs/' + n + '.antt' for n in ('Found', 'Unmet')]),
     ('The words of the command line',
      'Words cut into options and words that stand alone, what they ask for, and the laws of it.',
@@ -210,6 +210,9 @@ CHAPTERS = [
      + ['sect_return/specs/' + n + '.antt' for n in ('Asked', 'Back', 'Checked', 'States', 'Again')]
      + ['sect_intake/specs/' + n + '.antt' for n in ('Numbers', 'Asking', 'Table', 'Opened', 'Machine')]
      + ['sect_making/specs/' + n + '.antt' for n in ('Generated', 'Made', 'Stages')]),
+    ('A history as lines',
+     'What names a student or a section, the log of a history, and what a run over the whole log does.',
+     ['sect_log/specs/' + n + '.antt' for n in ('Naming', 'Log', 'Laws')]),
     ('Requests and answers over HTTP',
      'What a head says of its body and its connection, what a path asks for, the commands of bodies, and the texts of '
      'answers.',
