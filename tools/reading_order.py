@@ -210,6 +210,9 @@ CHAPTERS = [
      + ['sect_return/specs/' + n + '.antt' for n in ('Asked', 'Back', 'Checked', 'States', 'Again')]
      + ['sect_intake/specs/' + n + '.antt' for n in ('Numbers', 'Asking', 'Table', 'Opened', 'Machine')]
      + ['sect_making/specs/' + n + '.antt' for n in ('Generated', 'Made', 'Stages')]),
+    ('Lines that are tried',
+     'What a desk would answer a line now, and what it is that lines were tried.',
+     ['sect_try/specs/' + n + '.antt' for n in ('Answered', 'Tried')]),
     ('A history as lines',
      'What names a student or a section, the log of a history, and what a run over the whole log does.',
      ['sect_log/specs/' + n + '.antt' for n in ('Naming', 'Log', 'Laws')]),
