@@ -1,55 +1,56 @@
 //! The program: it makes the real objects, calls the clerk, prints the status and ends with its number.
 #![tactic(auto)]
 
-use sect_app::{number_of, print_status};
 use sect_clerk::clerk;
+use sect_clerk_words::needs;
+use sect_main::{End, finish, keeper_of, words_of};
+use sect_real::{AnyKeeper, RealClock, StdSink, StdSource};
 use sect_script::Status;
-use sect_system::{StdSink, StdSource};
-use std::io::Write;
+use sect_usage::WordFault;
+use std::alloc::AllocGlobal;
 use std::process::ExitCode;
-use std::{env, io};
+use std::thread::Threads;
+
+/// What is told where the words aren't in the grammar.
+const USAGE: &str = "usage: clerk check|demand|timetable\n";
 
 fn main(rt: HostRuntime) -> ExitCode {
-    let status = match words_of(rt) {
-        Ok(words) => run(rt, &words),
-        Err(status) => status,
+    let end = match start(rt, &rt) {
+        Ok(status) => End::Told(status),
+        Err(end) => end,
     };
-    // The number tells the end also where its text can't be printed.
-    let _ = print_end(rt, status);
-    ExitCode::from(number_of(status))
+    finish(rt, end, Some(USAGE))
 }
 
-/// Prints the text of the status.
-fn print_end(rt: HostRuntime, status: Status) -> io::Result<()> {
-    if status == Status::BadWords {
-        return rt.stderr().write_all(b"usage: clerk check\n");
-    }
-    let mut text = Vec::new(rt.alloc());
-    match print_status(status, &mut text) {
-        Ok(()) => rt.stderr().write_all(&text),
-        Err(_) => Ok(()),
-    }
-}
-
-/// The words behind the program's name. One that is no text is a bad word.
-fn words_of(rt: HostRuntime) -> Result<Vec<String>, Status> {
-    let args = match env::args(&rt) {
-        Ok(args) => args,
-        Err(error) if error.kind() == io::ErrorKind::OutOfMemory => return Err(Status::Memory),
-        Err(_) => return Err(Status::BadWords),
+/// Reads the words, opens the keeper that they name and calls the clerk.
+fn start<R: AllocGlobal + Threads + Sync>(rt: HostRuntime, threads: &R) -> Result<Status, End> {
+    let words = words_of(rt).map_err(End::Told)?;
+    let paths = match needs(rt.alloc(), &words) {
+        Ok(paths) => paths,
+        Err(WordFault::BadWords) => return Err(End::Told(Status::BadWords)),
+        Err(WordFault::Memory) => return Err(End::Told(Status::Memory)),
     };
-    let mut words = Vec::new(rt.alloc());
-    for word in args.skip(1) {
-        if words.push(word).is_err() {
-            return Err(Status::Memory);
-        }
-    }
-    Ok(words)
+    let keeper = keeper_of(rt, paths)?;
+    Ok(run(rt, threads, &words, keeper))
 }
 
-/// Calls the clerk over the process's own input and output.
-fn run(rt: HostRuntime, words: &[String]) -> Status {
+/// Calls the clerk over the process's own input and output, and closes the keeper. Where that fails, no row is lost.
+fn run<R: AllocGlobal + Threads + Sync>(
+    rt: HostRuntime,
+    threads: &R,
+    words: &[String],
+    keeper: AnyKeeper,
+) -> Status {
     let mut source = StdSource::new(rt.stdin());
     let mut sink = StdSink::new(rt.stdout());
-    clerk(rt.alloc(), words, &mut source, &mut sink)
+    let (status, keeper) = clerk(
+        threads,
+        words,
+        &mut source,
+        &mut sink,
+        keeper,
+        RealClock::new(rt),
+    );
+    let _ = keeper.close();
+    status
 }

@@ -14,8 +14,8 @@ ghost use Rattle.sect_clerk.specs.Checked.{
   first_after as refused_after,
   said_of,
 };
-ghost use Rattle.sect_asking.specs.Asks.{is_passed_over as is_over};
 
+use sect_asking::is_passed_over;
 use sect_base::Memory;
 use sect_check::print_complaint;
 use sect_edge::{Sink, Source};
@@ -45,16 +45,6 @@ impl Handler for Checker {
         self.lines = number;
         self.first = first_after(self.first, number, into);
         Ok(())
-    }
-}
-
-/// Whether a line is empty, or begins with `#`.
-fn is_passed_over(line: &[u8]) -> bool
-    ensures { result ≡ is_over line.now }
-{
-    match line {
-        [] => true,
-        [byte, ..] => *byte == b'#',
     }
 }
 

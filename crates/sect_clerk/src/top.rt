@@ -4,64 +4,54 @@ ghost use Rattle.std.specs.Prelude.{◌≡◌, ◌≢◌, ◌↔◌, ℕ, true, 
 ghost use Rattle.std.specs.String.{string_bytes};
 ghost use Rattle.std.specs.Io.KnownBytes.{IsAtEnd};
 ghost use Rattle.sect_edge.specs.Causes.{Rose};
+ghost use Rattle.sect_edge.specs.Keeper.{KeepsRows};
 ghost use Rattle.sect_script.specs.declared.status.Status.{Status};
-ghost use Rattle.sect_script.specs.Statuses.{Says};
 ghost use Rattle.sect_clerk_words.specs.declared.words.Words.{Words};
 ghost use Rattle.sect_clerk_words.specs.Grammar.{words_of};
-ghost use Rattle.sect_clerk.specs.Clerk.{ClerkDoes, reads as reads_source, reads_for};
+ghost use Rattle.sect_clerk.specs.Clerk.{ClerkDoes, reads_for};
 
-use crate::checker::check;
-use sect_clerk_words::{Words, help_of, read_words, version};
-use sect_edge::{Failed, Sink, Source};
-use sect_script::{Status, write_all};
-use std::alloc::Global;
+use crate::over::do_asked;
+use sect_clerk_words::read_words;
+use sect_edge::{Clock, Keeper, Sink, Source};
+use sect_script::Status;
+use std::alloc::AllocGlobal;
+use std::thread::Threads;
 
-/// Does what the words ask for, and tells how it ended. The words are the command line without the program's name.
-pub fn clerk<S: Source, T: Sink>(
-    alloc: Global,
+/// Does what the words ask for, and tells how it ended. The words are the command line without the program's name. The
+/// keeper comes back, with the rows that it had.
+#[tactic(auto, using(crate::proofs::Kept::keeps_same))]
+pub fn clerk<R: AllocGlobal + Threads + Sync, S: Source, T: Sink, K: Keeper, C: Clock + Drop>(
+    rt: &R,
     words: &[String],
     source: &mut S,
     sink: &mut T,
-) -> Status
-    ensures bad_words { (result ≡ Status.BadWords) ↔ (words_of (map string_bytes words.now) ≡ None) }
-    ensures untouched { result ≡ Status.BadWords → (source.new ≡ source.old) × (sink.new ≡ sink.old) }
+    keeper: K,
+    clock: C,
+) -> (Status, K)
+    // The words.
+    ensures bad_words { (result.0 ≡ Status.BadWords) ↔ (words_of (map string_bytes words.now) ≡ None) }
+    ensures untouched { result.0 ≡ Status.BadWords → (source.new ≡ source.old) × (sink.new ≡ sink.old) × (result.1 ≡ keeper) }
     ensures does { (asked : Words) → words_of (map string_bytes words.now) ≡ Some asked
-        → ClerkDoes asked (S.left source.old) (S.left source.new) (T.taken sink.old) (T.taken sink.new) result }
+        → ClerkDoes K.rows K.faults asked keeper result.1
+        (S.left source.old) (S.left source.new) (T.taken sink.old) (T.taken sink.new) (C.days clock) result.0 }
     ensures unread { reads_for (words_of (map string_bytes words.now)) ≡ false → source.new ≡ source.old }
-    ensures end { reads_for (words_of (map string_bytes words.now)) ≡ true → result ≡ Status.Done → IsAtEnd (S.left source.new) }
-    ensures read_fault { result ≡ Status.ReadFault → Rose (S.faults source.old) (S.faults source.new) }
-    ensures write_fault { result ≡ Status.WriteFault → Rose (T.faults sink.old) (T.faults sink.new) }
-    ensures others { (result ≢ Status.LinkFault) × (result ≢ Status.KeeperFault) }
+    ensures end { reads_for (words_of (map string_bytes words.now)) ≡ true → result.0 ≡ Status.Done → IsAtEnd (S.left source.new) }
+
+    // Whatever the command and the end, the keeper has the rows that it had.
+    ensures rows_stay { KeepsRows (K.rows keeper) (K.rows result.1) }
+
+    // Where the keeper doesn't open, nothing is read or written.
+    ensures shut { result.0 ≡ Status.KeeperFault → (source.new ≡ source.old) × (sink.new ≡ sink.old) }
+    ensures bad_entry { (row : ℕ) → result.0 ≡ Status.BadEntry row → (source.new ≡ source.old) × (sink.new ≡ sink.old) }
+
+    // A fault is told only where that very object counted one in this call.
+    ensures read_fault { result.0 ≡ Status.ReadFault → Rose (S.faults source.old) (S.faults source.new) }
+    ensures write_fault { result.0 ≡ Status.WriteFault → Rose (T.faults sink.old) (T.faults sink.new) }
+    ensures keeper_fault { result.0 ≡ Status.KeeperFault → Rose (K.faults keeper) (K.faults result.1) }
+    ensures others { result.0 ≢ Status.LinkFault }
 {
     match read_words(words) {
-        None => Status::BadWords,
-        Some(asked) => do_asked(alloc, asked, source, sink),
-    }
-}
-
-/// Does what is asked for.
-fn do_asked<S: Source, T: Sink>(alloc: Global, asked: Words, source: &mut S, sink: &mut T) -> Status
-    ensures does { ClerkDoes asked (S.left source.old) (S.left source.new) (T.taken sink.old) (T.taken sink.new) result }
-    ensures unread { reads_source asked ≡ false → source.new ≡ source.old }
-    ensures end { reads_source asked ≡ true → result ≡ Status.Done → IsAtEnd (S.left source.new) }
-    ensures read_fault { result ≡ Status.ReadFault → Rose (S.faults source.old) (S.faults source.new) }
-    ensures write_fault { result ≡ Status.WriteFault → Rose (T.faults sink.old) (T.faults sink.new) }
-    ensures others { (result ≢ Status.BadWords) × (result ≢ Status.LinkFault) × (result ≢ Status.KeeperFault) }
-{
-    match asked {
-        Words::Check => check(alloc, source, sink),
-        Words::Help(topic) => say(help_of(topic), sink),
-        Words::Version => say(version(), sink),
-    }
-}
-
-/// Writes a text.
-fn say<T: Sink>(text: &[u8], sink: &mut T) -> Status
-    ensures says { Says text.now (T.taken sink.old) (T.taken sink.new) result }
-    ensures write_fault { result ≡ Status.WriteFault → Rose (T.faults sink.old) (T.faults sink.new) }
-{
-    match write_all(sink, text) {
-        Ok(()) => Status::Done,
-        Err(Failed) => Status::WriteFault,
+        None => (Status::BadWords, keeper),
+        Some(asked) => do_asked(rt, rt.alloc(), asked, source, sink, keeper, clock),
     }
 }

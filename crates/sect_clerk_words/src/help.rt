@@ -8,10 +8,15 @@ use crate::verb::{Topic, Verb};
 const CLERK_HELP: &[u8] = b"clerk: helps those who work at the desk, and changes nothing.\n\
 \n\
 Commands:\n\
-\x20 clerk check           reads requests from standard input, one a line, and names each line that desk run would refuse\n\
-\x20 clerk COMMAND --help  says more of a command\n\
-\x20 clerk --help          prints this text\n\
-\x20 clerk --version       prints the version\n";
+\x20 clerk check              reads requests from standard input, one a line, and names each line that desk run would refuse\n\
+\x20 clerk demand             prints how many ask for each course, hold it and wait for it, and its limit\n\
+\x20 clerk timetable STUDENT  prints the week of a student, day by day in order of time\n\
+\x20 clerk COMMAND --help     says more of a command, with its options\n\
+\x20 clerk --help             prints this text\n\
+\x20 clerk --version          prints the version\n\
+\n\
+Each command but check takes --db FILE or --journal FILE, where the history is kept. Without one it is empty.\n\
+Nothing is ever added to it.\n";
 
 const CHECK_HELP: &[u8] =
     b"clerk check: reads requests from standard input, one a line, as desk run does, asks nothing, and names each line that\n\
@@ -21,7 +26,34 @@ desk run would refuse, with the first word that doesn't fit and the form that is
 \n\
 A remark tells of two spaces, a byte order mark, a tab and a carriage return. Lines are counted from 1, the empty ones\n\
 and those that begin with # among them, and words of a line from 1. Nothing is printed where desk run would read all.\n\
-It ends as desk run would: with 0 where every line is read, else with 3, and the number of the first that isn't.\n";
+It ends as desk run would: with 0 where every line is read, else with 3, and the number of the first that isn't.\n\
+\n\
+Options: none.\n";
+
+const DEMAND_HELP: &[u8] =
+    b"clerk demand [--db FILE | --journal FILE]: prints a line for each course, in order of id:\n\
+\n\
+\x20 course ID asked N held N waiting N limit L\n\
+So many students ask for it by one of their requests, so many hold it, and so many entries wait for it. The limit is -\n\
+where there is none. Where there is no course there is the line `none`.\n\
+\n\
+Options:\n\
+\x20 --db FILE       the history is in this database of SQLite (default: there is none)\n\
+\x20 --journal FILE  the history is in this journal (default: there is none)\n\
+Either file is made where there is none. Only one of the two may be given.\n";
+
+const TIMETABLE_HELP: &[u8] =
+    b"clerk timetable STUDENT [--db FILE | --journal FILE]: prints the week of a student: behind a line that names the student a\n\
+line for each time at which a section that is held meets, day by day in order of time:\n\
+\n\
+\x20 student 11\n\
+\x20 M/0900-0950/1-15 course 1 section 7\n\
+A student that isn't known is told by `student STUDENT unknown`.\n\
+\n\
+Options:\n\
+\x20 --db FILE       the history is in this database of SQLite (default: there is none)\n\
+\x20 --journal FILE  the history is in this journal (default: there is none)\n\
+Either file is made where there is none. Only one of the two may be given.\n";
 
 const VERSION: &[u8] = b"clerk 0.1.0\n";
 
@@ -32,6 +64,8 @@ pub fn help_of(topic: Topic) -> &'static [u8]
     match topic {
         Topic::Clerk => CLERK_HELP,
         Topic::Command(Verb::Check) => CHECK_HELP,
+        Topic::Command(Verb::Demand) => DEMAND_HELP,
+        Topic::Command(Verb::Timetable) => TIMETABLE_HELP,
     }
 }
 

@@ -3,9 +3,11 @@
 
 mod help;
 pub mod laws;
+mod needing;
 mod verb;
 mod words;
 
 pub use help::{help_of, version};
+pub use needing::needs;
 pub use verb::{Topic, Verb};
 pub use words::{Words, read_words};

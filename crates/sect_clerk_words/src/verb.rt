@@ -1,14 +1,17 @@
-// The commands.
+// The commands and their options.
 
 ghost use Rattle.std.specs.Prelude.{◌≡◌};
-ghost use Rattle.sect_clerk_words.specs.Grammar.{verb_of};
+ghost use Rattle.sect_clerk_words.specs.Grammar.{takes as takes_name, verb_of};
 
+use sect_usage::{Options, is_keeper};
 use sect_words::same_bytes;
 
 /// A command.
 #[derive(Clone, Copy, Debug, PartialEq, Eq)]
 pub enum Verb {
     Check,
+    Demand,
+    Timetable,
 }
 
 /// What a text of help is about.
@@ -26,7 +29,31 @@ pub(crate) fn read_verb(word: &[u8]) -> Option<Verb>
 {
     if same_bytes(word, b"check") {
         Some(Verb::Check)
+    } else if same_bytes(word, b"demand") {
+        Some(Verb::Demand)
+    } else if same_bytes(word, b"timetable") {
+        Some(Verb::Timetable)
     } else {
         None
+    }
+}
+
+impl Options for Verb {
+    ghost known = { takes_name };
+
+    fn has(&self, name: &[u8]) -> bool {
+        takes(*self, name)
+    }
+}
+
+/// Whether the command has the option.
+#[tactic(auto, unfolding(crate::specs::Grammar::takes))]
+fn takes(verb: Verb, name: &[u8]) -> bool
+    ensures { result ≡ takes_name verb name.now }
+{
+    match verb {
+        Verb::Check => false,
+        Verb::Demand => is_keeper(name),
+        Verb::Timetable => is_keeper(name),
     }
 }

@@ -2,10 +2,12 @@
 
 ghost use Rattle.std.specs.Prelude.{◌≡◌, map};
 ghost use Rattle.std.specs.String.{string_bytes};
-ghost use Rattle.sect_clerk_words.specs.Grammar.{asked_alone, lone_of, words_of};
+ghost use Rattle.sect_usage.specs.Items.{items_of};
+ghost use Rattle.sect_clerk_words.specs.Grammar.{asked_by, asked_for, lone_of, timetable_of, words_of};
 
 use crate::verb::{Topic, Verb, read_verb};
-use sect_usage::helps;
+use sect_base::StudentId;
+use sect_usage::{alone, helps, id, only, takes_words};
 use sect_words::same_bytes;
 
 /// What the words ask for.
@@ -13,6 +15,10 @@ use sect_words::same_bytes;
 pub enum Words {
     /// The lines of standard input that a run would refuse are named.
     Check,
+    /// What is wanted of each course.
+    Demand,
+    /// The week of a student.
+    Timetable(StudentId),
     Help(Topic),
     Version,
 }
@@ -26,9 +32,9 @@ pub fn read_words(words: &[String]) -> Option<Words>
         [] => None,
         [word, others @ ..] => match read_verb(word.as_bytes()) {
             Some(verb) if helps(others) => Some(Words::Help(Topic::Command(verb))),
-            Some(verb) if others.is_empty() => Some(alone(verb)),
+            Some(verb) => asked(verb, others),
             None if others.is_empty() => read_lone(word.as_bytes()),
-            _ => None,
+            None => None,
         },
     }
 }
@@ -47,11 +53,33 @@ fn read_lone(word: &[u8]) -> Option<Words>
     }
 }
 
-/// What a command asks for by itself.
-fn alone(verb: Verb) -> Words
-    ensures { result ≡ asked_alone verb }
+/// What a command with these words behind it asks for.
+#[tactic(auto, unfolding(crate::specs::Grammar::asked_by))]
+fn asked(verb: Verb, words: &[String]) -> Option<Words>
+    ensures { result ≡ asked_by verb (items_of (map string_bytes words.now)) }
+{
+    if takes_words(&verb, words) {
+        asked_of(verb, words)
+    } else {
+        None
+    }
+}
+
+/// What a command asks for by words that it allows.
+#[tactic(auto, unfolding(crate::specs::Grammar::asked_for))]
+fn asked_of(verb: Verb, words: &[String]) -> Option<Words>
+    ensures { result ≡ asked_for verb (items_of (map string_bytes words.now)) }
 {
     match verb {
-        Verb::Check => Words::Check,
+        Verb::Check => alone(Words::Check, words),
+        Verb::Demand => alone(Words::Demand, words),
+        Verb::Timetable => read_timetable(words),
     }
+}
+
+fn read_timetable(words: &[String]) -> Option<Words>
+    ensures { result ≡ timetable_of (items_of (map string_bytes words.now)) }
+{
+    let student = id(only(words)?)?;
+    Some(Words::Timetable(StudentId(student)))
 }

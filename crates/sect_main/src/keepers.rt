@@ -1,0 +1,46 @@
+// The keeper that the words name.
+
+use crate::end::End;
+use sect_app::Status;
+use sect_edge::{KeepFault, MemKeeper};
+use sect_journal::{Journal, JournalFault};
+use sect_real::{AnyKeeper, FileDisk, SqliteKeeper};
+use sect_usage::Paths;
+use std::io;
+
+/// The keeper over the file that is named, or one without rows where none is.
+pub fn keeper_of(rt: HostRuntime, paths: Paths) -> Result<AnyKeeper, End> {
+    let Paths { db, journal } = paths;
+    if let Some(path) = db {
+        return open_database(rt, path.as_str());
+    }
+    if let Some(path) = journal {
+        return open_journal(rt, path.as_str());
+    }
+    let alloc = rt.alloc();
+    Ok(AnyKeeper::Memory(MemKeeper::new(Vec::new(alloc), Vec::new(alloc))))
+}
+
+fn open_database(rt: HostRuntime, path: &str) -> Result<AnyKeeper, End> {
+    match SqliteKeeper::open(&rt, path) {
+        Ok(keeper) => Ok(AnyKeeper::Sqlite(keeper)),
+        Err(KeepFault::Failed) => Err(End::Told(Status::KeeperFault)),
+        Err(KeepFault::Memory) => Err(End::Told(Status::Memory)),
+    }
+}
+
+fn open_journal(rt: HostRuntime, path: &str) -> Result<AnyKeeper, End> {
+    let disk = match FileDisk::open(&rt, path) {
+        Ok(disk) => disk,
+        Err(error) if error.kind() == io::ErrorKind::OutOfMemory => {
+            return Err(End::Told(Status::Memory));
+        }
+        Err(_) => return Err(End::Told(Status::KeeperFault)),
+    };
+    match Journal::start(rt.alloc(), disk) {
+        Ok(journal) => Ok(AnyKeeper::Journal(journal)),
+        Err((JournalFault::Failed, _)) => Err(End::Told(Status::KeeperFault)),
+        Err((JournalFault::BadJournal(place), _)) => Err(End::BadJournal(place)),
+        Err((JournalFault::Memory, _)) => Err(End::Told(Status::Memory)),
+    }
+}
