@@ -178,7 +178,9 @@ fn run<R: AllocGlobal + Threads + Wait + Sync>(
     clocks: u32,
 ) -> Status
     requires clocks { (0 < clocks) × (length links.items ≤ clocks) }
-    requires links { (length links.items ≤ 64) × ((port workers sessions : ℕ) → words_of (map string_bytes words.now) ≡ Some (Words.Serve port workers sessions) → 0 < length links.items) }
+    requires links { (length links.items ≤ 64)
+        × ((port workers sessions : ℕ) → words_of (map string_bytes words.now) ≡ Some (Words.Serve port workers sessions)
+        → 0 < length links.items) }
 {
     keeper_may_be_sent();
     let Some(clocks) = clocks_of(rt, clocks) else {

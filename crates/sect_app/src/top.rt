@@ -47,7 +47,9 @@ where
     L::In: Send,
     L::Out: Send,
     requires clocks { (0 < length clocks.items) × (length links.items ≤ length clocks.items) }
-    requires links { (length links.items ≤ 64) × ((port workers sessions : ℕ) → words_of (map string_bytes words.now) ≡ Some (Words.Serve port workers sessions) → 0 < length links.items) }
+    requires links { (length links.items ≤ 64)
+        × ((port workers sessions : ℕ) → words_of (map string_bytes words.now) ≡ Some (Words.Serve port workers sessions)
+        → 0 < length links.items) }
 
     // The words.
     ensures bad_words { (result.0 ≡ Status.BadWords) ↔ (words_of (map string_bytes words.now) ≡ None) }

@@ -78,7 +78,7 @@ impl<T: Same> Same for Items<T> {
     }
 }
 
-// Whether the lists have equal elements in one order.
+/// Whether the lists have equal elements in one order.
 fn all_same<T: Same>(left: &[T], right: &[T]) -> bool
     ensures { IsTrue result ↔ (left.now ≡ right.now) }
 {

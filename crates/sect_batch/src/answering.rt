@@ -5,7 +5,14 @@ ghost use Rattle.std.specs.Option.{is_some};
 ghost use Rattle.sect_people.specs.Student.{find_student};
 ghost use Rattle.sect_model.specs.World.{holds as is_held};
 ghost use Rattle.sect_model.specs.Premises.{want_fits};
-ghost use Rattle.sect_model.specs.Batch.{Batched, answer_to as answer_of_batch, search_for as search_result, result_of as result_of_outcome, request_move as move_of_request, want_of};
+ghost use Rattle.sect_model.specs.Batch.{
+  Batched,
+  answer_to as answer_of_batch,
+  search_for as search_result,
+  result_of as result_of_outcome,
+  request_move as move_of_request,
+  want_of,
+};
 ghost use Rattle.sect_batch.specs.Lines.{Tells, MetFits, answer_by, unmet_of, met_of};
 
 use crate::lines::{Answer, Lines};
@@ -31,7 +38,8 @@ pub fn answer_to<L: Ledger>(
 ) -> Result<Answer, Memory>
     requires known { IsTrue (is_some (find_student world.now.world.students student)) }
     requires fits { IsTrue (want_fits world.now.world (want_of ask.now 0)) }
-    ensures answer { IfOk result (λ answer. (b : Batched) → Tells world.now.world lines.now b → answer ≡ answer_by (answer_of_batch b student rank ask.now) ask.now) }
+    ensures answer { IfOk result (λ answer. (b : Batched) → Tells world.now.world lines.now b
+        → answer ≡ answer_by (answer_of_batch b student rank ask.now) ask.now) }
     ensures met { IfOk result (λ answer. MetFits world.now.world student answer.result) }
 {
     let result = line_result(alloc, world, student, rank, ask, lines, steps)?;

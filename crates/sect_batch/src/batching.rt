@@ -129,7 +129,8 @@ fn student_lines<L: Ledger>(
 ) -> Result<(), Memory>
     requires known { IsTrue (is_some (find_student world.old.world.students student)) }
     requires undoable { Undoable world.old undo.old.backs }
-    ensures told { OnOk result ((b : Batched) → Tells world.old.world lines.old b → Tells world.new.world lines.new (batch_asks b student (enumerate_from 1 (requests_of world.old.world student)))) }
+    ensures told { OnOk result ((b : Batched) → Tells world.old.world lines.old b
+        → Tells world.new.world lines.new (batch_asks b student (enumerate_from 1 (requests_of world.old.world student)))) }
     ensures students { world.new.world.students ≡ world.old.world.students }
     ensures since { Since world.old.world undo.old.backs world.new.world undo.new.backs }
     ensures undoable { Undoable world.new undo.new.backs }
@@ -154,7 +155,9 @@ fn ask_line<L: Ledger>(
     requires known { IsTrue (is_some (find_student world.old.world.students student)) }
     requires place { place < length (requests_of world.old.world student) }
     requires undoable { Undoable world.old undo.old.backs }
-    ensures told { OnOk result ((b : Batched) (ask : Request) → slice_get (requests_of world.old.world student) place ≡ Some ask → Tells world.old.world lines.old b → Tells world.new.world lines.new (batch_asks b student ((place + 1, ask) ∷ []))) }
+    ensures told { OnOk result ((b : Batched) (ask : Request)
+        → slice_get (requests_of world.old.world student) place ≡ Some ask → Tells world.old.world lines.old b
+        → Tells world.new.world lines.new (batch_asks b student ((place + 1, ask) ∷ []))) }
     ensures students { world.new.world.students ≡ world.old.world.students }
     ensures since { Since world.old.world undo.old.backs world.new.world undo.new.backs }
     ensures undoable { Undoable world.new undo.new.backs }
@@ -177,7 +180,9 @@ fn answer_at<L: Ledger>(
 ) -> Result<Option<Answer>, Memory>
     requires known { IsTrue (is_some (find_student world.now.world.students student)) }
     requires place { place < length (requests_of world.now.world student) }
-    ensures answer { IfOk result (λ answer. (b : Batched) (ask : Request) → slice_get (requests_of world.now.world student) place ≡ Some ask → Tells world.now.world lines.now b → answer ≡ answer_to_ask b student (place + 1) ask) }
+    ensures answer { IfOk result (λ answer. (b : Batched) (ask : Request)
+        → slice_get (requests_of world.now.world student) place ≡ Some ask → Tells world.now.world lines.now b
+        → answer ≡ answer_to_ask b student (place + 1) ask) }
     ensures met { IfOk result (λ answer. IfSome answer (λ a. MetFits world.now.world student a.result)) }
 {
     world.is_kept();
@@ -241,7 +246,8 @@ fn add(
 ) -> Result<(), Memory>
     requires met { MetFits world.old.world student answer.result }
     requires undoable { Undoable world.old undo.old.backs }
-    ensures told { OnOk result ((b : Batched) (ask : CourseAsk) (line : LineResult) → Tells world.old.world lines.old b → answer ≡ answer_by line ask → Tells world.new.world lines.new (add_line b student rank ask line)) }
+    ensures told { OnOk result ((b : Batched) (ask : CourseAsk) (line : LineResult) → Tells world.old.world lines.old b
+        → answer ≡ answer_by line ask → Tells world.new.world lines.new (add_line b student rank ask line)) }
     ensures students { world.new.world.students ≡ world.old.world.students }
     ensures since { Since world.old.world undo.old.backs world.new.world undo.new.backs }
     ensures undoable { Undoable world.new undo.new.backs }

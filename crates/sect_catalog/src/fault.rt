@@ -5,7 +5,12 @@ ghost use Rattle.std.specs.List.{list_any};
 ghost use Rattle.std.specs.Option.{option_map};
 ghost use Rattle.sect_catalog.specs.Catalogue.{sections_in};
 ghost use Rattle.sect_catalog.specs.Fault.{bad_parent_after, bad_parent as bad_parent_of};
-ghost use Rattle.sect_catalog.specs.Search.{lacks_parent as parent_lacks, missing_part as part_missing, bare_config as config_is_bare, bare_subpart as subpart_is_bare};
+ghost use Rattle.sect_catalog.specs.Search.{
+  lacks_parent as parent_lacks,
+  missing_part as part_missing,
+  bare_config as config_is_bare,
+  bare_subpart as subpart_is_bare,
+};
 
 use crate::row::{CatalogFault, ConfigRow, OfferingRow, SectionRow, SubpartRow};
 use sect_base::SectionId;

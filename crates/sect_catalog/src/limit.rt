@@ -1,7 +1,16 @@
 // Another limit at a place of the rows.
 
 ghost use Rattle.std.specs.Prelude.{◌≡◌};
-ghost use Rattle.sect_catalog.specs.Limits.{change_at, put_course as with_course, put_config as with_config, put_section as with_section, put_in_config as within_config, put_in_subpart as within_subpart, put_at as with_cap, cap_key as key_of};
+ghost use Rattle.sect_catalog.specs.Limits.{
+  change_at,
+  put_course as with_course,
+  put_config as with_config,
+  put_section as with_section,
+  put_in_config as within_config,
+  put_in_subpart as within_subpart,
+  put_at as with_cap,
+  cap_key as key_of,
+};
 
 use crate::place::{Key, Kind, Place, key};
 use crate::row::{ConfigRow, OfferingRow, SubpartRow};

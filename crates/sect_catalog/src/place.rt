@@ -1,7 +1,16 @@
 // Where each id of a row stands.
 
 ghost use Rattle.std.specs.Prelude.{◌≡◌, ◌++◌, OnOk};
-ghost use Rattle.sect_catalog.specs.Place.{kind_number, placed, section_entry, subpart_entries, config_entries, course_entry, at_row, row_entries as entries_of_row};
+ghost use Rattle.sect_catalog.specs.Place.{
+  kind_number,
+  placed,
+  section_entry,
+  subpart_entries,
+  config_entries,
+  course_entry,
+  at_row,
+  row_entries as entries_of_row,
+};
 
 use crate::row::{ConfigRow, CourseRow, OfferingRow, SectionRow, SubpartRow};
 use sect_base::Memory;

@@ -63,7 +63,8 @@ fn tell_of<R: Threads + Sync, T: Sink, K: Keeper, W: Teller>(
     keeper: K,
     what: &W,
 ) -> (Status, K)
-    ensures tells { (left : Option (List ℕ)) → TellsOf K.rows K.faults (W.tells what.now) keeper result.1 left left (T.taken sink.old) (T.taken sink.new) result.0 }
+    ensures tells { (left : Option (List ℕ))
+        → TellsOf K.rows K.faults (W.tells what.now) keeper result.1 left left (T.taken sink.old) (T.taken sink.new) result.0 }
     ensures rows_stay { KeepsRows (K.rows keeper) (K.rows result.1) }
     ensures shut { result.0 ≡ Status.KeeperFault → sink.new ≡ sink.old }
     ensures bad_entry { (row : ℕ) → result.0 ≡ Status.BadEntry row → sink.new ≡ sink.old }

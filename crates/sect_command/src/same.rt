@@ -122,7 +122,8 @@ impl Same for Command {
                 take,
                 budget,
             } => {
-                matches!(other, Command::Swap { student: id, give: given, take: taken, budget: most } if student == id && give.same(given) && take.same(taken) && budget == most)
+                matches!(other, Command::Swap { student: id, give: given, take: taken, budget: most }
+                    if student == id && give.same(given) && take.same(taken) && budget == most)
             }
             Command::Wait {
                 student,
@@ -130,7 +131,8 @@ impl Same for Command {
                 give,
                 class,
             } => {
-                matches!(other, Command::Wait { student: id, want: others, give: given, class: number } if student == id && want.same(others) && give == given && class == number)
+                matches!(other, Command::Wait { student: id, want: others, give: given, class: number }
+                    if student == id && want.same(others) && give == given && class == number)
             }
             Command::Unwait { student, ticket } => {
                 matches!(other, Command::Unwait { student: id, ticket: number } if student == id && ticket == number)

@@ -89,7 +89,8 @@ fn errand_of(
     requires method { IsWithin (length bytes.now) head.now.method }
     requires path { IsWithin (length bytes.now) head.now.path }
     requires there { head.now.len + len ≤ length bytes.now }
-    ensures errand { IfOk result (IsErrand (span_bytes bytes.now head.now.method) (span_bytes bytes.now head.now.path) (take len (drop head.now.len bytes.now))) }
+    ensures errand { IfOk result (IsErrand (span_bytes bytes.now head.now.method) (span_bytes bytes.now head.now.path)
+        (take len (drop head.now.len bytes.now))) }
     ensures fits { IfOk result FitsErrand }
 {
     let body = &bytes[head.len..head.len + len];

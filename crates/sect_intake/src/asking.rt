@@ -81,7 +81,9 @@ fn ask_one<O: TextObject, K: Keeper, C: Clock, T: Sink>(
     number: u64,
 ) -> Option<RunEnd>
     requires { FitsCommand given.command }
-    ensures asked { AsksOne (AnswersNumbered O.stepped O.is_row K.rows K.faults) T.taken (record { given = given; number = number }) asker.old asker.new sink.old sink.new gathered.old.items gathered.new.items result }
+    ensures asked { AsksOne (AnswersNumbered O.stepped O.is_row K.rows K.faults) T.taken
+        (record { given = given; number = number }) asker.old asker.new sink.old sink.new gathered.old.items gathered.new.items
+        result }
     ensures others { result ≢ Some ends.Done × (result ≢ Some ends.ReadFault) }
     ensures write_fault { result ≡ Some ends.WriteFault → Rose (T.faults sink.old) (T.faults sink.new) }
     ensures write_faults { T.faults sink.old ≤ T.faults sink.new }

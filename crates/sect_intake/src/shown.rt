@@ -32,7 +32,8 @@ pub(crate) fn take_piece<O: TextObject, K: Keeper, C: Clock, T: Sink>(
     ensures takes { (table : Table) (term : Option ℕ) (first : ℕ) (taken : Option (List ℕ)) (old : Sitting O.State Command Reply K) (read : List ℕ)
         → import.old ≡ going table term read
         → Through (AnswersNumbered O.stepped O.is_row K.rows K.faults) table term first taken (T.taken sink.old) old asker.old next.old read false
-        → TakesPiece (AnswersNumbered O.stepped O.is_row K.rows K.faults) table term first taken (T.taken sink.new) old asker.new import.new next.new read piece.now result }
+        → TakesPiece (AnswersNumbered O.stepped O.is_row K.rows K.faults) table term first taken
+        (T.taken sink.new) old asker.new import.new next.new read piece.now result }
     ensures others { result ≢ Some ends.Done × (result ≢ Some ends.ReadFault) }
     ensures write_fault { result ≡ Some ends.WriteFault → Rose (T.faults sink.old) (T.faults sink.new) }
     ensures write_faults { T.faults sink.old ≤ T.faults sink.new }
@@ -84,8 +85,10 @@ fn ask_shown<O: TextObject, K: Keeper, C: Clock, T: Sink>(
     bad: Option<(u64, u32)>,
 ) -> Option<RunEnd>
     requires { FitGiven given.items }
-    ensures asked { (table : Table) (term : Option ℕ) (first : ℕ) (taken : Option (List ℕ)) (old : Sitting O.State Command Reply K) (read : List ℕ) (ended : Bool)
-        → Shows (AnswersNumbered O.stepped O.is_row K.rows K.faults) table term first taken (T.taken sink.old) old asker.old next.old read ended given.items open_row bad
+    ensures asked { (table : Table) (term : Option ℕ) (first : ℕ) (taken : Option (List ℕ))
+        (old : Sitting O.State Command Reply K) (read : List ℕ) (ended : Bool)
+        → Shows (AnswersNumbered O.stepped O.is_row K.rows K.faults) table term first taken
+        (T.taken sink.old) old asker.old next.old read ended given.items open_row bad
         → AsksShown (AnswersNumbered O.stepped O.is_row K.rows K.faults) table term first taken (T.taken sink.new) old asker.new next.new read ended result }
     ensures others { result ≢ Some ends.Done × (result ≢ Some ends.ReadFault) }
     ensures write_fault { result ≡ Some ends.WriteFault → Rose (T.faults sink.old) (T.faults sink.new) }

@@ -38,7 +38,8 @@ pub fn run_table<O: TextObject, K: Keeper, C: Clock, S: Source, T: Sink>(
     sink: &mut T,
     asker: &mut Asker<O, K, C>,
 ) -> RunEnd
-    ensures ran { RanTable (AnswersNumbered O.stepped O.is_row K.rows K.faults) table term first (S.left source.old) (S.left source.new) (T.taken sink.old) (T.taken sink.new)
+    ensures ran { RanTable (AnswersNumbered O.stepped O.is_row K.rows K.faults) table term first (S.left source.old)
+        (S.left source.new) (T.taken sink.old) (T.taken sink.new)
         asker.old asker.new result }
     ensures end { result ≡ ends.Done → IsAtEnd (S.left source.new) }
     ensures read_fault { result ≡ ends.ReadFault → Rose (S.faults source.old) (S.faults source.new) }
@@ -83,9 +84,12 @@ fn turn<O: TextObject, K: Keeper, C: Clock, S: Source, T: Sink>(
     requires few { total.old ≤ TABLE_LIMIT }
     requires room { 0 < length buffer.old.items }
     ensures ran { (table : Tables) (term : Option ℕ) (first : ℕ) (left taken : Option (List ℕ)) (old : Sitting O.State Command Reply K)
-        → Underway (AnswersNumbered O.stepped O.is_row K.rows K.faults) table term first left (S.left source.old) taken (T.taken sink.old) old asker.old import.old next.old total.old
-        → GoesOn (Underway (AnswersNumbered O.stepped O.is_row K.rows K.faults) table term first left (S.left source.new) taken (T.taken sink.new) old asker.new import.new next.new total.new)
-        (RanTable (AnswersNumbered O.stepped O.is_row K.rows K.faults) table term first left (S.left source.new) taken (T.taken sink.new) old asker.new) result }
+        → Underway (AnswersNumbered O.stepped O.is_row K.rows K.faults) table term first left (S.left source.old) taken
+        (T.taken sink.old) old asker.old import.old next.old total.old
+        → GoesOn (Underway (AnswersNumbered O.stepped O.is_row K.rows K.faults) table term first left (S.left source.new) taken
+        (T.taken sink.new) old asker.new import.new next.new total.new)
+        (RanTable (AnswersNumbered O.stepped O.is_row K.rows K.faults) table term first left (S.left source.new) taken
+        (T.taken sink.new) old asker.new) result }
     ensures few { total.new ≤ TABLE_LIMIT }
     ensures more { IfNone result (total.old < total.new) }
     ensures room { 0 < length buffer.new.items }
@@ -135,8 +139,10 @@ fn end_of_bytes<O: TextObject, K: Keeper, C: Clock, S: Source, T: Sink>(
 ) -> RunEnd
     requires room { 0 < length buffer.old.items }
     ensures ran { (table : Tables) (term : Option ℕ) (first : ℕ) (left taken : Option (List ℕ)) (old : Sitting O.State Command Reply K)
-        → Underway (AnswersNumbered O.stepped O.is_row K.rows K.faults) table term first left (S.left source.old) taken (T.taken sink.old) old asker.old import.old next.old TABLE_LIMIT
-        → RanTable (AnswersNumbered O.stepped O.is_row K.rows K.faults) table term first left (S.left source.new) taken (T.taken sink.new) old asker.new result }
+        → Underway (AnswersNumbered O.stepped O.is_row K.rows K.faults) table term first left (S.left source.old) taken
+        (T.taken sink.old) old asker.old import.old next.old TABLE_LIMIT
+        → RanTable (AnswersNumbered O.stepped O.is_row K.rows K.faults) table term first left (S.left source.new) taken
+        (T.taken sink.new) old asker.new result }
     ensures end { result ≡ ends.Done → IsAtEnd (S.left source.new) }
     ensures read_fault { result ≡ ends.ReadFault → Rose (S.faults source.old) (S.faults source.new) }
     ensures write_fault { result ≡ ends.WriteFault → Rose (T.faults sink.old) (T.faults sink.new) }

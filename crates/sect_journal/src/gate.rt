@@ -8,14 +8,14 @@ ghost use Rattle.sect_journal.specs.Opening.{gate_of, GateIs, EndsWithin};
 use crate::window::Window;
 use crate::{Disk, DiskFault};
 
-// A gate is closed; or it has no byte, or its row doesn't fit; or a row of this length stands behind it.
+/// A gate is closed; or it has no byte, or its row doesn't fit; or a row of this length stands behind it.
 pub enum Gate {
     Closed,
     Bad,
     Open(u64),
 }
 
-// The gate in front of some bytes, of which so many are left.
+/// The gate in front of some bytes, of which so many are left.
 pub fn gate_in(head: &[u8], left: u64) -> Gate
     ensures { result ≡ gate_of head.now left }
 {
@@ -34,7 +34,7 @@ pub fn gate_in(head: &[u8], left: u64) -> Gate
     }
 }
 
-// Reads a gate of a disk with so many bytes.
+/// Reads a gate of a disk with so many bytes.
 pub fn read_gate<D: Disk>(
     window: &mut Window,
     disk: &mut D,

@@ -44,7 +44,7 @@ impl<T: Drop> From<AllocFailed<T>> for JournalFault {
     }
 }
 
-// Where a row stands on the disk.
+/// Where a row stands on the disk.
 #[derive(Clone, Copy)]
 pub struct Span {
     pub start: u64,
@@ -83,14 +83,14 @@ impl<D: Disk> Model for Journal<D> {
         × IsWindow (D.told j.disk) j.window.place j.window.bytes.items };
 }
 
-// The gate in front of these rows.
+/// The gate in front of these rows.
 fn next_gate(rows: &[&[u8]]) -> u8
     ensures { result ≡ gate_byte (map (λ row. row.now) rows.now) }
 {
     if rows.is_empty() { 0 } else { 1 }
 }
 
-// What stands behind the gate of the first of these rows.
+/// What stands behind the gate of the first of these rows.
 pub fn fill(into: &mut Vec<u8>, rows: &[&[u8]]) -> Result<(), AllocError>
     ensures { OnOk result (into.new.items ≡ records_of (map (λ row. row.now) rows.now)) }
 {
@@ -106,7 +106,7 @@ pub fn fill(into: &mut Vec<u8>, rows: &[&[u8]]) -> Result<(), AllocError>
     Ok(())
 }
 
-// Notes where these rows stand behind a gate. Gives the place of the gate behind them.
+/// Notes where these rows stand behind a gate. Gives the place of the gate behind them.
 fn push_spans(spans: &mut Vec<Span>, gate: u64, rows: &[&[u8]]) -> u64
     requires room { length rows.now ≤ vec_capacity spans.old - length spans.old.items }
     requires bound { gate_behind gate (map (λ row. row.now) rows.now) < 2 ^ 62 }
@@ -147,16 +147,17 @@ impl<D: Disk> Journal<D> {
         disk
     }
 
-    // What the type keeps.
+    /// What the type keeps.
     fn is_sound(&self)
         ensures { LeavesNow self.now.rows self.now.loose (D.told self.now.disk) }
     {
         let _ = &self.alloc;
     }
 
-    // Closes the present gate, where that is to be done first.
+    /// Closes the present gate, where that is to be done first.
     fn settle(&mut self) -> Result<(), DiskFault>
-        ensures ok { OnOk result ((self.new.torn ≡ false) × (self.new.loose ≡ []) × (D.told self.new.disk ≡ shut (D.told self.old.disk) self.old.gate self.old.torn)) }
+        ensures ok { OnOk result ((self.new.torn ≡ false) × (self.new.loose ≡ [])
+            × (D.told self.new.disk ≡ shut (D.told self.old.disk) self.old.gate self.old.torn)) }
         ensures err { OnErr result (self.new.loose ≡ self.old.loose) }
         ensures rows { self.new.rows ≡ self.old.rows }
         ensures gate { self.new.gate ≡ self.old.gate }
@@ -173,12 +174,13 @@ impl<D: Disk> Journal<D> {
         Ok(())
     }
 
-    // Writes the records of a group behind the present gate, which is then to be opened, or to be closed first.
+    /// Writes the records of a group behind the present gate, which is then to be opened, or to be closed first.
     fn stage(&mut self, text: &[u8], rows: &[&[u8]]) -> Result<(), DiskFault>
         requires rest { self.old.torn ≡ false }
         requires some { 0 < length rows.now }
         requires text { text.now ≡ records_of (map (λ row. row.now) rows.now) }
-        ensures ok { OnOk result ((self.new.torn ≡ true) × (D.told self.new.disk ≡ after_sync (after_write (D.told self.old.disk) (self.old.gate + 1) text.now))) }
+        ensures ok { OnOk result ((self.new.torn ≡ true)
+            × (D.told self.new.disk ≡ after_sync (after_write (D.told self.old.disk) (self.old.gate + 1) text.now))) }
         ensures loose { OnOk result (self.new.loose ≡ where_told (D.told self.new.disk) (map (λ row. row.now) rows.now ∷ [])) }
         ensures bound { OnOk result (gate_behind self.old.gate (map (λ row. row.now) rows.now) < 2 ^ 62) }
         ensures err { OnErr result (self.new.loose ≡ []) }
@@ -194,7 +196,7 @@ impl<D: Disk> Journal<D> {
         Ok(())
     }
 
-    // Opens the present gate: the rows behind it count from now on.
+    /// Opens the present gate: the rows behind it count from now on.
     fn admit(&mut self, rows: &[&[u8]]) -> Result<(), DiskFault>
         requires torn { self.old.torn ≡ true }
         requires rows { self.old.loose ≡ where_told (D.told self.old.disk) (map (λ row. row.now) rows.now ∷ []) }
@@ -215,7 +217,7 @@ impl<D: Disk> Journal<D> {
         Ok(())
     }
 
-    // Makes room in memory for so many rows more.
+    /// Makes room in memory for so many rows more.
     fn make_room(&mut self, count: usize) -> Result<(), AllocError>
         ensures ok { OnOk result (count ≤ self.new.room) }
         ensures same { self.new ≡ record self.old { room = self.new.room } }
@@ -223,7 +225,7 @@ impl<D: Disk> Journal<D> {
         self.spans.reserve(count)
     }
 
-    // Adds a group of rows. What that wants of memory is there before the disk is written.
+    /// Adds a group of rows. What that wants of memory is there before the disk is written.
     fn add(&mut self, text: &mut Vec<u8>, rows: &[&[u8]]) -> Result<(), DiskFault>
         requires some { 0 < length rows.now }
         ensures told { OnOk result (D.told self.new.disk ≡ appended (D.told self.old.disk) self.old.gate self.old.torn (map (λ row. row.now) rows.now)) }
@@ -254,7 +256,7 @@ impl<D: Disk> Journal<D> {
         self.buffer = text;
     }
 
-    // Of a group without rows: closes the present gate, where that is to be done first, and no more.
+    /// Of a group without rows: closes the present gate, where that is to be done first, and no more.
     pub(crate) fn keep_none(&mut self) -> Result<(), DiskFault>
         ensures told { OnOk result (D.told self.new.disk ≡ shut (D.told self.old.disk) self.old.gate self.old.torn) }
         ensures appends { Appends D.told [] (is_ok result) self.old self.new }
@@ -266,7 +268,7 @@ impl<D: Disk> Journal<D> {
         result
     }
 
-    // The same, with a buffer that is used again.
+    /// The same, with a buffer that is used again.
     pub(crate) fn keep(&mut self, rows: &[&[u8]]) -> Result<(), DiskFault>
         requires some { 0 < length rows.now }
         ensures told { OnOk result (D.told self.new.disk ≡ appended (D.told self.old.disk) self.old.gate self.old.torn (map (λ row. row.now) rows.now)) }

@@ -21,7 +21,7 @@ impl From<DiskFault> for KeepFault {
 }
 
 impl<D: Disk> Journal<D> {
-    // Reads a row where it stands. False also where the disk, which doesn't tell, has fewer bytes than it had.
+    /// Reads a row where it stands. False also where the disk, which doesn't tell, has fewer bytes than it had.
     fn find(&mut self, at: u64, into: &mut Vec<u8>) -> Result<bool, DiskFault>
         ensures found { IfOk result (λ found. FindsRow (told_rows (D.told self.old.disk) self.old.rows) at found into.new.items) }
         ensures looks { Looks D.told self.old self.new }

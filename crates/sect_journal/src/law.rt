@@ -13,6 +13,7 @@ use crate::Disk;
 pub fn no_acknowledged_row_is_lost<D: Disk>()
     ensures between { (before : Option Told) (start end : Standing D) (calls : List Call) → IsOpened D.told before start → IsRun D.told calls start end
         → LeavesNow (acknowledged start.rows calls) (unanswered [] calls) (D.told end.disk) }
-    ensures within { (before : Option Told) (start end next : Standing D) (calls : List Call) (call : Call) → IsOpened D.told before start → IsRun D.told calls start end → Takes D.told call end next
+    ensures within { (before : Option Told) (start end next : Standing D) (calls : List Call) (call : Call)
+        → IsOpened D.told before start → IsRun D.told calls start end → Takes D.told call end next
         → Stays (D.told end.disk) (D.told next.disk) (Leaves (acknowledged start.rows calls) (unanswered [] calls ++ begun call)) }
 {}

@@ -1,5 +1,30 @@
 // A disk in memory, with a record of its calls.
-ghost use Rattle.std.specs.Prelude.{◌≡◌, ◌↔◌, ◌⊎◌, ◌<◌, ◌≤◌, ◌+◌, ◌^◌, ◌++◌, ◌∷◌, [], Some, false, IsTrue, map, min, ◌-◌, take, drop, length, vec_capacity, IfOk, OnOk, OnErr, IsErrOf};
+ghost use Rattle.std.specs.Prelude.{
+  ◌≡◌,
+  ◌↔◌,
+  ◌⊎◌,
+  ◌<◌,
+  ◌≤◌,
+  ◌+◌,
+  ◌^◌,
+  ◌++◌,
+  ◌∷◌,
+  [],
+  Some,
+  false,
+  IsTrue,
+  map,
+  min,
+  ◌-◌,
+  take,
+  drop,
+  length,
+  vec_capacity,
+  IfOk,
+  OnOk,
+  OnErr,
+  IsErrOf,
+};
 ghost use Rattle.sect_edge.specs.Causes.{HasCauseFor};
 ghost use Rattle.sect_edge.specs.Memory.{IsNextToFail, no_calls, after_success, after_fault};
 ghost use Rattle.sect_journal.specs.declared.disk.DiskFault.TheVariants as fault;
@@ -59,7 +84,7 @@ impl From<Failed> for DiskFault {
     }
 }
 
-// The bytes after a piece is written at a place.
+/// The bytes after a piece is written at a place.
 fn written(alloc: Global, bytes: &[u8], at: usize, piece: &[u8]) -> Result<Vec<u8>, AllocError>
     requires { at ≤ length bytes.now }
     ensures { IfOk result (λ next. next.items ≡ put bytes.now at piece.now) }
@@ -96,7 +121,7 @@ impl MemDisk {
         &self.steps
     }
 
-    // What is durable.
+    /// What is durable.
     fn durable(&self) -> &[u8]
         ensures { result.now ≡ (told_by self.now).now.durable }
     {
@@ -116,12 +141,13 @@ impl MemDisk {
         }
     }
 
-    // A call that changes nothing.
+    /// A call that changes nothing.
     fn look(&mut self, refused: bool) -> Result<(), DiskFault>
         ensures fails { IsErrOf result DiskFault.Failed → IsTrue refused ⊎ IsNextToFail self.old.calls }
         ensures allowed { OnOk result (refused ≡ false) }
         ensures ok { OnOk result (self.new ≡ record self.old { steps = self.old.steps ++ Looked ∷ []; calls = after_success self.old.calls }) }
-        ensures failed { IsErrOf result DiskFault.Failed → self.new ≡ record self.old { steps = self.old.steps ++ Looked ∷ []; calls = after_fault self.old.calls } }
+        ensures failed { IsErrOf result DiskFault.Failed
+            → self.new ≡ record self.old { steps = self.old.steps ++ Looked ∷ []; calls = after_fault self.old.calls } }
         ensures memory { IsErrOf result DiskFault.Memory → self.new ≡ self.old }
     {
         self.steps.reserve(1)?;
@@ -132,13 +158,18 @@ impl MemDisk {
         }
         Ok(result?)
     }
-    // Writes a piece, or fails with its range written as it was.
+    /// Writes a piece, or fails with its range written as it was.
     fn put_piece(&mut self, at: u64, piece: &[u8]) -> Result<(), DiskFault>
         requires { at ≤ length (told_by self.old).now.seen }
         ensures fails { IsErrOf result DiskFault.Failed → (2 ^ 62 ≤ at + length piece.now) ⊎ IsNextToFail self.old.calls }
         ensures bound { OnOk result (at + length piece.now < 2 ^ 62) }
         ensures ok { OnOk result (self.new ≡ record self.old { steps = self.old.steps ++ Wrote at piece.now ∷ []; calls = after_success self.old.calls }) }
-        ensures failed { IsErrOf result DiskFault.Failed → self.new ≡ record self.old { steps = self.old.steps ++ Tore at (length piece.now) ∷ []; calls = after_fault self.old.calls } }
+        ensures failed { IsErrOf result DiskFault.Failed
+            → self.new ≡ record self.old {
+              steps = self.old.steps
+                  ++ Tore at (length piece.now) ∷ [];
+              calls = after_fault self.old.calls;
+            } }
         ensures memory { IsErrOf result DiskFault.Memory → self.new ≡ self.old }
     {
         let alloc = *self.first.allocator();
@@ -162,11 +193,12 @@ impl MemDisk {
         }
     }
 
-    // Makes durable what a read gives.
+    /// Makes durable what a read gives.
     fn make_durable(&mut self) -> Result<(), DiskFault>
         ensures fails { IsErrOf result DiskFault.Failed → IsNextToFail self.old.calls }
         ensures ok { OnOk result (self.new ≡ record self.old { steps = self.old.steps ++ Synced ∷ []; calls = after_success self.old.calls }) }
-        ensures failed { IsErrOf result DiskFault.Failed → self.new ≡ record self.old { steps = self.old.steps ++ Looked ∷ []; calls = after_fault self.old.calls } }
+        ensures failed { IsErrOf result DiskFault.Failed
+            → self.new ≡ record self.old { steps = self.old.steps ++ Looked ∷ []; calls = after_fault self.old.calls } }
         ensures memory { IsErrOf result DiskFault.Memory → self.new ≡ self.old }
     {
         let alloc = *self.first.allocator();
@@ -200,7 +232,7 @@ impl MemDisk {
         }
     }
 
-    // The ranges written since the last sync.
+    /// The ranges written since the last sync.
     fn pending(&self) -> &[(u64, u64)]
         ensures { result.now ≡ (told_by self.now).now.pending }
     {
@@ -208,14 +240,14 @@ impl MemDisk {
     }
 }
 
-// Bytes at a place would end past the bound.
+/// Bytes at a place would end past the bound.
 fn passes_bound(at: u64, size: u64) -> bool
     ensures { IsTrue result ↔ 2 ^ 62 ≤ at + size }
 {
     size >= BOUND || at >= BOUND - size
 }
 
-// Adds to a list that has room.
+/// Adds to a list that has room.
 fn push_room<T: Drop>(list: &mut Vec<T>, item: T)
     requires { length list.old.items < vec_capacity list.old }
     ensures { list.new.items ≡ list.old.items ++ item ∷ [] }
@@ -226,7 +258,7 @@ fn push_room<T: Drop>(list: &mut Vec<T>, item: T)
     }
 }
 
-// A place is in one of the ranges.
+/// A place is in one of the ranges.
 fn is_in(ranges: &[(u64, u64)], place: u64) -> bool
     ensures { result ≡ is_touched ranges.now place }
 {
@@ -240,7 +272,7 @@ fn is_in(ranges: &[(u64, u64)], place: u64) -> bool
     false
 }
 
-// The bytes, with a mark in place of each in one of the ranges.
+/// The bytes, with a mark in place of each in one of the ranges.
 fn mark(alloc: Global, ranges: &[(u64, u64)], with: u8, bytes: &[u8]) -> Result<Vec<u8>, AllocError>
     ensures { IfOk result (λ image. image.items ≡ marked ranges.now with 0 bytes.now) }
 {

@@ -12,7 +12,7 @@ use crate::window::Window;
 use crate::{Disk, DiskFault, JournalFault};
 use std::alloc::Global;
 
-// Reads the gates of a disk with so many bytes, up to the one that ends the journal.
+/// Reads the gates of a disk with so many bytes, up to the one that ends the journal.
 pub fn find_end<D: Disk>(
     alloc: Global,
     disk: &mut D,
@@ -44,7 +44,7 @@ pub fn find_end<D: Disk>(
     }
 }
 
-// Syncs, and reads the gates.
+/// Syncs, and reads the gates.
 pub fn scan<D: Disk>(alloc: Global, disk: &mut D) -> Result<(Vec<Span>, u64), JournalFault>
     ensures end { IfOk result (λ end. EndsAt (after_sync (D.told disk.old)) end.0.items end.1) }
     ensures bound { IfOk result (λ end. end.1 < 2 ^ 62) }
@@ -108,7 +108,7 @@ impl<D: Disk> Journal<D> {
     }
 }
 
-// Formats a disk of size 0.
+/// Formats a disk of size 0.
 fn prepare<D: Disk>(disk: &mut D) -> Result<(), DiskFault>
     ensures ok { OnOk result (D.told disk.new ≡ prepared (D.told disk.old)) }
     ensures cause { HasCauseFor DiskFault.Failed (D.faults disk.old) (D.faults disk.new) result }

@@ -5,7 +5,7 @@ ghost use Rattle.sect_journal.specs.Disk.{IsWithin, Tears, after_write, after_sy
 
 use crate::{Disk, DiskFault};
 
-// Writes a piece at a place, and syncs. At an error the write was made, or a part of it, or none.
+/// Writes a piece at a place, and syncs. At an error the write was made, or a part of it, or none.
 pub fn write_through<D: Disk>(disk: &mut D, at: u64, piece: &[u8]) -> Result<(), DiskFault>
     requires { IsWithin (D.told disk.old) at }
     ensures ok { OnOk result (D.told disk.new ≡ after_sync (after_write (D.told disk.old) at piece.now)) }

@@ -7,10 +7,10 @@ ghost use Rattle.sect_journal.specs.Windows.{IsWindow, Reaches};
 use crate::{Disk, DiskFault};
 use std::alloc::Global;
 
-// How many bytes are read at once.
+/// How many bytes are read at once.
 const ROOM: usize = 65_536;
 
-// Some bytes of a disk, as they stand from a place on.
+/// Some bytes of a disk, as they stand from a place on.
 #[derive(Drop)]
 pub struct Window {
     pub place: u64,
@@ -18,7 +18,7 @@ pub struct Window {
 }
 
 impl Window {
-    // Without bytes.
+    /// Without bytes.
     pub fn new(alloc: Global) -> Window
         ensures { result.bytes.items ≡ [] }
     {
@@ -28,14 +28,14 @@ impl Window {
         }
     }
 
-    // Forgets the bytes, since the disk is to change.
+    /// Forgets the bytes, since the disk is to change.
     pub fn close(&mut self)
         ensures { self.new.bytes.items ≡ [] }
     {
         self.bytes.clear();
     }
 
-    // So many bytes at a place stand in the window.
+    /// So many bytes at a place stand in the window.
     fn covers(&self, at: u64, count: usize) -> bool
         ensures { IsTrue result ↔ (self.now.place ≤ at) × (at + count ≤ self.now.place + length self.now.bytes.items) }
     {
@@ -44,7 +44,7 @@ impl Window {
         self.place <= at && count <= size && at - self.place <= size - count
     }
 
-    // Reads the bytes from a place on. At an error there are none.
+    /// Reads the bytes from a place on. At an error there are none.
     fn move_to<D: Disk>(&mut self, disk: &mut D, at: u64) -> Result<(), DiskFault>
         ensures place { OnOk result (self.new.place ≡ at) }
         ensures bytes { OnOk result (Reads (D.told disk.old) at 65536 (length self.new.bytes.items) self.new.bytes.items) }
@@ -67,7 +67,7 @@ impl Window {
         }
     }
 
-    // Moves to a place, unless so many bytes there stand in the window.
+    /// Moves to a place, unless so many bytes there stand in the window.
     fn reach<D: Disk>(&mut self, disk: &mut D, at: u64, count: usize) -> Result<(), DiskFault>
         requires window { IsWindow (D.told disk.old) self.old.place self.old.bytes.items }
         requires count { count ≤ 65536 }
@@ -83,7 +83,7 @@ impl Window {
         self.move_to(disk, at)
     }
 
-    // As a read of the disk, by at most one call of it, and by none where the bytes stand in the window.
+    /// As a read of the disk, by at most one call of it, and by none where the bytes stand in the window.
     pub fn read_at<D: Disk>(
         &mut self,
         disk: &mut D,
@@ -105,7 +105,7 @@ impl Window {
     }
 }
 
-// Copies the bytes from a place on, as many as there are and fit. Gives their number.
+/// Copies the bytes from a place on, as many as there are and fit. Gives their number.
 pub fn copy_out(bytes: &[u8], at: u64, into: &mut [u8]) -> usize
     ensures count { result ≡ min (length into.new) (length bytes.now - at) }
     ensures bytes { take result into.new ≡ take result (drop at bytes.now) }

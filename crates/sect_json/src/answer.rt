@@ -56,7 +56,8 @@ fn answer_status(answer: &Answer<Reply>) -> u16
 }
 
 fn print_done(place: u32, reply: &Reply, into: &mut Vec<u8>) -> Result<(), Memory>
-    ensures text { OnOk result (into.new.items ≡ into.old.items ++ (codes "{\"place\":" ++ (decimal place ++ (codes ",\"reply\":" ++ (quoted (reply_text reply.now) ++ codes "}"))))) }
+    ensures text { OnOk result (into.new.items ≡ into.old.items
+        ++ (codes "{\"place\":" ++ (decimal place ++ (codes ",\"reply\":" ++ (quoted (reply_text reply.now) ++ codes "}"))))) }
     ensures memory { OnErr result (into.new.items ≡ into.old.items) }
 {
     let text = done(*into.allocator(), place, reply)?;

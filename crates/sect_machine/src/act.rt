@@ -32,7 +32,8 @@ pub fn act<L: Ledger>(
     requires fits { CommandFits world.old.world command.now }
     requires undoable { Undoable world.old undo.old.backs }
     requires queue_undoable { QueueUndoable queue.old left.old }
-    ensures acted { IfOk result (λ reply. act_of (state_of world.old.world queue.old.queue) command.now ≡ record { state = state_of world.new.world queue.new.queue; reply = reply }) }
+    ensures acted { IfOk result (λ reply. act_of (state_of world.old.world queue.old.queue) command.now
+        ≡ record { state = state_of world.new.world queue.new.queue; reply = reply }) }
     ensures recorded { OnOk result (RecordsLimit world.old.world command.now undo.old.backs undo.new.backs) }
     ensures tracked { Tracked world.old undo.old.backs queue.old left.old world.new undo.new.backs queue.new left.new }
 {

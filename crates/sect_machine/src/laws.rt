@@ -18,16 +18,23 @@ ghost use Rattle.sect_machine.specs.NotDone.{IsNotDone};
 
 /// A command whose reply is blocked is one that `recheck` takes on that day: it searches, and isn't refused.
 pub fn blocked_commands_are_taken()
-    ensures searches { (s : State) (day : ℕ) (caller : Caller) (command : Command) (visits : ℕ) (tree : Tree) → KeptState s → (step s day caller command).reply ≡ Blocked visits tree → IsTrue (is_some (move_in command)) }
-    ensures accepted { (s : State) (day : ℕ) (caller : Caller) (command : Command) (visits : ℕ) (tree : Tree) → (step s day caller command).reply ≡ Blocked visits tree → refusal_of (on_day s day) caller command ≡ None }
+    ensures searches { (s : State) (day : ℕ) (caller : Caller) (command : Command) (visits : ℕ) (tree : Tree) → KeptState s
+        → (step s day caller command).reply ≡ Blocked visits tree → IsTrue (is_some (move_in command)) }
+    ensures accepted { (s : State) (day : ℕ) (caller : Caller) (command : Command) (visits : ℕ) (tree : Tree)
+        → (step s day caller command).reply ≡ Blocked visits tree → refusal_of (on_day s day) caller command ≡ None }
 {}
 
 /// A command that is refused or blocked, or whose budget is spent, changes the day and what settling places, and nothing else.
 pub fn what_is_not_done_changes_nothing()
-    ensures { (s : State) (day : ℕ) (caller : Caller) (command : Command) → IsNotDone (step s day caller command).reply → (step s day caller command).state ≡ (settle (on_day s day)).state }
+    ensures { (s : State) (day : ℕ) (caller : Caller) (command : Command) → IsNotDone (step s day caller command).reply
+        → (step s day caller command).state ≡ (settle (on_day s day)).state }
 {}
 
 /// A swap that is made gives up and takes all of it.
 pub fn a_swap_is_made_whole()
-    ensures { (s : State) (day : ℕ) (caller : Caller) (student : StudentId) (give : List CourseId) (take : List Want) (budget : ℕ) (choices : List Choice) → (step s day caller (Swap student give take budget)).reply ≡ Swapped choices → (step s day caller (Swap student give take budget)).state ≡ (settle (in_world (on_day s day) (make_move (on_day s day).world (record { student = student; give = give; take = take }) choices))).state }
+    ensures { (s : State) (day : ℕ) (caller : Caller) (student : StudentId) (give : List CourseId) (take : List Want)
+        (budget : ℕ) (choices : List Choice) → (step s day caller (Swap student give take budget)).reply ≡ Swapped choices
+        → (step s day caller (Swap student give take budget)).state
+        ≡ (settle (in_world (on_day s day) (make_move (on_day s day).world
+        (record { student = student; give = give; take = take }) choices))).state }
 {}

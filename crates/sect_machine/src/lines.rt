@@ -8,7 +8,15 @@ ghost use Rattle.sect_command.specs.declared.reply.Line.{Line as BatchLine};
 ghost use Rattle.sect_command.specs.declared.reply.LineResult.TheVariants.{Waiting};
 ghost use Rattle.sect_command.specs.declared.reply.Reply.TheVariants.{Batched};
 ghost use Rattle.sect_people.specs.Student.{find_student};
-ghost use Rattle.sect_model.specs.Batch.{asks_of as requests_of, join_by as waits_by, join_line as joined_by, join_lines as joined_by_all, ticket_of as least_ticket, want_of, with_result};
+ghost use Rattle.sect_model.specs.Batch.{
+  asks_of as requests_of,
+  join_by as waits_by,
+  join_line as joined_by,
+  join_lines as joined_by_all,
+  ticket_of as least_ticket,
+  want_of,
+  with_result,
+};
 ghost use Rattle.sect_model.specs.Step.{batched};
 ghost use Rattle.sect_model.specs.World.{World as SectionedWorld};
 ghost use Rattle.sect_space.specs.Undo.{Undoable};
@@ -42,7 +50,8 @@ pub fn batch_lines(
     requires known { IsTrue (list_all (λ s. is_some (find_student world.old.world.students s)) students.now) }
     requires undoable { Undoable world.old undo.old.backs }
     requires queue_undoable { QueueUndoable queue.old left.old }
-    ensures acted { IfOk result (λ lines. batched (state_of world.old.world queue.old.queue) students.now ≡ record { state = state_of world.new.world queue.new.queue; reply = Batched lines }) }
+    ensures acted { IfOk result (λ lines. batched (state_of world.old.world queue.old.queue) students.now
+        ≡ record { state = state_of world.new.world queue.new.queue; reply = Batched lines }) }
     ensures tracked { Tracked world.old undo.old.backs queue.old left.old world.new undo.new.backs queue.new left.new }
 {
     let lines = batch(alloc, world, students, undo)?;
@@ -58,7 +67,10 @@ fn join_lines(
     left: &mut QueueUndo,
 ) -> Result<Items<Line>, Memory>
     requires undoable { QueueUndoable queue.old left.old }
-    ensures joined { IfOk result (λ joined. joined_by_all (record { state = state_of world.now.world queue.old.queue; lines = [] }) (map (answered_of world.now.world) lines.items) ≡ record { state = state_of world.now.world queue.new.queue; lines = joined }) }
+    ensures joined { IfOk result (λ joined. joined_by_all
+        (record { state = state_of world.now.world queue.old.queue; lines = [] })
+        (map (answered_of world.now.world) lines.items)
+        ≡ record { state = state_of world.now.world queue.new.queue; lines = joined }) }
     ensures since { QueueSince queue.old.queue left.old queue.new.queue left.new }
     ensures undoable { QueueUndoable queue.new left.new }
 {
@@ -89,7 +101,13 @@ fn join_line(
     left: &mut QueueUndo,
 ) -> Result<Option<u64>, Memory>
     requires undoable { QueueUndoable queue.old left.old }
-    ensures joined { IfOk result (λ ticket. (lines : List BatchLine) → joined_by (record { state = state_of world.now.world queue.old.queue; lines = lines }) (answered_of world.now.world line.now) ≡ record { state = state_of world.now.world queue.new.queue; lines = lines ++ waiting_line line.now ticket ∷ [] }) }
+    ensures joined { IfOk result (λ ticket. (lines : List BatchLine)
+        → joined_by (record { state = state_of world.now.world queue.old.queue; lines = lines })
+        (answered_of world.now.world line.now) ≡ record {
+          state = state_of world.now.world queue.new.queue;
+          lines = lines
+              ++ waiting_line line.now ticket ∷ [];
+        }) }
     ensures since { QueueSince queue.old.queue left.old queue.new.queue left.new }
     ensures undoable { QueueUndoable queue.new left.new }
 {
@@ -125,7 +143,10 @@ fn join_ask(
     left: &mut QueueUndo,
 ) -> Result<Option<u64>, Memory>
     requires undoable { QueueUndoable queue.old left.old }
-    ensures joined { IfOk result (λ ticket. (w : SectionedWorld) (lines : List BatchLine) → joined_by (record { state = state_of w queue.old.queue; lines = lines }) (record { line = line.now; ask = course_ask ask.now }) ≡ record { state = state_of w queue.new.queue; lines = lines ++ waiting_line line.now ticket ∷ [] }) }
+    ensures joined { IfOk result (λ ticket. (w : SectionedWorld) (lines : List BatchLine)
+        → joined_by (record { state = state_of w queue.old.queue; lines = lines })
+        (record { line = line.now; ask = course_ask ask.now })
+        ≡ record { state = state_of w queue.new.queue; lines = lines ++ waiting_line line.now ticket ∷ [] }) }
     ensures since { QueueSince queue.old.queue left.old queue.new.queue left.new }
     ensures undoable { QueueUndoable queue.new left.new }
 {
@@ -144,7 +165,9 @@ fn join_course(
     left: &mut QueueUndo,
 ) -> Result<Option<u64>, Memory>
     requires undoable { QueueUndoable queue.old left.old }
-    ensures joined { IfOk result (λ ticket. (w : SectionedWorld) (lines : List BatchLine) → joined_by (record { state = state_of w queue.old.queue; lines = lines }) (record { line = line.now; ask = ask.now }) ≡ record { state = state_of w queue.new.queue; lines = lines ++ waiting_line line.now ticket ∷ [] }) }
+    ensures joined { IfOk result (λ ticket. (w : SectionedWorld) (lines : List BatchLine)
+        → joined_by (record { state = state_of w queue.old.queue; lines = lines }) (record { line = line.now; ask = ask.now })
+        ≡ record { state = state_of w queue.new.queue; lines = lines ++ waiting_line line.now ticket ∷ [] }) }
     ensures since { QueueSince queue.old.queue left.old queue.new.queue left.new }
     ensures undoable { QueueUndoable queue.new left.new }
 {
@@ -165,7 +188,10 @@ fn ticket_or_join(
     left: &mut QueueUndo,
 ) -> Result<u64, Memory>
     requires undoable { QueueUndoable queue.old left.old }
-    ensures joined { IfOk result (λ ticket. (w : SectionedWorld) (lines : List BatchLine) → waits_by (record { state = state_of w queue.old.queue; lines = lines }) (record { line = line.now; ask = ask.now }) (least_ticket (state_of w queue.old.queue) line.now.student ask.now.courses) ≡ record { state = state_of w queue.new.queue; lines = lines ++ with_result line.now (Waiting ticket) ∷ [] }) }
+    ensures joined { IfOk result (λ ticket. (w : SectionedWorld) (lines : List BatchLine)
+        → waits_by (record { state = state_of w queue.old.queue; lines = lines }) (record { line = line.now; ask = ask.now })
+        (least_ticket (state_of w queue.old.queue) line.now.student ask.now.courses)
+        ≡ record { state = state_of w queue.new.queue; lines = lines ++ with_result line.now (Waiting ticket) ∷ [] }) }
     ensures since { QueueSince queue.old.queue left.old queue.new.queue left.new }
     ensures undoable { QueueUndoable queue.new left.new }
 {

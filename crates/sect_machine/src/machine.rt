@@ -21,7 +21,8 @@ use sect_wait::{Marks, Queue};
 use std::alloc::Global;
 use std::marker::Model;
 
-/// The world and those who wait, none of whom can be placed, and which of them must be tried again: the others have no move. No limit is passed, and no student holds what may not be held
+/// The world and those who wait, none of whom can be placed, and which of them must be tried again: the others have no
+/// move. No limit is passed, and no student holds what may not be held
 /// together. Contracts see both, with the room of their lists.
 #[derive(Drop)]
 pub struct Machine {

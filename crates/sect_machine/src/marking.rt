@@ -3,7 +3,15 @@
 ghost use Rattle.std.specs.Prelude.{◌≡◌, List, OnOk, option_copied};
 ghost use Rattle.sect_model.specs.declared.held.Waiting.{Waiting as Entry};
 ghost use Rattle.sect_wait.specs.Marked.{MarksMore};
-ghost use Rattle.sect_machine.specs.Opening.{enrolled_opens, is_joined as is_new, last_offering as offering_last_changed, opened, opens, reserved_in as reserved_offering, restricted_in as restricted_offering};
+ghost use Rattle.sect_machine.specs.Opening.{
+  enrolled_opens,
+  is_joined as is_new,
+  last_offering as offering_last_changed,
+  opened,
+  opens,
+  reserved_in as reserved_offering,
+  restricted_in as restricted_offering,
+};
 
 use crate::opened::{mark_batched, mark_choice, mark_swapped};
 use sect_base::{Memory, ReservationId, RestrictionId, StudentId};

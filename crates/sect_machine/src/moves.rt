@@ -123,7 +123,9 @@ pub fn enrol<L: Ledger>(
     requires fits { MoveFits world.old.world (move_of_enrolment student want.now) }
     requires undoable { Undoable world.old undo.old.backs }
     ensures reply { IfOk result (λ reply. reply ≡ outcome_reply reply_to_enrolment (outcome_of world.old.world (move_of_enrolment student want.now) budget)) }
-    ensures ok { OnOk result (world.new.world ≡ moved_world world.old.world (move_of_enrolment student want.now) (outcome_of world.old.world (move_of_enrolment student want.now) budget)) }
+    ensures ok { OnOk result (world.new.world
+        ≡ moved_world world.old.world (move_of_enrolment student want.now)
+        (outcome_of world.old.world (move_of_enrolment student want.now) budget)) }
     ensures since { Since world.old.world undo.old.backs world.new.world undo.new.backs }
     ensures undoable { Undoable world.new undo.new.backs }
 {
@@ -146,8 +148,12 @@ pub fn swap<L: Ledger>(
 ) -> Result<Reply, Memory>
     requires fits { MoveFits world.old.world (record { student = student; give = give.now; take = take.now }) }
     requires undoable { Undoable world.old undo.old.backs }
-    ensures reply { IfOk result (λ reply. reply ≡ outcome_reply Reply.Swapped (outcome_of world.old.world (record { student = student; give = give.now; take = take.now }) budget)) }
-    ensures ok { OnOk result (world.new.world ≡ moved_world world.old.world (record { student = student; give = give.now; take = take.now }) (outcome_of world.old.world (record { student = student; give = give.now; take = take.now }) budget)) }
+    ensures reply { IfOk result (λ reply. reply
+        ≡ outcome_reply Reply.Swapped (outcome_of world.old.world
+        (record { student = student; give = give.now; take = take.now }) budget)) }
+    ensures ok { OnOk result (world.new.world
+        ≡ moved_world world.old.world (record { student = student; give = give.now; take = take.now })
+        (outcome_of world.old.world (record { student = student; give = give.now; take = take.now }) budget)) }
     ensures since { Since world.old.world undo.old.backs world.new.world undo.new.backs }
     ensures undoable { Undoable world.new undo.new.backs }
 {

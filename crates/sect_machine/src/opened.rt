@@ -39,7 +39,8 @@ fn mark_move(
     choices: &[Choice],
     marks: &mut Marks,
 ) -> Result<(), Memory>
-    ensures { OnOk result (MarksMore (λ e. leaving_opens world.now.world student give.now e || taking_opens world.now.world student choices.now e) queue.now.queue.entries marks.old marks.new) }
+    ensures { OnOk result (MarksMore (λ e. leaving_opens world.now.world student give.now e || taking_opens world.now.world
+        student choices.now e) queue.now.queue.entries marks.old marks.new) }
 {
     mark_given(world, queue, student, give, marks)?;
     mark_taken(world, queue, student, choices, marks)
@@ -85,7 +86,8 @@ pub fn mark_choice(
     choice: &Choice,
     marks: &mut Marks,
 ) -> Result<(), Memory>
-    ensures { OnOk result (MarksMore (λ e. may_open world.now.world e (Enrol (record { student = student; choice = choice.now }))) queue.now.queue.entries marks.old marks.new) }
+    ensures { OnOk result (MarksMore (λ e. may_open world.now.world e
+        (Enrol (record { student = student; choice = choice.now }))) queue.now.queue.entries marks.old marks.new) }
 {
     let enrolment = Enrolment {
         student,

@@ -29,7 +29,8 @@ impl Machine {
     pub fn recheck(&mut self, day: Day, command: &Command, tree: &Block) -> Result<bool, Memory>
         requires searches { IsTrue (is_some (move_in command.now)) }
         requires accepted { (caller : Caller) × (refusal_of (on_day (state_in self.old) day) caller command.now ≡ None) }
-        ensures answer { IfOk result (λ refutes. (mv : Moved) → move_in command.now ≡ Some mv → refutes ≡ covers (on_day (state_in self.old) day).world mv tree.now) }
+        ensures answer { IfOk result (λ refutes. (mv : Moved) → move_in command.now ≡ Some mv
+            → refutes ≡ covers (on_day (state_in self.old) day).world mv tree.now) }
         ensures state { state_in self.new ≡ state_in self.old }
     {
         self.is_kept();
@@ -47,7 +48,8 @@ fn refutes_then(
 ) -> Result<bool, Memory>
     requires searches { IsTrue (is_some (move_in command.now)) }
     requires fits { (mv : Moved) → move_in command.now ≡ Some mv → MoveFits (put_day world.old.world (max world.old.world.day day)) mv }
-    ensures answer { IfOk result (λ refutes. (mv : Moved) → move_in command.now ≡ Some mv → refutes ≡ covers (put_day world.old.world (max world.old.world.day day)) mv tree.now) }
+    ensures answer { IfOk result (λ refutes. (mv : Moved) → move_in command.now ≡ Some mv
+        → refutes ≡ covers (put_day world.old.world (max world.old.world.day day)) mv tree.now) }
     ensures world { world.new.world ≡ world.old.world }
 {
     world.is_kept();
@@ -69,7 +71,8 @@ fn refutes_on(
     requires searches { IsTrue (is_some (move_in command.now)) }
     requires fits { (mv : Moved) → move_in command.now ≡ Some mv → MoveFits (put_day world.old.world (max world.old.world.day day)) mv }
     requires undoable { Undoable world.old undo.old.backs }
-    ensures answer { IfOk result (λ refutes. (mv : Moved) → move_in command.now ≡ Some mv → refutes ≡ covers (put_day world.old.world (max world.old.world.day day)) mv tree.now) }
+    ensures answer { IfOk result (λ refutes. (mv : Moved) → move_in command.now ≡ Some mv
+        → refutes ≡ covers (put_day world.old.world (max world.old.world.day day)) mv tree.now) }
     ensures since { Since world.old.world undo.old.backs world.new.world undo.new.backs }
     ensures undoable { Undoable world.new undo.new.backs }
 {

@@ -45,7 +45,8 @@ pub fn step(
 ) -> Result<ToldStep, Memory>
     requires resting { IsResting (state_of world.old.world queue.old.queue) }
     requires others { OthersHaveNoMove world.old.world queue.old.queue.entries marks.old }
-    ensures acted { IfOk result (λ r. step_of (state_of world.old.world queue.old.queue) day caller command.now ≡ record { state = state_of world.new.world queue.new.queue; reply = r.reply }) }
+    ensures acted { IfOk result (λ r. step_of (state_of world.old.world queue.old.queue) day caller command.now
+        ≡ record { state = state_of world.new.world queue.new.queue; reply = r.reply }) }
     ensures placed { IfOk result (λ r. r.placed ≡ placements (state_of world.old.world queue.old.queue) day caller command.now) }
     ensures undo { IfOk result (λ r. Restores r.undo (record { world = world.new; queue = queue.new }) (state_of world.old.world queue.old.queue)) }
     ensures world_err { OnErr result (world.new.world ≡ world.old.world) }
@@ -80,7 +81,8 @@ fn counted<L: Ledger>(
     requires some { 0 < blank.parts }
     requires resting { IsResting (state_of world.old.world queue.old.queue) }
     requires others { OthersHaveNoMove world.old.world queue.old.queue.entries marks.old }
-    ensures acted { IfOk result (λ r. step_of (state_of world.old.world queue.old.queue) day caller command.now ≡ record { state = state_of world.new.world queue.new.queue; reply = r.reply }) }
+    ensures acted { IfOk result (λ r. step_of (state_of world.old.world queue.old.queue) day caller command.now
+        ≡ record { state = state_of world.new.world queue.new.queue; reply = r.reply }) }
     ensures placed { IfOk result (λ r. r.placed ≡ placements (state_of world.old.world queue.old.queue) day caller command.now) }
     ensures undo { IfOk result (λ r. Restores r.undo (record { world = world.new; queue = queue.new }) (state_of world.old.world queue.old.queue)) }
     ensures world_err { OnErr result (world.new.world ≡ world.old.world) }
@@ -104,7 +106,8 @@ fn all_or_none<L: Ledger>(
 ) -> Result<ToldStep, Memory>
     requires resting { IsResting (state_of world.old.world queue.old.queue) }
     requires others { OthersHaveNoMove world.old.world queue.old.queue.entries marks.old }
-    ensures acted { IfOk result (λ r. step_of (state_of world.old.world queue.old.queue) day caller command.now ≡ record { state = state_of world.new.world queue.new.queue; reply = r.reply }) }
+    ensures acted { IfOk result (λ r. step_of (state_of world.old.world queue.old.queue) day caller command.now
+        ≡ record { state = state_of world.new.world queue.new.queue; reply = r.reply }) }
     ensures placed { IfOk result (λ r. r.placed ≡ placements (state_of world.old.world queue.old.queue) day caller command.now) }
     ensures undo { IfOk result (λ r. Restores r.undo (record { world = world.new; queue = queue.new }) (state_of world.old.world queue.old.queue)) }
     ensures world_err { OnErr result (world.new.world ≡ world.old.world) }
@@ -153,7 +156,8 @@ fn settled<L: Ledger>(
     requires others { OthersHaveNoMove world.old.world queue.old.queue.entries marks.old }
     requires undoable { Undoable world.old undo.old.backs }
     requires queue_undoable { QueueUndoable queue.old left.old }
-    ensures acted { IfOk result (λ told. step_of (state_of world.old.world queue.old.queue) day caller command.now ≡ record { state = state_of world.new.world queue.new.queue; reply = told.0 }) }
+    ensures acted { IfOk result (λ told. step_of (state_of world.old.world queue.old.queue) day caller command.now
+        ≡ record { state = state_of world.new.world queue.new.queue; reply = told.0 }) }
     ensures placed { IfOk result (λ told. told.1 ≡ placements (state_of world.old.world queue.old.queue) day caller command.now) }
     ensures tracked { Tracked world.old undo.old.backs queue.old left.old world.new undo.new.backs queue.new left.new }
     ensures others { OnOk result (OthersHaveNoMove world.new.world queue.new.queue.entries marks.new) }
@@ -183,7 +187,9 @@ fn place_all<L: Ledger>(
     requires others { OthersHaveNoMove world.old.world queue.old.queue.entries marks.old }
     requires undoable { Undoable world.old undo.old.backs }
     requires queue_undoable { QueueUndoable queue.old left.old }
-    ensures settled { IfOk result (λ told. settled_after (record { state = state_of world.old.world queue.old.queue; reply = reply }) ≡ record { state = state_of world.new.world queue.new.queue; reply = told.0 }) }
+    ensures settled { IfOk result (λ told. settled_after
+        (record { state = state_of world.old.world queue.old.queue; reply = reply })
+        ≡ record { state = state_of world.new.world queue.new.queue; reply = told.0 }) }
     ensures placed { IfOk result (λ told. told.1 ≡ (settled_from (state_of world.old.world queue.old.queue)).placed) }
     ensures tracked { Tracked world.old undo.old.backs queue.old left.old world.new undo.new.backs queue.new left.new }
     ensures others { OnOk result (OthersHaveNoMove world.new.world queue.new.queue.entries marks.new) }
@@ -209,7 +215,8 @@ fn answer<L: Ledger>(
     requires others { OthersHaveNoMove world.old.world queue.old.queue.entries marks.old }
     requires undoable { Undoable world.old undo.old.backs }
     requires queue_undoable { QueueUndoable queue.old left.old }
-    ensures acted { IfOk result (λ reply. answered (state_of world.old.world queue.old.queue) caller command.now ≡ record { state = state_of world.new.world queue.new.queue; reply = reply }) }
+    ensures acted { IfOk result (λ reply. answered (state_of world.old.world queue.old.queue) caller command.now
+        ≡ record { state = state_of world.new.world queue.new.queue; reply = reply }) }
     ensures tracked { Tracked world.old undo.old.backs queue.old left.old world.new undo.new.backs queue.new left.new }
     ensures others { OnOk result (OthersHaveNoMove world.new.world queue.new.queue.entries marks.new) }
 {
@@ -236,7 +243,8 @@ fn marked_act<L: Ledger>(
     requires others { OthersHaveNoMove world.old.world queue.old.queue.entries marks.old }
     requires undoable { Undoable world.old undo.old.backs }
     requires queue_undoable { QueueUndoable queue.old left.old }
-    ensures acted { IfOk result (λ reply. act_of (state_of world.old.world queue.old.queue) command.now ≡ record { state = state_of world.new.world queue.new.queue; reply = reply }) }
+    ensures acted { IfOk result (λ reply. act_of (state_of world.old.world queue.old.queue) command.now
+        ≡ record { state = state_of world.new.world queue.new.queue; reply = reply }) }
     ensures tracked { Tracked world.old undo.old.backs queue.old left.old world.new undo.new.backs queue.new left.new }
     ensures others { OnOk result (OthersHaveNoMove world.new.world queue.new.queue.entries marks.new) }
 {

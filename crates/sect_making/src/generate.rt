@@ -1,7 +1,18 @@
 // The commands that `make` generates.
 ghost use Rattle.std.specs.Prelude.{◌≡◌, ◌+◌, ◌*◌, ◌^◌, ◌<◌, ◌≤◌, [], ◌∷◌, IfOk};
 ghost use Rattle.sect_base.specs.declared.limit.Limit.TheVariants.{Unlimited};
-ghost use Rattle.sect_making.specs.Generated.{ask_of, batch_command, first_section, made_of, meeting_on, offering_command, requests_command, second_section, student_command, subparts_of};
+ghost use Rattle.sect_making.specs.Generated.{
+  ask_of,
+  batch_command,
+  first_section,
+  made_of,
+  meeting_on,
+  offering_command,
+  requests_command,
+  second_section,
+  student_command,
+  subparts_of,
+};
 
 use sect_base::{
     ConfigId, CourseId, Items, Limit, Memory, OfferingId, SectionId, StudentId, SubpartId,

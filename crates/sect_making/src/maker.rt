@@ -4,7 +4,19 @@ ghost use Rattle.sect_edge.specs.Causes.{Rose};
 ghost use Rattle.sect_machine.specs.Standing.{state_in};
 ghost use Rattle.sect_script.specs.declared.status.Status.{Status};
 ghost use Rattle.sect_making.specs.Generated.{made_of};
-ghost use Rattle.sect_making.specs.Made.{Makes, Prints, counted, lines_of, result_is_blocked, result_is_met, result_is_spent, summary_line, tallied, tally_from, tally_of};
+ghost use Rattle.sect_making.specs.Made.{
+  Makes,
+  Prints,
+  counted,
+  lines_of,
+  result_is_blocked,
+  result_is_met,
+  result_is_spent,
+  summary_line,
+  tallied,
+  tally_from,
+  tally_of,
+};
 ghost use Rattle.sect_making.specs.Stages.{stage_command, stage_count, tally_in};
 
 use crate::generate::{batch, offering, requests, student};

@@ -6,8 +6,55 @@ ghost use Rattle.sect_model.specs.World.{World};
 ghost use Rattle.sect_model.specs.Premises.{WorldKeeps};
 ghost use Rattle.sect_model.specs.Stands.{MoveStands};
 ghost use Rattle.sect_model.specs.Rest.{RestIsPath, RestHasOptions, RestExtends};
-ghost use Rattle.sect_model.specs.Freer.{NoFreerNoMove, PlainNoFreer, EnrolOpensNothing, EnrolElsewhere, LeaveElsewhere, ChangesOpenWhatTheyMay, NoMoveIsNotPlaced, BlockedHasNoMove, TouchedDecide, SpaciousLeaveOpensNothing, TouchesAreListed, WantsAreListed};
-ghost use Rattle.sect_model.specs.Laws.{PathsTellMoves, MovesHavePaths, CoverHasNoPath, CoverRefutes, CoverIsOne, RefutationCovers, FirstIsVisited, VisitsAreSteps, FoundIsAllowed, WalksAnswer, SearchAnswers, FullIsNotSpent, FullIsFixed, BlockedRefutes, StepRefutes, BatchRefutes, UnreservedAlone, Settles, SettledStays, SettleUnfolds, NextIsFirst, TicketsDecide, ExpiriesDecide, EmptyKeeps, ChangesKeep, RosterIsSmall, AcceptedFits, SettlingKeeps, StepKeeps, HistoryKeeps, HistoryIsGood, StepSettles, IdsActOnce};
+ghost use Rattle.sect_model.specs.Freer.{
+  NoFreerNoMove,
+  PlainNoFreer,
+  EnrolOpensNothing,
+  EnrolElsewhere,
+  LeaveElsewhere,
+  ChangesOpenWhatTheyMay,
+  NoMoveIsNotPlaced,
+  BlockedHasNoMove,
+  TouchedDecide,
+  SpaciousLeaveOpensNothing,
+  TouchesAreListed,
+  WantsAreListed,
+};
+ghost use Rattle.sect_model.specs.Laws.{
+  PathsTellMoves,
+  MovesHavePaths,
+  CoverHasNoPath,
+  CoverRefutes,
+  CoverIsOne,
+  RefutationCovers,
+  FirstIsVisited,
+  VisitsAreSteps,
+  FoundIsAllowed,
+  WalksAnswer,
+  SearchAnswers,
+  FullIsNotSpent,
+  FullIsFixed,
+  BlockedRefutes,
+  StepRefutes,
+  BatchRefutes,
+  UnreservedAlone,
+  Settles,
+  SettledStays,
+  SettleUnfolds,
+  NextIsFirst,
+  TicketsDecide,
+  ExpiriesDecide,
+  EmptyKeeps,
+  ChangesKeep,
+  RosterIsSmall,
+  AcceptedFits,
+  SettlingKeeps,
+  StepKeeps,
+  HistoryKeeps,
+  HistoryIsGood,
+  StepSettles,
+  IdsActOnce,
+};
 
 /// A complete path of decisions breaks no rule exactly where its choices are an allowed move.
 pub fn paths_tell_moves()

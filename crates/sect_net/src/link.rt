@@ -8,19 +8,19 @@ use std::io::{self, ErrorKind, Read};
 use std::net::{Shutdown, TcpListener, TcpStream};
 use std::time::{Duration, Instant};
 
-// How many seconds a read or a write of a connection may wait.
+/// How many seconds a read or a write of a connection may wait.
 const PATIENCE: u64 = 5;
 
-// For how many milliseconds the bytes that a client still sends are taken once it has been answered for the last time.
+/// For how many milliseconds the bytes that a client still sends are taken once it has been answered for the last time.
 const DRAIN: u64 = 200;
 
-// How many milliseconds one read of them may wait.
+/// How many milliseconds one read of them may wait.
 const PAUSE: u64 = 100;
 
-// How many reads of them there are at most.
+/// How many reads of them there are at most.
 const MOST_READS: u32 = 256;
 
-// How many connections in a row may be gone before they are accepted.
+/// How many connections in a row may be gone before they are accepted.
 const MOST_GONE: u32 = 1024;
 
 /// The connections of a listener, which several links may share. They have no end. It doesn't tell them.
@@ -57,7 +57,7 @@ pub fn links(
     Ok(links)
 }
 
-// The two ends of the next connection. What the client sends is answered at once, and no call waits for ever.
+/// The two ends of the next connection. What the client sends is answered at once, and no call waits for ever.
 fn accepted(listener: &TcpListener) -> io::Result<(TcpSource, TcpSink)> {
     let stream = next_stream(listener)?;
     let patience = Some(Duration::from_secs(PATIENCE));
@@ -68,7 +68,7 @@ fn accepted(listener: &TcpListener) -> io::Result<(TcpSource, TcpSink)> {
     Ok((TcpSource::new(stream), sink))
 }
 
-// The next connection that stands. A call that a signal interrupts is tried again by `accept`.
+/// The next connection that stands. A call that a signal interrupts is tried again by `accept`.
 fn next_stream(listener: &TcpListener) -> io::Result<TcpStream> {
     for _ in 0..MOST_GONE {
         match listener.accept() {
@@ -80,8 +80,8 @@ fn next_stream(listener: &TcpListener) -> io::Result<TcpStream> {
     Err(io::Error::from(ErrorKind::ConnectionAborted))
 }
 
-// Tells the client that no more is written, and takes for a while what it still sends. A stream that is dropped with bytes
-// unread is reset, and the client may lose its last answer by that.
+/// Tells the client that no more is written, and takes for a while what it still sends. A stream that is dropped with bytes
+/// unread is reset, and the client may lose its last answer by that.
 fn drain(rt: HostRuntime, mut stream: TcpStream) -> io::Result<()> {
     stream.shutdown(Shutdown::Write)?;
     stream.set_read_timeout(Some(Duration::from_millis(PAUSE)))?;

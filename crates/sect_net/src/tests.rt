@@ -8,19 +8,19 @@ use std::process::Abort;
 use std::thread;
 use std::time::{Duration, Instant};
 
-// A listener at a port that the system chose.
+/// A listener at a port that the system chose.
 fn listener(rt: HostRuntime) -> io::Result<TcpListener> {
     TcpListener::bind(&rt, "127.0.0.1:0")
 }
 
-// A client of the listener, which has sent this.
+/// A client of the listener, which has sent this.
 fn client(rt: HostRuntime, listener: &TcpListener, sent: &[u8]) -> io::Result<TcpStream> {
     let mut client = TcpStream::connect(&rt, listener.local_addr()?)?;
     client.write_all(sent)?;
     Ok(client)
 }
 
-// The next connection of the link, which waits.
+/// The next connection of the link, which waits.
 fn accept(rt: &impl Abort, link: &mut TcpLink<'_>) -> (TcpSource, TcpSink) {
     match link.accept() {
         Ok(Some(connection)) => connection,
@@ -78,7 +78,7 @@ fn a_client_that_is_gone_fails_the_writes(rt: HostRuntime) -> io::Result<()> {
     Ok(())
 }
 
-// Answers one connection by its first byte. Whether all of it went well.
+/// Answers one connection by its first byte. Whether all of it went well.
 fn echoes(mut link: TcpLink<'_>) -> bool {
     let Ok(Some((mut source, mut sink))) = link.accept() else {
         return false;

@@ -1,6 +1,18 @@
 // What the numbers rest on. The functions do nothing: the contract of each is a law.
 
-ghost use Rattle.sect_numbers.specs.Laws.{CountMore, CountedMore, UsedMore, CreditsMore, InsertedIsMore, PutBackIsMore, LeftIsMore, SectionsDiffer, EnrolIsMore, LeaveIsMore, CountedIds};
+ghost use Rattle.sect_numbers.specs.Laws.{
+  CountMore,
+  CountedMore,
+  UsedMore,
+  CreditsMore,
+  InsertedIsMore,
+  PutBackIsMore,
+  LeftIsMore,
+  SectionsDiffer,
+  EnrolIsMore,
+  LeaveIsMore,
+  CountedIds,
+};
 ghost use Rattle.sect_numbers.specs.Held.{HeldMore, SpaceByNumbers, ReservationMore, ReserveIsMore, UnreserveIsMore, ReservationPutBack, ExpiryTurns, DayTurns};
 ghost use Rattle.sect_numbers.specs.Quiet.{QuietKeepsCounts, ToldOfOthers, ToldBefore};
 ghost use Rattle.sect_numbers.specs.Own.{ActiveOfOffering, NoneActive};

@@ -75,7 +75,8 @@ impl Numbers {
     pub fn enrolled(&mut self, enrolment: &Enrolment, offering: Option<OfferingId>, over: bool)
         requires { (w : World) × (more : List Enrolment_of) × Told self.old w × OneMore w more enrolment.now offering over }
         ensures rows { (id : Reservation_id) → has_uses self.new id ≡ has_uses self.old id }
-        ensures told { (w : World) (more : List Enrolment_of) → Told self.old w → OneMore w more enrolment.now offering over → Told self.new (with_roster w more) }
+        ensures told { (w : World) (more : List Enrolment_of) → Told self.old w → OneMore w more enrolment.now offering over
+            → Told self.new (with_roster w more) }
     {
         self.step(Turn::In, enrolment, offering, over);
     }
@@ -84,7 +85,8 @@ impl Numbers {
     pub fn left(&mut self, enrolment: &Enrolment, offering: Option<OfferingId>, over: bool)
         requires { (w : World) × (more : List Enrolment_of) × Told self.old (with_roster w more) × OneMore w more enrolment.now offering over }
         ensures rows { (id : Reservation_id) → has_uses self.new id ≡ has_uses self.old id }
-        ensures told { (w : World) (more : List Enrolment_of) → Told self.old (with_roster w more) → OneMore w more enrolment.now offering over → Told self.new w }
+        ensures told { (w : World) (more : List Enrolment_of) → Told self.old (with_roster w more)
+            → OneMore w more enrolment.now offering over → Told self.new w }
     {
         self.step(Turn::Out, enrolment, offering, over);
     }

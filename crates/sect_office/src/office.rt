@@ -27,7 +27,8 @@ impl<V: Chronicle> OfficeOf<V> {
     /// An office for the desk, and the pass with the whole share.
     pub fn open(alloc: Global, desk: V) -> Result<(OfficeOf<V>, Pass<V>), (Memory, V)>
         ensures turn { IfOk result (λ t. IsPassOf V.notes V.base t.0.turn t.1 × IsIdle t.1) }
-        ensures pass { IfOk result (λ t. (front t.1 ≡ (V.notes desk)) × (own_calls t.1 ≡ []) × (share t.1 ≡ whole_share) × (opening t.1 ≡ (length (V.notes desk), V.base desk))) }
+        ensures pass { IfOk result (λ t. (front t.1 ≡ (V.notes desk)) × (own_calls t.1 ≡ []) × (share t.1 ≡ whole_share)
+            × (opening t.1 ≡ (length (V.notes desk), V.base desk))) }
         ensures err { IfErr result (λ e. e.1 ≡ desk) }
     {
         let (turn, pass) = Turn::open(alloc, desk)?;
@@ -40,7 +41,8 @@ impl<V: Chronicle> OfficeOf<V> {
         requires idle { IsIdle pass.old }
         requires share { 1 < share pass.old }
         ensures turn { IsPassOf V.notes V.base self.now.turn pass.new × IsIdle pass.new }
-        ensures old { (front pass.new ≡ front pass.old) × (own_calls pass.new ≡ own_calls pass.old) × (share pass.new ≡ share pass.old - 1) × (opening pass.new ≡ opening pass.old) }
+        ensures old { (front pass.new ≡ front pass.old) × (own_calls pass.new ≡ own_calls pass.old)
+            × (share pass.new ≡ share pass.old - 1) × (opening pass.new ≡ opening pass.old) }
         ensures new_turn { IsPassOf V.notes V.base self.now.turn result × IsIdle result }
         ensures new { (front result ≡ front pass.old) × (own_calls result ≡ []) × (share result ≡ 1) × (opening result ≡ opening pass.old) }
     {
@@ -93,7 +95,8 @@ impl<V: Chronicle> OfficeOf<V> {
 }
 
 impl<O: Object, K: Keeper> OfficeOf<Desk<O, K>> {
-    /// Asks a request that may be asked. The reply is the object's at the returned place of the pass's new front. A new own call stands behind the old front, where its id was new.
+    /// Asks a request that may be asked. The reply is the object's at the returned place of the pass's new front. A
+    /// new own call stands behind the old front, where its id was new.
     pub fn ask<R: Wait>(
         &self,
         rt: &R,

@@ -63,7 +63,9 @@ fn run_rest<V: Chronicle + Send, W: Work<V> + Send + Drop, R: Threads + Wait + S
         (own, given)
     };
     let rest = move || -> (Pass<V>, Vec<W::Given>)
-        requires { IsSync R.row × IsSend V.row × IsSend W.row × IsSend W.Given.row × (IsPassOf V.notes V.base office.now.turn pass × IsIdle pass) × (vec_len works < share pass) × ((given.items ≡ []) × (vec_len works ≤ vec_capacity given)) }
+        requires { IsSync R.row × IsSend V.row × IsSend W.row × IsSend W.Given.row
+            × (IsPassOf V.notes V.base office.now.turn pass × IsIdle pass) × (vec_len works < share pass)
+            × ((given.items ≡ []) × (vec_len works ≤ vec_capacity given)) }
         ensures turn { IsPassOf V.notes V.base office.entry.now.turn result.0 × IsIdle result.0 }
         ensures same { (share result.0 ≡ share pass) × (opening result.0 ≡ opening pass) }
         ensures grown { IsPrefix (front pass) (front result.0) }

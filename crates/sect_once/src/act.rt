@@ -19,14 +19,14 @@ use sect_time::Day;
 use std::alloc::Global;
 use std::collections::HashMap;
 
-// A step that was taken: its entry, a copy of the reply, and how to undo it.
+/// A step that was taken: its entry, a copy of the reply, and how to undo it.
 pub(crate) struct Stepped<C, R, U> {
     pub(crate) entry: Entry<C, R>,
     pub(crate) reply: R,
     pub(crate) undo: U,
 }
 
-// A copy of the entry's reply. The entry's row stands in the buffer alone.
+/// A copy of the entry's reply. The entry's row stands in the buffer alone.
 fn written<O: Object>(
     alloc: Global,
     entry: &Entry<O::Command, O::Reply>,
@@ -42,7 +42,7 @@ fn written<O: Object>(
     Ok(reply)
 }
 
-// Steps the object, and prints what is to be kept of it, which has a row.
+/// Steps the object, and prints what is to be kept of it, which has a row.
 fn step<O: Object>(
     alloc: Global,
     object: &mut O,
@@ -75,7 +75,7 @@ fn step<O: Object>(
     }
 }
 
-// Appends the row, and gives the id its place.
+/// Appends the row, and gives the id its place.
 fn keep<K: Keeper>(
     places: &mut HashMap<u128, u32>,
     keeper: &mut K,
@@ -115,7 +115,9 @@ impl<O: Object> Past<O> {
         requires new { IsNew id self.old.entries }
         requires notes { length self.old.entries < 2 ^ 20 }
         requires bytes { AreHeavy O.is_row self.old.entries → ⊥ }
-        ensures ok { IfOk result (λ reply. Adds O.stepped O.is_row (record { id = id; day = day; command = command; reply = reply }) self.old self.new (K.rows keeper.old) (K.rows keeper.new)) }
+        ensures ok { IfOk result (λ reply. Adds O.stepped O.is_row
+            (record { id = id; day = day; command = command; reply = reply }) self.old self.new (K.rows keeper.old)
+            (K.rows keeper.new)) }
         ensures same { OnErr result (self.new ≡ self.old) }
         ensures rows { OnErr result (KeepsRows (K.rows keeper.old) (K.rows keeper.new)) }
         ensures cause { HasCauseFor KeepFault.Failed (K.faults keeper.old) (K.faults keeper.new) result }

@@ -14,7 +14,7 @@ use sect_edge::{KeepFault, Keeper};
 use sect_time::Day;
 
 impl<O: Object, K: Keeper> Desk<O, K> {
-    // The kept reply of a request that acted.
+    /// The kept reply of a request that acted.
     fn repeat(&self, place: u32) -> Answer<O::Reply>
         requires { place < length (history self.now.log) }
         ensures { (result ≡ NoMemory) ⊎ ((e : Entry O.Command O.Reply) × (slice_get (history self.now.log) place ≡ Some e) × (result ≡ Done place e.reply)) }
@@ -25,7 +25,7 @@ impl<O: Object, K: Keeper> Desk<O, K> {
         }
     }
 
-    // A new request acts.
+    /// A new request acts.
     fn act(&mut self, id: Id, day: Day, command: O::Command) -> Answer<O::Reply>
         requires askable { O.may_ask id day command }
         requires new { IsNew id (history self.old.log) }
@@ -54,7 +54,7 @@ impl<O: Object, K: Keeper> Desk<O, K> {
         }
     }
 
-    // Answers a request.
+    /// Answers a request.
     fn answer(&mut self, id: Id, day: Day, command: O::Command) -> Answer<O::Reply>
         requires { O.may_ask id day command }
         ensures { Answers O.stepped O.is_row K.rows K.faults id day command self.old self.new result }

@@ -19,7 +19,7 @@ pub enum Note<C, R> {
     Faulted(Id),
 }
 
-// What a note of the log is, where the entries stand apart.
+/// What a note of the log is, where the entries stand apart.
 #[derive(Clone, Copy)]
 pub(crate) enum Mark {
     Acts,

@@ -4,7 +4,7 @@ ghost use Rattle.sect_once.specs.History.{caller_key, key_of};
 
 use sect_base::{Caller, Id};
 
-// A caller as one number.
+/// A caller as one number.
 fn caller_key(caller: Caller) -> u64
     ensures key { result ≡ caller_key caller }
     ensures small { result < 2 ^ 33 }
@@ -15,7 +15,7 @@ fn caller_key(caller: Caller) -> u64
     }
 }
 
-// A caller's key and a number of a request, as one number.
+/// A caller's key and a number of a request, as one number.
 fn joined(caller: u64, number: u64) -> u128
     requires { caller < 2 ^ 33 }
     ensures whole { result ≡ caller * 2 ^ 64 + number }

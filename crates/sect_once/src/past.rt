@@ -1,5 +1,26 @@
 // What has acted: the object with the entries that brought it where it is, and the place of each id.
-ghost use Rattle.std.specs.Prelude.{◌≡◌, ℕ, ◌↔◌, ◌<◌, ◌≤◌, ◌^◌, ◌==◌, nat_eq, true, false, [], length, slice_get, cond, IfNone, IfSome, IsTrue, Some, OnErr, OnOk};
+ghost use Rattle.std.specs.Prelude.{
+  ◌≡◌,
+  ℕ,
+  ◌↔◌,
+  ◌<◌,
+  ◌≤◌,
+  ◌^◌,
+  ◌==◌,
+  nat_eq,
+  true,
+  false,
+  [],
+  length,
+  slice_get,
+  cond,
+  IfNone,
+  IfSome,
+  IsTrue,
+  Some,
+  OnErr,
+  OnOk,
+};
 ghost use Rattle.std.specs.HashMap.{get};
 ghost use Rattle.sect_base.specs.declared.limit.Id.{Id};
 ghost use Rattle.sect_once.specs.Desks.{FindsIn, IsTrail, SeesEntry};
@@ -42,7 +63,7 @@ pub(crate) const MOST_NOTES: usize = 1 << 20;
 /// The bytes of rows with which a log is full.
 pub(crate) const MOST_BYTES: u64 = 1 << 28;
 
-// Gives an id its place.
+/// Gives an id its place.
 pub(crate) fn place_in(places: &mut HashMap<u128, u32>, id: &Id, place: u32) -> Result<(), Memory>
     ensures small { id.now.number < 2 ^ 64 }
     ensures places { OnOk result ((q : ℕ) → get nat_eq places.new q ≡ cond (key_of id.now == q) (Some place) (get nat_eq places.old q)) }
@@ -59,7 +80,7 @@ fn entry_at<C, R>(entries: &[Entry<C, R>], place: u32) -> &Entry<C, R>
     &entries[place as usize]
 }
 
-// What an entry is to a command with its id.
+/// What an entry is to a command with its id.
 fn seen_at<O: Object>(entry: &Entry<O::Command, O::Reply>, place: u32, command: &O::Command) -> Seen
     ensures { SeesEntry entry.now place command.now result }
 {
@@ -106,7 +127,7 @@ impl<O: Object> Past<O> {
         entry_at(self.entries.as_slice(), place)
     }
 
-    // The entry with an id, and its place.
+    /// The entry with an id, and its place.
     fn entry_with(&self, id: &Id) -> Option<(u32, &Entry<O::Command, O::Reply>)>
         ensures found { IfSome result (λ r. (slice_get self.now.entries r.0 ≡ Some r.1.now) × (r.1.now.id ≡ id.now)) }
         ensures none { IfNone result (IsNew id.now self.now.entries) }

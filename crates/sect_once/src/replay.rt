@@ -15,7 +15,7 @@ use sect_edge::Keeper;
 use std::alloc::{AllocError, Global};
 use std::snapshot::Snapshot;
 
-// As many marks of requests that acted.
+/// As many marks of requests that acted.
 fn acts(alloc: Global, count: usize) -> Result<Vec<Mark>, AllocError>
     ensures { IfOk result (λ marks. marks.items ≡ replicate count Acts) }
 {
@@ -23,14 +23,14 @@ fn acts(alloc: Global, count: usize) -> Result<Vec<Mark>, AllocError>
 }
 
 impl<O: Object> Past<O> {
-    // Whether the log of these entries alone is full.
+    /// Whether the log of these entries alone is full.
     fn is_full(&self) -> bool
         ensures { IsTrue result ↔ IsFull O.is_row (acted_log self.now.entries) }
     {
         self.entries.len() >= MOST_NOTES || self.is_heavy()
     }
 
-    // Takes the entry where its reply is the object's. Else, and after want of memory, all is as before.
+    /// Takes the entry where its reply is the object's. Else, and after want of memory, all is as before.
     fn resume(&mut self, entry: Entry<O::Command, O::Reply>, row: &[u8]) -> Result<bool, Memory>
         requires room { IsFull O.is_row (acted_log self.old.entries) → ⊥ }
         requires written { O.is_row entry row.now }
@@ -60,7 +60,7 @@ impl<O: Object> Past<O> {
         }
     }
 
-    // Takes a row behind the entries. Where it's bad, and after want of memory, all is as before.
+    /// Takes a row behind the entries. Where it's bad, and after want of memory, all is as before.
     fn take(&mut self, alloc: Global, row: &[u8]) -> Result<bool, Memory>
         ensures taken { IfOk result (Takes O.start O.stepped O.is_row self.old self.new row.now) }
         ensures err { OnErr result (self.new ≡ self.old) }
@@ -77,7 +77,7 @@ impl<O: Object> Past<O> {
         self.resume(entry, row)
     }
 
-    // Takes the keeper's row with the number of the entries.
+    /// Takes the keeper's row with the number of the entries.
     fn take_next<K: Keeper>(
         &mut self,
         alloc: Global,
@@ -102,7 +102,7 @@ impl<O: Object> Past<O> {
         }
     }
 
-    // Replays the keeper's rows.
+    /// Replays the keeper's rows.
     fn replay<K: Keeper>(alloc: Global, keeper: &mut K) -> Result<Past<O>, OpenFault>
     where
         O: Drop,
@@ -123,7 +123,7 @@ impl<O: Object> Past<O> {
 }
 
 impl<O: Object, K: Keeper> Desk<O, K> {
-    // The desk of a keeper's rows.
+    /// The desk of a keeper's rows.
     fn replayed(alloc: Global, keeper: K) -> Result<Desk<O, K>, (OpenFault, K)>
     where
         O: Drop,

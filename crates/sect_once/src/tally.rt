@@ -102,7 +102,7 @@ impl Object for Tally {
     ghost next_has_row = { tally_next_has_row };
 }
 
-// The letter of a caller.
+/// The letter of a caller.
 fn tag_of(caller: Caller) -> u8
     ensures { result ≡ caller_tag caller }
 {
@@ -112,7 +112,7 @@ fn tag_of(caller: Caller) -> u8
     }
 }
 
-// The number of a caller.
+/// The number of a caller.
 fn number_of(caller: Caller) -> u32
     ensures { result ≡ caller_number caller }
 {
@@ -122,7 +122,7 @@ fn number_of(caller: Caller) -> u32
     }
 }
 
-// The number of a day.
+/// The number of a day.
 fn day_number(day: Day) -> u32
     ensures same { result ≡ day }
     ensures range { result ≤ 84005 }
@@ -130,7 +130,7 @@ fn day_number(day: Day) -> u32
     day.get() as u32
 }
 
-// The row of an entry with these parts.
+/// The row of an entry with these parts.
 fn row_of(day: Day, caller: Caller, number: u64, command: u8, sum: u64) -> [u8; 26]
     ensures { IsTallyRow (record { id = record { caller = caller; number = number }; day = day; command = command; reply = sum }) result }
 {
@@ -167,7 +167,7 @@ fn u64_at(row: &[u8], at: usize) -> u64
     ])
 }
 
-// The day with this number, where there is one.
+/// The day with this number, where there is one.
 fn day_of(number: u32) -> Option<Day>
     ensures found { IfSome result (λ day. (day ≡ number) × (day ≤ 84005)) }
     ensures none { IfNone result (84005 < number) }
@@ -179,7 +179,7 @@ fn day_of(number: u32) -> Option<Day>
     }
 }
 
-// The caller with this letter and number, where there is one.
+/// The caller with this letter and number, where there is one.
 fn caller_of(tag: u8, number: u32) -> Option<Caller>
     ensures found { IfSome result (λ caller. (caller_tag caller ≡ tag) × (caller_number caller ≡ number)) }
     ensures none { IfNone result ((caller : Caller) → caller_tag caller ≡ tag → ⊥) }
@@ -191,7 +191,7 @@ fn caller_of(tag: u8, number: u32) -> Option<Caller>
     }
 }
 
-// The entry of a row of the right length.
+/// The entry of a row of the right length.
 fn entry_of(row: &[u8]) -> Option<Entry<u8, u64>>
     requires { length row.now ≡ 26 }
     ensures found { IfSome result (λ entry. IsTallyRow entry row.now) }

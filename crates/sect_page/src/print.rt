@@ -59,7 +59,7 @@ fn shown_body(headless: bool, body: &[u8]) -> &[u8]
     if headless { b"" } else { body }
 }
 
-// Appends what stands before the length of the body.
+/// Appends what stands before the length of the body.
 #[tactic(auto, unfolding(crate::specs::Pages::page_front))]
 fn print_front(page: &Page, into: &mut Vec<u8>) -> Result<(), Memory>
     ensures text { OnOk result (into.new.items ≡ into.old.items ++ page_front page.now) }
@@ -81,7 +81,7 @@ fn print_front(page: &Page, into: &mut Vec<u8>) -> Result<(), Memory>
     )
 }
 
-// Appends what stands between the length and the body.
+/// Appends what stands between the length and the body.
 #[tactic(auto, unfolding(crate::specs::Pages::page_end))]
 fn print_end(page: &Page, into: &mut Vec<u8>) -> Result<(), Memory>
     ensures text { OnOk result (into.new.items ≡ into.old.items ++ page_end page.now) }
@@ -100,7 +100,7 @@ fn print_end(page: &Page, into: &mut Vec<u8>) -> Result<(), Memory>
     )
 }
 
-// Appends an answer. After `Memory` a part of it may stand at the end.
+/// Appends an answer. After `Memory` a part of it may stand at the end.
 fn write_page(page: &Page, headless: bool, body: &[u8], into: &mut Vec<u8>) -> Result<(), Memory>
     ensures text { OnOk result (into.new.items ≡ into.old.items ++ page_text page.now headless body.now) }
     ensures front { take (length into.old.items) into.new.items ≡ into.old.items }

@@ -19,7 +19,7 @@ pub struct SqliteKeeper {
     faults: u64,
 }
 
-// It is written out, so that a caller does not prove again how each part is dropped.
+/// It is written out, so that a caller does not prove again how each part is dropped.
 impl Drop for SqliteKeeper {
     fn drop(self) {
         let SqliteKeeper {

@@ -12,7 +12,7 @@ use sect_base::Memory;
 use std::alloc::Global;
 use std::marker::Model;
 
-// The last bytes of a text, and how many of their rows were given.
+/// The last bytes of a text, and how many of their rows were given.
 #[derive(Drop)]
 pub(crate) struct Kept {
     bytes: Vec<u8>,
@@ -40,7 +40,7 @@ impl Kept {
         }
     }
 
-    // Takes the next piece, and gives the rows that it shows. What the rows to come don't need goes by.
+    /// Takes the next piece, and gives the rows that it shows. What the rows to come don't need goes by.
     pub(crate) fn feed(&mut self, alloc: Global, piece: &[u8]) -> Result<Vec<ByteRecord>, Memory>
         ensures rows { IfOk result (λ rows. shown_rows (self.old ++ piece.now) ≡ shown_rows self.old ++ map fields_of rows.items) }
         ensures stands { OnOk result (StandsFor (self.old ++ piece.now) self.new) }
@@ -71,7 +71,7 @@ impl Kept {
         Ok(rows)
     }
 
-    // The rows that were not given, the text being at its end.
+    /// The rows that were not given, the text being at its end.
     pub(crate) fn end(&self, alloc: Global) -> Result<Vec<ByteRecord>, Memory>
         ensures { IfOk result (λ rows. all_rows self.now ≡ shown_rows self.now ++ map fields_of rows.items) }
     {

@@ -3,7 +3,7 @@
 ghost use Rattle.std.specs.Prelude.{◌≡◌, ◌≤◌, length, take};
 ghost use Rattle.sect_records.specs.Rows.{through_last_feed};
 
-// How many bytes stand through the last line feed.
+/// How many bytes stand through the last line feed.
 pub(crate) fn lines_len(bytes: &[u8]) -> usize
     ensures within { result ≤ length bytes.now }
     ensures lines { through_last_feed bytes.now ≡ take result bytes.now }

@@ -5,7 +5,7 @@ ghost use Rattle.std.specs.Borrow.{ftrue};
 
 use std::marker::{Model, PhantomData};
 
-// The bytes that came. It takes no memory, and its methods do nothing at run time.
+/// The bytes that came. It takes no memory, and its methods do nothing at run time.
 #[derive(Drop)]
 pub(crate) struct Past {
     marker: PhantomData<u8>,

@@ -11,15 +11,15 @@ use sect_base::Memory;
 use std::alloc::Global;
 use std::io::Read;
 
-// The rows that ended within some lines. It is whole where nothing of a row is left behind them.
+/// The rows that ended within some lines. It is whole where nothing of a row is left behind them.
 #[derive(Drop)]
 pub(crate) struct Ended {
     pub(crate) rows: Vec<ByteRecord>,
     pub(crate) whole: bool,
 }
 
-// The rows that ended within these lines. One more byte stands behind them for the reader: it is the last row by
-// itself where nothing of a row is left, and else a part of it.
+/// The rows that ended within these lines. One more byte stands behind them for the reader: it is the last row by
+/// itself where nothing of a row is left, and else a part of it.
 pub(crate) fn read_lines(alloc: Global, lines: &[u8]) -> Result<Ended, Memory>
     requires { AreLines lines.now }
     ensures rows { IfOk result (λ ended. map fields_of ended.rows.items ≡ rows_within at_start (strip_bom lines.now)) }
@@ -42,7 +42,7 @@ fn is_one_byte(row: &ByteRecord) -> bool
     }
 }
 
-// Every row of a text that stands in two parts.
+/// Every row of a text that stands in two parts.
 pub(crate) fn read_all(alloc: Global, text: &[u8], tail: &[u8]) -> Result<Vec<ByteRecord>, Memory>
     ensures { IfOk result (λ rows. map fields_of rows.items ≡ all_rows (text.now ++ tail.now)) }
 {

@@ -84,7 +84,9 @@ fn one_more(rows: usize) -> Option<Refusal>
 
 /// The fault of a reservation's row, none where the offering is unknown.
 fn reservation_fault(world: &World, row: &ReserveRow) -> Option<ReserveFault>
-    ensures { result ≡ option_and_then (λ o. reserve_fault_of o row.now.id.0 (is_some (reservation_of world.now.world row.now.id)) true row.now.audience row.now.configs row.now.sections) (find_offering world.now.world.catalogue.rows row.now.offering) }
+    ensures { result ≡ option_and_then (λ o. reserve_fault_of o row.now.id.0
+        (is_some (reservation_of world.now.world row.now.id)) true row.now.audience row.now.configs row.now.sections)
+        (find_offering world.now.world.catalogue.rows row.now.offering) }
 {
     let offering = world.catalogue().offering(row.offering)?;
     reserve_fault(
@@ -123,7 +125,9 @@ pub fn restrict(world: &World, row: &RestrictRow) -> Option<Refusal>
 
 /// The fault of a restriction's row, none where the offering is unknown.
 fn restriction_fault(world: &World, row: &RestrictRow) -> Option<ReserveFault>
-    ensures { result ≡ option_and_then (λ o. reserve_fault_of o row.now.id.0 (is_some (restriction_of world.now.world row.now.id)) false row.now.audience row.now.configs row.now.sections) (find_offering world.now.world.catalogue.rows row.now.offering) }
+    ensures { result ≡ option_and_then (λ o. reserve_fault_of o row.now.id.0
+        (is_some (restriction_of world.now.world row.now.id)) false row.now.audience row.now.configs row.now.sections)
+        (find_offering world.now.world.catalogue.rows row.now.offering) }
 {
     let offering = world.catalogue().offering(row.offering)?;
     reserve_fault(

@@ -4,7 +4,13 @@ ghost use Rattle.std.specs.Prelude.{◌≡◌, ℕ, ◌&&◌, ◌||◌, ◌==◌
 ghost use Rattle.std.specs.Bool.{then_some};
 ghost use Rattle.std.specs.List.{list_any};
 ghost use Rattle.std.specs.Option.{option_or, option_to_list};
-ghost use Rattle.sect_model.specs.Refusals.{unknown_course as courses_fault, not_enrolled_in as given_fault, is_empty_want, too_many as many_of, many_in_wants as wants_counts};
+ghost use Rattle.sect_model.specs.Refusals.{
+  unknown_course as courses_fault,
+  not_enrolled_in as given_fault,
+  is_empty_want,
+  too_many as many_of,
+  many_in_wants as wants_counts,
+};
 ghost use Rattle.sect_refuse.specs.Refused.{refused, refused_with};
 
 use crate::held::{not_enrolled, not_enrolled_in};

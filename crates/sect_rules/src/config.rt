@@ -58,7 +58,8 @@ impl Moment<'_> {
         sections: &[SectionId],
         rows: &[Restriction],
     ) -> bool
-        ensures { result ≡ list_any (λ r. applies_to self.now.at self.now.student course r.audience && admits_places (subparts_of self.now.at course config) config sections.now r.includes) rows.now }
+        ensures { result ≡ list_any (λ r. applies_to self.now.at self.now.student course r.audience && admits_places
+            (subparts_of self.now.at course config) config sections.now r.includes) rows.now }
     {
         let subparts = self.subparts(course, config);
         rows.iter().any(|r| {
@@ -74,7 +75,8 @@ impl Moment<'_> {
         config: ConfigId,
         sections: &[SectionId],
     ) -> bool
-        ensures { result ≡ restricted_by (subparts_of self.now.at course config) config sections.now (restrictions_for self.now.at self.now.student course offering) }
+        ensures { result ≡ restricted_by (subparts_of self.now.at course config) config sections.now
+            (restrictions_for self.now.at self.now.student course offering) }
     {
         let rows = self.restrictions(offering);
         self.any_applies(course, rows) && !self.any_admits(course, config, sections, rows)
@@ -88,7 +90,9 @@ impl Moment<'_> {
         config: ConfigId,
     ) -> Option<(Rule, u32)>
         requires { IsTrue (own_config self.now.at course config) }
-        ensures { result ≡ first_broken (option_map_or (λ o. config_rules self.now.at self.now.student o course (option_and_then (reservation_of self.now.at) id) config) (offering_of self.now.at course) []) }
+        ensures { result ≡ first_broken (option_map_or
+            (λ o. config_rules self.now.at self.now.student o course (option_and_then (reservation_of self.now.at) id) config)
+            (offering_of self.now.at course) []) }
     {
         self.keeps();
         let offering = self.offering(course)?.id;

@@ -9,7 +9,13 @@ ghost use Rattle.sect_rules.specs.Overlapped.{overlapped};
 ghost use Rattle.sect_model.specs.World.{reservation_of, offering_of, credits_of, held_by};
 ghost use Rattle.sect_model.specs.Choice.{subparts_of};
 ghost use Rattle.sect_model.specs.Counts.{count_of, used_of};
-ghost use Rattle.sect_model.specs.Allowed.{reservations_of, restrictions_of, holds_offering as has_offering, max_credits as most_credits, credits_held as credits_of_student};
+ghost use Rattle.sect_model.specs.Allowed.{
+  reservations_of,
+  restrictions_of,
+  holds_offering as has_offering,
+  max_credits as most_credits,
+  credits_held as credits_of_student,
+};
 ghost use Rattle.sect_model.specs.Space.{places_at};
 ghost use Rattle.sect_model.specs.Stands.{MoveStands};
 ghost use Rattle.sect_model.specs.Rules.{world_at};

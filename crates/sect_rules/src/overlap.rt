@@ -142,7 +142,8 @@ impl Moment<'_> {
         give: &[CourseId],
         held: &[Enrolment],
     ) -> Option<u32>
-        ensures { result ≡ least (flat_map (λ e. cond (given_up give.now e.choice.course) [] (overlapped self.now.at permitted meetings.now e.choice)) held.now) }
+        ensures { result ≡ least (flat_map (λ e. cond (given_up give.now e.choice.course) []
+            (overlapped self.now.at permitted meetings.now e.choice)) held.now) }
     {
         let mut least = None;
         for e in held {
@@ -172,7 +173,8 @@ impl Moment<'_> {
         meetings: &[Meeting],
     ) -> Option<u32>
         requires { meetings.now ≡ meetings_of self.now.at section }
-        ensures { result ≡ least (held_overlaps self.now.at self.now.student (option_copied r.entry) section ++ own_overlaps self.now.at (option_copied r.entry) earlier.now section) }
+        ensures { result ≡ least (held_overlaps self.now.at self.now.student (option_copied r.entry) section
+            ++ own_overlaps self.now.at (option_copied r.entry) earlier.now section) }
     {
         lesser_of(
             self.least_held(is_overlapping(r), meetings),

@@ -126,7 +126,9 @@ impl Moment<'_> {
         course: CourseId,
         id: Option<ReservationId>,
     ) -> Option<(Rule, u32)>
-        ensures { result ≡ first_broken (option_map_or (λ o. reservation_rules self.now.at self.now.student o course (option_and_then (reservation_of self.now.at) id)) (offering_of self.now.at course) []) }
+        ensures { result ≡ first_broken (option_map_or
+            (λ o. reservation_rules self.now.at self.now.student o course (option_and_then (reservation_of self.now.at) id))
+            (offering_of self.now.at course) []) }
     {
         let offering = self.offering(course)?;
         let r = self.named(id);

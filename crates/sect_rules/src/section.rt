@@ -122,7 +122,8 @@ impl Moment<'_> {
         sections: &[SectionId],
         section: SectionId,
     ) -> bool
-        ensures { result ≡ option_map_or (λ r. option_map_or (λ p. not (has_section r.includes p.id section)) (next_subpart self.now.at course config sections.now) false) (option_copied r.entry) false }
+        ensures { result ≡ option_map_or (λ r. option_map_or (λ p. not (has_section r.includes p.id section))
+            (next_subpart self.now.at course config sections.now) false) (option_copied r.entry) false }
     {
         match r {
             Some(r) => match self.subparts(course, config).get(sections.len()) {
@@ -232,7 +233,9 @@ impl Moment<'_> {
         section: SectionId,
     ) -> Option<(Rule, u32)>
         requires { IsTrue (own_section self.now.at course config sections section) }
-        ensures { result ≡ first_broken (option_map_or (λ o. section_rules self.now.at self.now.student want.now o course (option_and_then (reservation_of self.now.at) id) config sections section) (offering_of self.now.at course) []) }
+        ensures { result ≡ first_broken (option_map_or
+            (λ o. section_rules self.now.at self.now.student want.now o course
+            (option_and_then (reservation_of self.now.at) id) config sections section) (offering_of self.now.at course) []) }
     {
         self.keeps();
         let offering = self.offering(course)?;

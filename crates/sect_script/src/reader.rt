@@ -1,5 +1,28 @@
 // Reads lines from a source in pieces.
-ghost use Rattle.std.specs.Prelude.{◌≡◌, ◌≢◌, ◌<◌, ◌≤◌, ◌+◌, ◌++◌, ◌∷◌, [], List, ℕ, Ok, All, length, take, slice_index, IfSome, IfNone, IfOk, OnOk, OnErr, IsTrue, ◌↔◌};
+ghost use Rattle.std.specs.Prelude.{
+  ◌≡◌,
+  ◌≢◌,
+  ◌<◌,
+  ◌≤◌,
+  ◌+◌,
+  ◌++◌,
+  ◌∷◌,
+  [],
+  List,
+  ℕ,
+  Ok,
+  All,
+  length,
+  take,
+  slice_index,
+  IfSome,
+  IfNone,
+  IfOk,
+  OnOk,
+  OnErr,
+  IsTrue,
+  ◌↔◌,
+};
 ghost use Rattle.std.specs.Io.KnownBytes.{Consumes, Keeps, IsAtEnd};
 ghost use Rattle.sect_edge.specs.Causes.{HasCause, HasCauseFor};
 ghost use Rattle.sect_script.specs.declared.reader.LineEnd.TheVariants as ends;
@@ -127,7 +150,7 @@ impl LineReader {
         }
     }
 
-    // Takes the next piece from the source. Nothing stands ready then only at the end.
+    /// Takes the next piece from the source. Nothing stands ready then only at the end.
     fn refill<S: Source>(&mut self, source: &mut S) -> Result<(), Failed>
         requires { self.old ≡ [] }
         ensures ok { OnOk result (Consumes (S.left source.old) (S.left source.new) self.new) }
@@ -141,8 +164,8 @@ impl LineReader {
         Ok(())
     }
 
-    // Moves the bytes before the next line feed behind the line, or all that there are. True where it came to
-    // a line feed.
+    /// Moves the bytes before the next line feed behind the line, or all that there are. True where it came to
+    /// a line feed.
     fn move_line(&mut self, line: &mut Vec<u8>) -> Result<bool, AllocError>
         ensures { IfOk result (λ found. Moves found self.old self.new line.old.items line.new.items) }
     {
@@ -162,7 +185,7 @@ impl LineReader {
     }
 }
 
-// The place of the first line feed.
+/// The place of the first line feed.
 fn line_feed_at(bytes: &[u8]) -> Option<usize>
     ensures within { IfSome result (λ at. at < length bytes.now) }
     ensures found { IfSome result (λ at. slice_index bytes.now at ≡ 10) }

@@ -89,7 +89,7 @@ pub fn run_lines<S: Source, K: Sink, H: Handler>(
     }
 }
 
-// Reads and answers one line. The end is there where the run ends, but for the writing of what was gathered.
+/// Reads and answers one line. The end is there where the run ends, but for the writing of what was gathered.
 fn turn<S: Source, K: Sink, H: Handler>(
     reader: &mut LineReader,
     source: &mut S,
@@ -131,7 +131,7 @@ fn turn<S: Source, K: Sink, H: Handler>(
     }
 }
 
-// Answers one line. The end is there where the run ends.
+/// Answers one line. The end is there where the run ends.
 fn answer_line<K: Sink, H: Handler>(
     sink: &mut K,
     handler: &mut H,

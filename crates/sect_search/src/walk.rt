@@ -66,7 +66,11 @@ fn visit<const N: usize>(
     requires room { length mv.now.take ≤ N }
     requires option { Contains (options_at world.now.world mv.now path.now) pick }
     requires some { 0 < decisions }
-    ensures found { IfOk result (λ r. seen r left.new ≡ search_pick (leaf_of world.now.world mv.now path.now pick) (is_complete mv.now (extend world.now.world path.now pick)) (extend world.now.world path.now pick).done (search_from world.now.world mv.now (decisions - 1) (extend world.now.world path.now pick)) (λ left. refuted [] left) left.old) }
+    ensures found { IfOk result (λ r. seen r left.new
+        ≡ search_pick (leaf_of world.now.world mv.now path.now pick) (is_complete mv.now (extend world.now.world path.now pick))
+        (extend world.now.world path.now pick).done
+        (search_from world.now.world mv.now (decisions - 1) (extend world.now.world path.now pick))
+        (λ left. refuted [] left) left.old) }
     ensures numbers { IfOk result SeenNumbers }
     ensures less { left.new ≤ left.old }
 {

@@ -34,7 +34,8 @@ fn add_courses<O: Object<Query = Query, View = View>, K: Keeper>(
     offering: OfferingId,
     courses: &mut Vec<OpenCourse>,
 ) -> Result<(), Memory>
-    ensures { OnOk result (courses.new.items ≡ courses.old.items ++ courses_in (O.looked (state_after O.stepped O.start (history desk.now.log)) (queries.Open offering))) }
+    ensures { OnOk result (courses.new.items ≡ courses.old.items
+        ++ courses_in (O.looked (state_after O.stepped O.start (history desk.now.log)) (queries.Open offering))) }
 {
     let view = desk.look(&Query::Open(offering))?;
     add_view(&view, courses)

@@ -29,7 +29,8 @@ pub fn nothing_is_undoable()
 /// what was recorded before.
 pub fn changes_are_undone()
     ensures none { (w : World) (backs : List Back) → Since w backs w backs }
-    ensures more { (w v : World) (backs now : List Back) (change : Change) → Since w backs v now → Fits v change → Since w backs (changed v change) (now ++ back_of v change ∷ []) }
+    ensures more { (w v : World) (backs now : List Back) (change : Change) → Since w backs v now → Fits v change
+        → Since w backs (changed v change) (now ++ back_of v change ∷ []) }
     ensures joined { (u v w : World) (backs cs ds : List Back) → Since u backs v cs → Since v cs w ds → Since u backs w ds }
     ensures longer { (w v : World) (backs now : List Back) → Since w backs v now → length backs ≤ length now }
     ensures world { (w v : World) (backs now : List Back) → KeptWorld w → Since w backs v now → undone v (drop (length backs) now) ≡ w }

@@ -3,7 +3,14 @@
 ghost use Rattle.std.specs.Prelude.{◌≡◌, ◌==◌, find, option_copied};
 ghost use Rattle.std.specs.List.{list_any};
 ghost use Rattle.sect_model.specs.Kept.{has_config as config_is_in};
-ghost use Rattle.sect_space.specs.Back.{offering_id, cap_offering as offering_of_cap, section_offering as offering_of_section, config_offering as offering_of_config, reservation_offering as offering_of_reservation, has_section as section_is_in};
+ghost use Rattle.sect_space.specs.Back.{
+  offering_id,
+  cap_offering as offering_of_cap,
+  section_offering as offering_of_section,
+  config_offering as offering_of_config,
+  reservation_offering as offering_of_reservation,
+  has_section as section_is_in,
+};
 ghost use Rattle.sect_space.specs.Parts.{roomed_of};
 
 use crate::parts::Parts;

@@ -6,7 +6,15 @@ ghost use Rattle.std.specs.Option.{is_none};
 ghost use Rattle.sect_catalog.specs.Catalogue.{places as places_in, places_of_all};
 ghost use Rattle.sect_reserve.specs.Audience.{active as is_active};
 ghost use Rattle.sect_model.specs.Counts.{count_of};
-ghost use Rattle.sect_model.specs.Space.{places_at, names as is_named, active_at, remaining as remaining_of, has_unlimited as are_unlimited, space_of, unreserved_of};
+ghost use Rattle.sect_model.specs.Space.{
+  places_at,
+  names as is_named,
+  active_at,
+  remaining as remaining_of,
+  has_unlimited as are_unlimited,
+  space_of,
+  unreserved_of,
+};
 
 use crate::world::World;
 use sect_base::{ConfigId, Level, Limit, OfferingId, SectionId};

@@ -36,7 +36,7 @@ impl Clock for RealClock {
     }
 }
 
-// The day by the machine's clock, where it tells one.
+/// The day by the machine's clock, where it tells one.
 fn day_of(rt: &HostRuntime) -> Option<Day> {
     let now = SystemTime::now(rt).ok()?;
     let since = now.duration_since(UNIX_EPOCH).ok()?;

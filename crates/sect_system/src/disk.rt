@@ -39,7 +39,7 @@ impl FileDisk {
         Ok(FileDisk::new(file))
     }
 
-    // One more failure.
+    /// One more failure.
     fn failed(&mut self) -> DiskFault
         ensures fault { result ≡ fault.Failed }
         ensures count { Rose self.old.faults self.new.faults }
@@ -50,7 +50,7 @@ impl FileDisk {
     }
 }
 
-// Whether the first byte, where there is one, is no gate of a journal: neither 0 nor 1.
+/// Whether the first byte, where there is one, is no gate of a journal: neither 0 nor 1.
 fn is_foreign(file: &File) -> io::Result<bool> {
     let mut first = [0];
     let read = file.read_at(&mut first, 0)?;

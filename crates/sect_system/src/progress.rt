@@ -50,7 +50,7 @@ impl Progress {
         }
     }
 
-    // Whether the line is to be written now, which is so once a second.
+    /// Whether the line is to be written now, which is so once a second.
     fn is_due(&mut self) -> bool {
         let Some(next) = self.next else {
             return false;
@@ -66,7 +66,7 @@ impl Progress {
     }
 }
 
-// A second from now. None where the clock tells none.
+/// A second from now. None where the clock tells none.
 fn second_after(rt: HostRuntime) -> Option<Instant> {
     Instant::now(&rt).ok()?.checked_add(Duration::from_secs(1))
 }

@@ -6,7 +6,7 @@ use sect_journal::{Disk, DiskFault, Journal};
 use std::fs::{self, File};
 use std::io;
 
-// A path for one test.
+/// A path for one test.
 fn path(rt: HostRuntime, name: &str) -> io::Result<String> {
     let mut path = String::new(rt.alloc());
     path.push_str("sect_system_")?;

@@ -48,7 +48,8 @@ pub fn offering_of_row(
     hand: Option<AtHand>,
     row: &ByteRecord,
 ) -> Result<(u64, OpenOffering), Option<AtHand>>
-    ensures { MatchResult result (λ same. same_offering hand (field_of (fields_of row.now) 1) ≡ Some same) (λ kept. (same_offering hand (field_of (fields_of row.now) 1) ≡ None) × (kept ≡ hand)) }
+    ensures { MatchResult result (λ same. same_offering hand (field_of (fields_of row.now) 1) ≡ Some same)
+        (λ kept. (same_offering hand (field_of (fields_of row.now) 1) ≡ None) × (kept ≡ hand)) }
 {
     match hand {
         Some(
@@ -77,7 +78,8 @@ pub fn requests_of_row(
     hand: Option<AtHand>,
     row: &ByteRecord,
 ) -> Result<(u64, OpenRequests), Option<AtHand>>
-    ensures { MatchResult result (λ same. same_student hand (field_of (fields_of row.now) 1) ≡ Some same) (λ kept. (same_student hand (field_of (fields_of row.now) 1) ≡ None) × (kept ≡ hand)) }
+    ensures { MatchResult result (λ same. same_student hand (field_of (fields_of row.now) 1) ≡ Some same)
+        (λ kept. (same_student hand (field_of (fields_of row.now) 1) ≡ None) × (kept ≡ hand)) }
 {
     match hand {
         Some(

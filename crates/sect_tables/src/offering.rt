@@ -34,7 +34,12 @@ impl Model for OpenOffering {
 
     ghost Value = { OfferingSoFar };
 
-    ghost view = { λ o. record { name = o.name; before = o.before; row = record { id = o.id; courses = o.courses; configs = o.configs.items ++ (o.last ∷ []) } } };
+    ghost view = { λ o. record {
+      name = o.name;
+      before = o.before;
+      row = record
+          { id = o.id; courses = o.courses; configs = o.configs.items ++ (o.last ∷ []) };
+    } };
 }
 
 impl OpenOffering {

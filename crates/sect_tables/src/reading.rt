@@ -5,7 +5,22 @@ ghost use Rattle.csv.specs.Records.{fields_of};
 ghost use Rattle.sect_lines.specs.Fields.{field_of};
 ghost use Rattle.sect_lines.specs.Lines.{reservation_line, student_line};
 ghost use Rattle.sect_tables.specs.Progress.{opening};
-ghost use Rattle.sect_tables.specs.Rows.{at_end, begun, failed, first_row, gone_on, has_first as says_first, offering_row, requests_row, reservation_row, row_read, same_offering, same_student, student_row, table_row};
+ghost use Rattle.sect_tables.specs.Rows.{
+  at_end,
+  begun,
+  failed,
+  first_row,
+  gone_on,
+  has_first as says_first,
+  offering_row,
+  requests_row,
+  reservation_row,
+  row_read,
+  same_offering,
+  same_student,
+  student_row,
+  table_row,
+};
 ghost use Rattle.sect_tables.specs.declared.given.CsvFault.TheVariants.{BadRow};
 
 use crate::give::{give, offering_of_row, requests_of_row};
@@ -40,7 +55,15 @@ impl Model for Reading {
 
     ghost Value = { Progress };
 
-    ghost view = { λ r. record { table = r.table; term = r.term; rows = r.rows; header = r.header; at_hand = r.at_hand; open_row = r.open_row; fault = r.fault } };
+    ghost view = { λ r. record {
+      table = r.table;
+      term = r.term;
+      rows = r.rows;
+      header = r.header;
+      at_hand = r.at_hand;
+      open_row = r.open_row;
+      fault = r.fault;
+    } };
 }
 
 impl Reading {
@@ -161,8 +184,11 @@ impl Reading {
 
     /// Takes a row of offerings.
     fn take_section(&mut self, row: &ByteRecord, out: &mut Vec<Given>) -> Result<(), Memory>
-        ensures read { OnOk result (self.new ≡ (offering_row self.old (fields_of row.now) (same_offering self.old.at_hand (field_of (fields_of row.now) 1))).0) }
-        ensures given { OnOk result (out.new.items ≡ out.old.items ++ (offering_row self.old (fields_of row.now) (same_offering self.old.at_hand (field_of (fields_of row.now) 1))).1) }
+        ensures read { OnOk result (self.new ≡ (offering_row self.old (fields_of row.now)
+            (same_offering self.old.at_hand (field_of (fields_of row.now) 1))).0) }
+        ensures given { OnOk result (out.new.items ≡ out.old.items
+            ++ (offering_row self.old (fields_of row.now)
+            (same_offering self.old.at_hand (field_of (fields_of row.now) 1))).1) }
         ensures memory { OnErr result (out.new.items ≡ out.old.items) }
     {
         match offering_of_row(self.at_hand.take(), row) {
@@ -221,7 +247,8 @@ impl Reading {
     /// Takes a row of requests.
     fn take_ask(&mut self, row: &ByteRecord, out: &mut Vec<Given>) -> Result<(), Memory>
         ensures read { OnOk result (self.new ≡ (requests_row self.old (fields_of row.now) (same_student self.old.at_hand (field_of (fields_of row.now) 1))).0) }
-        ensures given { OnOk result (out.new.items ≡ out.old.items ++ (requests_row self.old (fields_of row.now) (same_student self.old.at_hand (field_of (fields_of row.now) 1))).1) }
+        ensures given { OnOk result (out.new.items ≡ out.old.items
+            ++ (requests_row self.old (fields_of row.now) (same_student self.old.at_hand (field_of (fields_of row.now) 1))).1) }
         ensures memory { OnErr result (out.new.items ≡ out.old.items) }
     {
         match requests_of_row(self.at_hand.take(), row) {

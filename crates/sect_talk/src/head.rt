@@ -54,7 +54,7 @@ pub fn await_head<S: Source>(
     }
 }
 
-// What the bytes say of their head, where no more bytes are wanted for that.
+/// What the bytes say of their head, where no more bytes are wanted for that.
 fn look(alloc: Global, bytes: &[u8], spans: &mut [HeaderSpan]) -> Option<Came>
     requires { length spans.old ≡ 64 }
     ensures came { (left : Option (List ℕ)) → IfSome result (Comes bytes.now spans.new left) }

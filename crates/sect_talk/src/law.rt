@@ -9,7 +9,8 @@ ghost use Rattle.sect_talk.specs.Rest.{IsBlank, IsCut};
 
 /// A head stays where it is when more bytes come behind it.
 pub fn a_head_stays()
-    ensures within { (bytes more : List ℕ) (spans : List HeaderSpan) (r : RequestSpans) → IsRequestWithin bytes spans r → IsRequestWithin (bytes ++ more) spans r }
+    ensures within { (bytes more : List ℕ) (spans : List HeaderSpan) (r : RequestSpans) → IsRequestWithin bytes spans r
+        → IsRequestWithin (bytes ++ more) spans r }
     ensures at { (bytes more : List ℕ) (spans : List HeaderSpan) (r : RequestSpans) (h : RequestHead) → IsRequestWithin bytes spans r
         → IsRequestAt bytes spans r h → IsRequestAt (bytes ++ more) spans r h }
 {}

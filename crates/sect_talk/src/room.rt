@@ -94,7 +94,7 @@ impl Room {
     }
 }
 
-// Reads into the part from `at` on, by one call of the source.
+/// Reads into the part from `at` on, by one call of the source.
 fn read_behind<S: Source>(source: &mut S, bytes: &mut Vec<u8>, at: usize) -> Result<usize, Failed>
     requires { at < length bytes.old.items }
     ensures len { length bytes.new.items ≡ length bytes.old.items }

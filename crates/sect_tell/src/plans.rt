@@ -47,7 +47,8 @@ fn print_plan_of<K: Keeper>(
     into: &mut Vec<u8>,
 ) -> Result<(), Memory>
     requires sound { IsSound stepped IsRow K.rows K.faults empty_state desk.now }
-    ensures { OnOk result (into.new.items ≡ into.old.items ++ student_plan_text asked.student (plan_of (state_of (history desk.now.log)).world asked.student asked.budget)) }
+    ensures { OnOk result (into.new.items ≡ into.old.items
+        ++ student_plan_text asked.student (plan_of (state_of (history desk.now.log)).world asked.student asked.budget)) }
 {
     match desk.object().plan_in(asked.student, asked.budget)? {
         Some(lines) => print_plan(lines.as_slice(), into),

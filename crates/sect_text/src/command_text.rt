@@ -74,7 +74,9 @@ fn print_from(first: Option<Day>, into: &mut Vec<u8>) -> Result<(), Memory>
 
 /// What is allowed beyond the limits, and whether it must be used.
 fn print_permissions(row: &ReserveRow, into: &mut Vec<u8>) -> Result<(), Memory>
-    ensures text { OnOk result (into.new.items ≡ into.old.items ++ behind 32 (mark_words (codes "over") row.now.over ++ (mark_words (codes "overlap") row.now.overlap ++ mark_words (codes "must") row.now.must))) }
+    ensures text { OnOk result (into.new.items ≡ into.old.items
+        ++ behind 32 (mark_words (codes "over") row.now.over
+        ++ (mark_words (codes "overlap") row.now.overlap ++ mark_words (codes "must") row.now.must))) }
     ensures front { take (length into.old.items) into.new.items ≡ into.old.items }
 {
     print_mark(b"over", row.over, into)?;
@@ -84,7 +86,9 @@ fn print_permissions(row: &ReserveRow, into: &mut Vec<u8>) -> Result<(), Memory>
 
 /// The first day, what the reservation lists and what it permits.
 fn print_terms(row: &ReserveRow, into: &mut Vec<u8>) -> Result<(), Memory>
-    ensures text { OnOk result (into.new.items ≡ into.old.items ++ behind 32 (from_words row.now.first ++ (flat_map config_id_words row.now.configs ++ (flat_map section_id_words row.now.sections
+    ensures text { OnOk result (into.new.items ≡ into.old.items
+        ++ behind 32 (from_words row.now.first ++
+        (flat_map config_id_words row.now.configs ++ (flat_map section_id_words row.now.sections
         ++ (mark_words (codes "over") row.now.over ++ (mark_words (codes "overlap") row.now.overlap ++ mark_words (codes "must") row.now.must)))))) }
     ensures front { take (length into.old.items) into.new.items ≡ into.old.items }
 {
@@ -196,7 +200,8 @@ fn print_enrol(
     budget: Budget,
     into: &mut Vec<u8>,
 ) -> Result<(), Memory>
-    ensures text { OnOk result (into.new.items ≡ into.old.items ++ sentence (codes "enrol" ∷ decimal student.0 ∷ printed_want want.now ++ budget_words false budget)) }
+    ensures text { OnOk result (into.new.items ≡ into.old.items
+        ++ sentence (codes "enrol" ∷ decimal student.0 ∷ printed_want want.now ++ budget_words false budget)) }
     ensures front { take (length into.old.items) into.new.items ≡ into.old.items }
 {
     print_bytes(b"enrol", into)?;
@@ -212,7 +217,9 @@ fn print_swap(
     budget: Budget,
     into: &mut Vec<u8>,
 ) -> Result<(), Memory>
-    ensures text { OnOk result (into.new.items ≡ into.old.items ++ sentence (codes "swap" ∷ decimal student.0 ∷ flat_map give_words given.now ++ (flat_map take_words taken.now ++ budget_words false budget))) }
+    ensures text { OnOk result (into.new.items ≡ into.old.items
+        ++ sentence (codes "swap" ∷ decimal student.0 ∷ flat_map give_words given.now
+        ++ (flat_map take_words taken.now ++ budget_words false budget))) }
     ensures front { take (length into.old.items) into.new.items ≡ into.old.items }
 {
     print_bytes(b"swap", into)?;
@@ -229,7 +236,9 @@ fn print_wait(
     class: u8,
     into: &mut Vec<u8>,
 ) -> Result<(), Memory>
-    ensures text { OnOk result (into.new.items ≡ into.old.items ++ sentence (codes "wait" ∷ decimal student.0 ∷ printed_want want.now ++ (optional_give_words give ++ class_words false class))) }
+    ensures text { OnOk result (into.new.items ≡ into.old.items
+        ++ sentence (codes "wait" ∷ decimal student.0 ∷ printed_want want.now
+        ++ (optional_give_words give ++ class_words false class))) }
     ensures front { take (length into.old.items) into.new.items ≡ into.old.items }
 {
     print_bytes(b"wait", into)?;

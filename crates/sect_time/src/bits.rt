@@ -3,7 +3,7 @@
 ghost use Rattle.std.specs.Prelude.{◌≡◌, ◌↔◌, ◌<◌, ℕ, IsTrue, nat_lt};
 ghost use Rattle.sect_time.specs.Pattern.{has_bit};
 
-// Whether the bit is set.
+/// Whether the bit is set.
 pub(crate) fn is_bit_set(word: u64, bit: u8) -> bool
     requires { bit < 64 }
     ensures { result ≡ has_bit word bit }
@@ -11,14 +11,14 @@ pub(crate) fn is_bit_set(word: u64, bit: u8) -> bool
     (word >> bit) & 1 == 1
 }
 
-// Whether some bit is set in both.
+/// Whether some bit is set in both.
 pub(crate) fn share_bit(a: u64, b: u64) -> bool
     ensures { IsTrue result ↔ ((bit : ℕ) × (bit < 64) × IsTrue (has_bit a bit) × IsTrue (has_bit b bit)) }
 {
     a & b != 0
 }
 
-// The lowest bits, so many or all.
+/// The lowest bits, so many or all.
 pub(crate) fn bits_below(count: u16) -> u64
     ensures { (bit : ℕ) → bit < 64 → has_bit result bit ≡ nat_lt bit count }
 {

@@ -79,7 +79,7 @@ impl Calendar {
         true
     }
 
-    // Takes the slots of this day from `start` until before `end`.
+    /// Takes the slots of this day from `start` until before `end`.
     fn take(&mut self, day: u8, start: u16, end: u16)
         requires day { day < 7 }
         requires order { start < end }
@@ -92,7 +92,7 @@ impl Calendar {
         }
     }
 
-    // Whether no slot of this day from `start` until before `end` is taken.
+    /// Whether no slot of this day from `start` until before `end` is taken.
     fn is_free(&self, day: u8, start: u16, end: u16) -> bool
         requires day { day < 7 }
         requires order { start < end }
@@ -108,7 +108,7 @@ impl Calendar {
     }
 }
 
-// The place of the day's word with this number.
+/// The place of the day's word with this number.
 fn word_at(day: u8, word: u16) -> usize
     requires day { day < 7 }
     requires word { word < 5 }
@@ -117,7 +117,7 @@ fn word_at(day: u8, word: u16) -> usize
     DAY_WORDS * usize::from(day) + usize::from(word)
 }
 
-// The bits of the day's word with this number, for the slots from `start` until before `end`.
+/// The bits of the day's word with this number, for the slots from `start` until before `end`.
 fn slots_of(start: u16, end: u16, word: u16) -> u64
     requires { word < 5 }
     ensures { (bit : ℕ) → bit < 64 → has_bit result bit ≡ (nat_le start (64 * word + bit) && nat_lt (64 * word + bit) end) }

@@ -6,7 +6,7 @@ ghost use Rattle.sect_time.specs.ClockText.{clock_text, time_text, IsClockAt, Is
 use crate::digits::{number_at, two_digits};
 use crate::spelling::MeetingText;
 
-// Adds `HHMM-HHMM`.
+/// Adds `HHMM-HHMM`.
 pub(crate) fn print_time(text: &mut MeetingText, start: u16, end: u16)
     requires order { start ≤ end }
     requires end { end ≤ 288 }
@@ -19,7 +19,7 @@ pub(crate) fn print_time(text: &mut MeetingText, start: u16, end: u16)
     print_clock(text, end);
 }
 
-// `HHMM` at which the slot begins.
+/// `HHMM` at which the slot begins.
 fn print_clock(text: &mut MeetingText, slot: u16)
     requires slot { slot ≤ 288 }
     requires room { length text.old + 4 ≤ 160 }
@@ -34,7 +34,7 @@ fn print_clock(text: &mut MeetingText, slot: u16)
     text.push(d);
 }
 
-// The first slot and the one before which the time ends.
+/// The first slot and the one before which the time ends.
 pub(crate) fn read_time(text: &[u8]) -> Option<(u16, u16)>
     ensures found { IfSome result (λ time. IsTimeText text.now time.0 time.1) }
     ensures none { IfNone result ((start end : ℕ) → IsTimeText text.now start end → ⊥) }
@@ -51,7 +51,7 @@ pub(crate) fn read_time(text: &[u8]) -> Option<(u16, u16)>
     }
 }
 
-// The slot that begins at the `HHMM` at this place.
+/// The slot that begins at the `HHMM` at this place.
 fn slot_at(text: &[u8], at: usize) -> Option<u16>
     requires { at + 3 < length text.now }
     ensures hours { IfSome result (λ slot. slot < 1200) }

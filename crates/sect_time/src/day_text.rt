@@ -22,7 +22,7 @@ pub fn read_day(text: &[u8]) -> Result<Day, TimeFault>
     }
 }
 
-// The day that the text says, where it says one.
+/// The day that the text says, where it says one.
 fn day_of(text: &[u8]) -> Option<Day>
     ensures found { IfSome result (IsDayText text.now) }
     ensures none { IfNone result ((day : ℕ) → day ≤ LAST_DAY → IsDayText text.now day → ⊥) }
@@ -46,7 +46,7 @@ pub fn print_day(day: Day) -> [u8; 10]
     spelled(day)
 }
 
-// The ten bytes, from the calendar's date.
+/// The ten bytes, from the calendar's date.
 fn spelled(day: Day) -> [u8; 10]
     ensures { IsDayText result day }
 {
@@ -58,7 +58,7 @@ fn spelled(day: Day) -> [u8; 10]
     [a, b, c, d, b'-', e, f, b'-', g, h]
 }
 
-// The year, the month and the day of the month.
+/// The year, the month and the day of the month.
 fn civil_date(day: Day) -> (u16, u8, u8)
     ensures date { IsDate (pos result.0) (pos result.1) (pos result.2) }
     ensures number { days_from_civil (pos result.0) result.1 result.2 ≡ pos day }
@@ -69,7 +69,7 @@ fn civil_date(day: Day) -> (u16, u8, u8)
     }
 }
 
-// The number of a civil date, where there is such a date.
+/// The number of a civil date, where there is such a date.
 fn day_number(year: u16, month: u8, date: u8) -> Option<i32>
     requires year { year < 10000 }
     requires month { month < 100 }

@@ -3,7 +3,7 @@
 ghost use Rattle.std.specs.Prelude.{◌≡◌, ◌<◌, ◌+◌, ◌/◌, ◌%◌, ℕ, length, slice_index, IfSome, IfNone};
 ghost use Rattle.sect_time.specs.Digits.{two_digits};
 
-// The number's tens and ones.
+/// The number's tens and ones.
 pub(crate) fn two_digits(n: u8) -> [u8; 2]
     requires { n < 100 }
     ensures { result ≡ two_digits n }
@@ -11,7 +11,7 @@ pub(crate) fn two_digits(n: u8) -> [u8; 2]
     [b'0' + n / 10, b'0' + n % 10]
 }
 
-// The number that two digits say at this place.
+/// The number that two digits say at this place.
 pub(crate) fn number_at(text: &[u8], at: usize) -> Option<u8>
     requires { at + 1 < length text.now }
     ensures within { IfSome result (λ n. n < 100) }

@@ -53,7 +53,7 @@ pub fn read_meeting(text: &[u8]) -> Result<Meeting, TimeFault>
     }
 }
 
-// What stands before and after the first slash; all and nothing where there is none.
+/// What stands before and after the first slash; all and nothing where there is none.
 fn cut_at_slash(text: &[u8]) -> (&[u8], &[u8])
     ensures before { result.0.now ≡ before_slash text.now }
     ensures after { result.1.now ≡ after_slash text.now }
@@ -64,7 +64,7 @@ fn cut_at_slash(text: &[u8]) -> (&[u8], &[u8])
     }
 }
 
-// The place of the first slash.
+/// The place of the first slash.
 fn slash_in(text: &[u8]) -> Option<usize>
     ensures { result ≡ position (λ byte. byte == 47) text.now }
 {

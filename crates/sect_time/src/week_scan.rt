@@ -8,8 +8,8 @@ use crate::spelling::MeetingText;
 use crate::week_text::print_weeks;
 use crate::weeks::week_range;
 
-// The weeks of which this is the printed form. A text is read leniently, and then held against the printed form of
-// what was read.
+/// The weeks of which this is the printed form. A text is read leniently, and then held against the printed form of
+/// what was read.
 pub(crate) fn read_weeks(text: &[u8]) -> Option<u64>
     ensures found { IfSome result (IsWeeksText text.now) }
     ensures none { IfNone result ((weeks : ℕ) → IsWeeksText text.now weeks → ⊥) }
@@ -22,7 +22,7 @@ pub(crate) fn read_weeks(text: &[u8]) -> Option<u64>
     }
 }
 
-// Whether this is the printed form of these weeks.
+/// Whether this is the printed form of these weeks.
 fn spells_weeks(text: &[u8], weeks: u64) -> bool
     requires { weeks < 2 ^ 60 }
     ensures { IsTrue result ↔ (text.now ≡ weeks_text weeks) }
@@ -32,7 +32,7 @@ fn spells_weeks(text: &[u8], weeks: u64) -> bool
     spelling.as_bytes() == text
 }
 
-// The weeks that the text says, if it is the printed form of some.
+/// The weeks that the text says, if it is the printed form of some.
 fn weeks_in(text: &[u8]) -> u64
     ensures weeks { result ≡ weeks_in text.now }
     ensures sixty { result < 2 ^ 60 }
@@ -44,7 +44,7 @@ fn weeks_in(text: &[u8]) -> u64
     scan.weeks()
 }
 
-// What was read: whole runs, the first week of the run that is open (0 where it has but one number), and its number.
+/// What was read: whole runs, the first week of the run that is open (0 where it has but one number), and its number.
 #[derive(Clone, Copy)]
 struct Scan {
     weeks: u64,
@@ -96,7 +96,7 @@ impl Scan {
     }
 }
 
-// The run of weeks between two numbers of 1 to 60.
+/// The run of weeks between two numbers of 1 to 60.
 fn run_set(first: u8, last: u8) -> u64
     ensures { result ≡ run_set first last }
 {

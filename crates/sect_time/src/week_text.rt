@@ -8,7 +8,7 @@ ghost use Rattle.sect_time.specs.WeekText.{weeks_text, next_run_text, IsFirstFro
 use crate::digits::two_digits;
 use crate::spelling::MeetingText;
 
-// Adds the printed form of these weeks, run by run.
+/// Adds the printed form of these weeks, run by run.
 pub(crate) fn print_weeks(text: &mut MeetingText, weeks: u64)
     requires sixty { weeks < 2 ^ 60 }
     requires room { length text.old + 124 ≤ 160 }
@@ -22,7 +22,7 @@ pub(crate) fn print_weeks(text: &mut MeetingText, weeks: u64)
     }
 }
 
-// The first week of the set from this one on.
+/// The first week of the set from this one on.
 fn first_from(weeks: u64, from: u32) -> Option<u32>
     requires { from < 64 }
     ensures found { IfSome result (IsFirstFrom weeks from) }
@@ -36,7 +36,7 @@ fn first_from(weeks: u64, from: u32) -> Option<u32>
     }
 }
 
-// The last week of the run that begins with this one.
+/// The last week of the run that begins with this one.
 fn last_from(weeks: u64, first: u32) -> u32
     requires sixty { weeks < 2 ^ 60 }
     requires is_in { has_bit weeks first ≡ true }
@@ -45,7 +45,7 @@ fn last_from(weeks: u64, first: u32) -> u32
     first + (weeks >> first).trailing_ones() - 1
 }
 
-// The run, after a dot unless it starts the text.
+/// The run, after a dot unless it starts the text.
 fn print_run(text: &mut MeetingText, starts: bool, first: u32, last: u32)
     requires order { first ≤ last }
     requires sixty { last < 60 }
@@ -63,7 +63,7 @@ fn print_run(text: &mut MeetingText, starts: bool, first: u32, last: u32)
     }
 }
 
-// A number below 100 with no zero in front.
+/// A number below 100 with no zero in front.
 fn print_number(text: &mut MeetingText, n: u8)
     requires small { n < 100 }
     requires room { length text.old + 2 ≤ 160 }

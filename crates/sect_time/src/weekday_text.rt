@@ -8,7 +8,7 @@ use crate::spelling::MeetingText;
 
 const LETTERS: [u8; 7] = *b"MTWRFSU";
 
-// Adds the letters of these weekdays.
+/// Adds the letters of these weekdays.
 pub(crate) fn print_days(text: &mut MeetingText, days: u8)
     requires { length text.old + 7 ≤ 160 }
     ensures text { text.new ≡ text.old ++ days_text days }
@@ -21,8 +21,8 @@ pub(crate) fn print_days(text: &mut MeetingText, days: u8)
     }
 }
 
-// The weekdays of which this is the spelling. A text is read leniently, and then held against the spelling of what was
-// read.
+/// The weekdays of which this is the spelling. A text is read leniently, and then held against the spelling of what was
+/// read.
 pub(crate) fn read_days(text: &[u8]) -> Option<u8>
     ensures found { IfSome result (IsDaysText text.now) }
     ensures none { IfNone result ((days : ℕ) → IsDaysText text.now days → ⊥) }
@@ -35,7 +35,7 @@ pub(crate) fn read_days(text: &[u8]) -> Option<u8>
     }
 }
 
-// Whether this is the spelling of these weekdays.
+/// Whether this is the spelling of these weekdays.
 fn spells_days(text: &[u8], days: u8) -> bool
     ensures { IsTrue result ↔ (text.now ≡ days_text days) }
 {
@@ -44,7 +44,7 @@ fn spells_days(text: &[u8], days: u8) -> bool
     spelling.as_bytes() == text
 }
 
-// The weekdays of which a letter is in the text.
+/// The weekdays of which a letter is in the text.
 fn days_in(text: &[u8]) -> u8
     ensures some { result < 2 ^ 7 }
     ensures back { (days : ℕ) → days < 2 ^ 7 → text.now ≡ days_text days → result ≡ days }
@@ -56,7 +56,7 @@ fn days_in(text: &[u8]) -> u8
     days
 }
 
-// The weekday of the letter as a set, or none.
+/// The weekday of the letter as a set, or none.
 fn weekday_of(letter: u8) -> u8
     ensures { result ≡ weekday_of letter }
 {

@@ -25,7 +25,7 @@ pub fn weeks_of(term: Day, first: Day, last: Day) -> Option<u64>
     Some(week_range(from / 7, to / 7))
 }
 
-// How many days it is from one day to a later one.
+/// How many days it is from one day to a later one.
 fn days_between(from: Day, to: Day) -> u32
     requires { from ≤ to }
     ensures { from + result ≡ to }
@@ -33,7 +33,7 @@ fn days_between(from: Day, to: Day) -> u32
     (to.get() - from.get()) as u32
 }
 
-// The set of the weeks from the first to the last, from 0.
+/// The set of the weeks from the first to the last, from 0.
 pub(crate) fn week_range(first: u32, last: u32) -> u64
     requires order { first ≤ last }
     requires sixty { last < 60 }

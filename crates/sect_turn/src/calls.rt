@@ -14,7 +14,7 @@ use std::alloc::{AllocFailed, Global};
 use std::snapshot::Snapshot;
 use std::sync::Wait;
 
-// A row with the value alone.
+/// A row with the value alone.
 fn row_of<V>(alloc: Global, value: V) -> Result<Vec<Option<V>>, V>
     ensures ok { IfOk result (λ row. row.items ≡ Some value ∷ []) }
     ensures err { IfErr result (λ back. back ≡ value) }
@@ -29,7 +29,7 @@ fn row_of<V>(alloc: Global, value: V) -> Result<Vec<Option<V>>, V>
     }
 }
 
-// The value of such a row.
+/// The value of such a row.
 fn value_of<V>(mut row: Vec<Option<V>>) -> V
     requires { (value : V) × (row.items ≡ Some value ∷ []) }
     ensures { row.items ≡ Some result ∷ [] }
@@ -43,7 +43,8 @@ impl<V: Chronicle> Turn<V> {
     /// A turn for the value, and the pass with the whole share, which has seen its notes.
     pub fn open(alloc: Global, value: V) -> Result<(Turn<V>, Pass<V>), (Memory, V)>
         ensures turn { IfOk result (λ t. IsPassOf V.notes V.base t.0 t.1 × IsIdle t.1) }
-        ensures pass { IfOk result (λ t. (front t.1 ≡ V.notes value) × (own_calls t.1 ≡ []) × (share t.1 ≡ whole_share) × (opening t.1 ≡ (length (V.notes value), V.base value))) }
+        ensures pass { IfOk result (λ t. (front t.1 ≡ V.notes value) × (own_calls t.1 ≡ []) × (share t.1 ≡ whole_share)
+            × (opening t.1 ≡ (length (V.notes value), V.base value))) }
         ensures err { IfErr result (λ e. e.1 ≡ value) }
     {
         let about = Snapshot::of(&value);
@@ -110,7 +111,8 @@ impl<V: Chronicle> Turn<V> {
         requires idle { IsIdle pass.old }
         requires share { 1 < share pass.old }
         ensures turn { IsPassOf V.notes V.base self.now pass.new × IsIdle pass.new }
-        ensures old { (front pass.new ≡ front pass.old) × (own_calls pass.new ≡ own_calls pass.old) × (share pass.new ≡ share pass.old - 1) × (opening pass.new ≡ opening pass.old) }
+        ensures old { (front pass.new ≡ front pass.old) × (own_calls pass.new ≡ own_calls pass.old)
+            × (share pass.new ≡ share pass.old - 1) × (opening pass.new ≡ opening pass.old) }
         ensures new_turn { IsPassOf V.notes V.base self.now result × IsIdle result }
         ensures new { (front result ≡ front pass.old) × (own_calls result ≡ []) × (share result ≡ 1) × (opening result ≡ opening pass.old) }
     {

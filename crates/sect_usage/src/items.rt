@@ -3,7 +3,19 @@
 ghost use Rattle.std.specs.Prelude.{◌≡◌, ◌<◌, ◌==◌, ◌∷◌, [], IfSome, length, map, option_map, position};
 ghost use Rattle.std.specs.Str.{IsUtf8};
 ghost use Rattle.std.specs.String.{string_bytes};
-ghost use Rattle.sect_usage.specs.Items.{positionals_with, cut_of, dashed_cut, equals_at, items_of, items_with, option_by, option_cut, option_with, positionals as positionals_of, value_of};
+ghost use Rattle.sect_usage.specs.Items.{
+  positionals_with,
+  cut_of,
+  dashed_cut,
+  equals_at,
+  items_of,
+  items_with,
+  option_by,
+  option_cut,
+  option_with,
+  positionals as positionals_of,
+  value_of,
+};
 ghost use Rattle.sect_usage.specs.Seen.{IsWorded, IsWordedCut, cut_seen, item_seen};
 
 use sect_words::same_bytes;
@@ -131,7 +143,8 @@ pub fn value<'a>(name: &[u8], words: &'a [String]) -> Option<&'a [u8]>
 
 /// The first word that stands alone, and the words behind it.
 pub fn next_positional(words: &[String]) -> Option<(&[u8], &[String])>
-    ensures { positionals_with (option_map (λ r. (r.0.now, positionals_of (items_of (map string_bytes r.1.now)))) result) ≡ positionals_of (items_of (map string_bytes words.now)) }
+    ensures { positionals_with (option_map (λ r. (r.0.now, positionals_of (items_of (map string_bytes r.1.now)))) result)
+        ≡ positionals_of (items_of (map string_bytes words.now)) }
 {
     let mut rest = words;
     while let Some((item, behind)) = next_item(rest) {

@@ -3,7 +3,21 @@
 ghost use Rattle.std.specs.Prelude.{◌≡◌, Some, map, option_map};
 ghost use Rattle.std.specs.String.{string_bytes};
 ghost use Rattle.sect_usage.specs.Items.{items_of, positionals, value_of};
-ghost use Rattle.sect_usage.specs.Grammar.{asked_by, asked_for, import_of, lone_of, make_of, plan_of, query_by, query_of, serve_of, table_of, term_of, where_none, words_of};
+ghost use Rattle.sect_usage.specs.Grammar.{
+  asked_by,
+  asked_for,
+  import_of,
+  lone_of,
+  make_of,
+  plan_of,
+  query_by,
+  query_of,
+  serve_of,
+  table_of,
+  term_of,
+  where_none,
+  words_of,
+};
 
 use crate::items::{next_positional, value};
 use crate::number::{between, day, id, number, usual};

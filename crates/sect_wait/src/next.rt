@@ -158,7 +158,8 @@ fn better<L: Ledger>(
 ) -> Result<Option<Candidate>, Memory>
     requires fits { IsTrue (entry_fits world.now.world entry.now) }
     requires others { OthersHaveNoMove world.now.world (entry.now ∷ []) marks.now }
-    ensures best { IfOk result (λ new. (before : List Entry) → IsBest world.now.world before best.now → IsBest world.now.world (before ++ entry.now ∷ []) (option_or new best.now)) }
+    ensures best { IfOk result (λ new. (before : List Entry) → IsBest world.now.world before best.now
+        → IsBest world.now.world (before ++ entry.now ∷ []) (option_or new best.now)) }
     ensures kept { MarksKept left.old left.new }
     ensures others { OnOk result (OthersHaveNoMove world.now.world (entry.now ∷ []) left.new) }
     ensures steps { steps.new ≤ steps.old + 1 }

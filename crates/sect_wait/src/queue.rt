@@ -1,6 +1,26 @@
 // The queue: entries join behind the others, leave by their tickets, and changes are taken back.
 
-ghost use Rattle.std.specs.Prelude.{◌≡◌, ◌<◌, ◌≤◌, ◌==◌, ◌++◌, [], ◌∷◌, length, take, drop, insert, find, position, option_copied, Some, IfOk, OnOk, OnErr, IsTrue};
+ghost use Rattle.std.specs.Prelude.{
+  ◌≡◌,
+  ◌<◌,
+  ◌≤◌,
+  ◌==◌,
+  ◌++◌,
+  [],
+  ◌∷◌,
+  length,
+  take,
+  drop,
+  insert,
+  find,
+  position,
+  option_copied,
+  Some,
+  IfOk,
+  OnOk,
+  OnErr,
+  IsTrue,
+};
 ghost use Rattle.std.specs.Vec.{vec_len, vec_capacity};
 ghost use Rattle.std.specs.List.{list_any};
 ghost use Rattle.sect_people.specs.Index.{rank as rank_of};

@@ -38,7 +38,8 @@ pub fn settle<L: Ledger>(
     requires others { OthersHaveNoMove world.old.world queue.old.queue.entries marks.old }
     requires undoable { Undoable world.old undo.old.backs }
     requires queue_undoable { QueueUndoable queue.old left.old }
-    ensures settled { IfOk result (λ placed. settled (state_of world.old.world queue.old.queue) ≡ record { state = state_of world.new.world queue.new.queue; placed = placed }) }
+    ensures settled { IfOk result (λ placed. settled (state_of world.old.world queue.old.queue)
+        ≡ record { state = state_of world.new.world queue.new.queue; placed = placed }) }
     ensures nobody_left { OnOk result (IsTrue (is_settled (state_of world.new.world queue.new.queue))) }
     ensures others { OthersHaveNoMove world.new.world queue.new.queue.entries marks.new }
     ensures unmarked { marks.old ≡ no_marks → steps.new ≡ steps.old }
@@ -81,7 +82,8 @@ fn place_all<L: Ledger>(
     requires others { OthersHaveNoMove world.old.world queue.old.queue.entries marks.old }
     requires undoable { Undoable world.old undo.old.backs }
     requires queue_undoable { QueueUndoable queue.old left.old }
-    ensures settled { IfOk result (λ placed. settled (state_of world.old.world queue.old.queue) ≡ record { state = state_of world.new.world queue.new.queue; placed = placed }) }
+    ensures settled { IfOk result (λ placed. settled (state_of world.old.world queue.old.queue)
+        ≡ record { state = state_of world.new.world queue.new.queue; placed = placed }) }
     ensures others { OnOk result (OthersHaveNoMove world.new.world queue.new.queue.entries marks.new) }
     ensures steps { IfOk result (λ placed. steps.new ≤ steps.old + (length placed + 1) * length queue.old.queue.entries) }
     ensures since { Since world.old.world undo.old.backs world.new.world undo.new.backs }

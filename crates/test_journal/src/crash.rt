@@ -5,7 +5,7 @@ use sect_base::Memory;
 use sect_journal::{Disk, DiskCall, Journal, MemDisk};
 use std::alloc::Global;
 
-// What is durable, what a read gives, and marks in the place of what was written: 1 and another.
+/// What is durable, what a read gives, and marks in the place of what was written: 1 and another.
 const PICKS: [u64; 4] = [0, 1, 257, 2];
 
 /// Closes a journal. Prints what each image opens to that a crash leaves after each call from a number on.
@@ -34,7 +34,7 @@ pub fn print_crashes(
     print_images(alloc, &disk, into)
 }
 
-// Makes these calls again.
+/// Makes these calls again.
 fn repeat(alloc: Global, calls: &[DiskCall], disk: &mut MemDisk) -> Result<(), Memory> {
     for call in calls {
         match call {
@@ -54,7 +54,7 @@ fn repeat(alloc: Global, calls: &[DiskCall], disk: &mut MemDisk) -> Result<(), M
     Ok(())
 }
 
-// A write within the bytes, whose answer the record of calls has.
+/// A write within the bytes, whose answer the record of calls has.
 fn write(at: u64, piece: &[u8], disk: &mut MemDisk) {
     if at <= disk.seen().len() as u64 {
         let _ = disk.write_at(at, piece);
@@ -69,7 +69,7 @@ fn zeros(alloc: Global, size: u64) -> Result<Vec<u8>, Memory> {
     Ok(piece)
 }
 
-// The rows of each image, a bar behind each.
+/// The rows of each image, a bar behind each.
 fn print_images(alloc: Global, disk: &MemDisk, into: &mut String) -> Result<(), Memory> {
     for pick in PICKS {
         let image = disk.image(pick)?;

@@ -38,7 +38,7 @@ fn main(rt: HostRuntime) -> io::Result<()> {
     Ok(())
 }
 
-// Does what a line says, and prints what came of it. Gives the journal, where there still is one.
+/// Does what a line says, and prints what came of it. Gives the journal, where there still is one.
 fn told(
     alloc: Global,
     line: &str,
@@ -61,7 +61,7 @@ fn told(
     }
 }
 
-// The same of a journal that goes on.
+/// The same of a journal that goes on.
 fn asked(
     alloc: Global,
     word: &str,

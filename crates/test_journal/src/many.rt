@@ -21,7 +21,7 @@ pub fn many_of(line: &str) -> Many {
     }
 }
 
-// The row of a number: its digits, then dots up to the size.
+/// The row of a number: its digits, then dots up to the size.
 fn row_of(alloc: Global, at: u64, size: usize) -> Result<Vec<u8>, Memory> {
     let mut row = Vec::new(alloc);
     row.extend_from_slice(format!(in alloc; "{at}")?.as_bytes())?;

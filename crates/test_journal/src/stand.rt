@@ -46,7 +46,7 @@ pub fn open(
     }
 }
 
-// Opens a journal, or makes one first.
+/// Opens a journal, or makes one first.
 fn opened(alloc: Global, disk: MemDisk, makes: bool) -> Result<Journal<MemDisk>, JournalFault> {
     let opened = if makes {
         Journal::start(alloc, disk)
@@ -78,7 +78,7 @@ pub fn print_kept(kept: Result<(), KeepFault>, into: &mut String) -> Result<(), 
     Ok(())
 }
 
-// Prints a row behind a space.
+/// Prints a row behind a space.
 fn print_text(row: &[u8], into: &mut String) -> Result<(), Memory> {
     into.push_str(" ")?;
     into.push_str(str::from_utf8(row).unwrap_or("?"))?;

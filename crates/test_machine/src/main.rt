@@ -1,6 +1,7 @@
 //! Scripts over the machine: tests alone. Each line of the input acts, is taken back and acts again, and the output has
 //! the text of its reply; in a line `{ITEM*COUNT}` is the item so many times. A line that begins with `#` begins a new machine, one
-//! with `+ FIRST..END ` is asked with each of these numbers in place of `#`, and is answered with how many were amended, and one that begins with `?` has a tree that is
+//! with `+ FIRST..END ` is asked with each of these numbers in place of `#`, and is answered with how many were
+//! amended, and one that begins with `?` has a tree that is
 //! held against the request before it. One that begins with `=` asks for a report; `= plan STUDENT BUDGET` asks for the best
 //! whole schedule of a student, `= survey` for the survey, and `= made N` for a count of the lines of the survey of a machine
 //! of which the commands for N offerings were asked.

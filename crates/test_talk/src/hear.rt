@@ -51,7 +51,7 @@ fn hear_body(room: &mut Room, source: &mut MemSource, len: usize) -> Result<usiz
     }
 }
 
-// The length of the next request, which then stands ready.
+/// The length of the next request, which then stands ready.
 fn hear(
     alloc: Global,
     room: &mut Room,

@@ -18,7 +18,7 @@ fn heard(requests: usize, stop: Stop, ready: usize) -> Heard {
     }
 }
 
-// So many bytes that are the same.
+/// So many bytes that are the same.
 fn put_bytes(into: &mut Vec<u8>, byte: u8, count: usize) -> Result<(), Memory> {
     for _ in 0..count {
         into.push(byte)?;
@@ -26,7 +26,7 @@ fn put_bytes(into: &mut Vec<u8>, byte: u8, count: usize) -> Result<(), Memory> {
     Ok(())
 }
 
-// What is heard in pieces of at most so many bytes.
+/// What is heard in pieces of at most so many bytes.
 fn in_pieces(alloc: Global, bytes: &[u8], piece: usize) -> Result<Heard, Memory> {
     hear_all(alloc, bytes.to_vec(alloc)?, piece.max(1), Vec::new(alloc))
 }

@@ -1,7 +1,7 @@
 // Bytes that are cut.
 use super::*;
 
-// Two empty bytes, a head of 41 bytes with them, and a body of 5.
+/// Two empty bytes, a head of 41 bytes with them, and a body of 5.
 const ONE: &[u8] = b"\r\nPOST /a HTTP/1.1\r\nContent-Length: 5\r\n\r\nhello";
 
 const HEAD: usize = 41;

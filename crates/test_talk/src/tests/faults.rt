@@ -1,7 +1,7 @@
 // Reads that fail.
 use super::*;
 
-// What is heard in pieces of 10 bytes, where the read with this number fails.
+/// What is heard in pieces of 10 bytes, where the read with this number fails.
 fn failing(alloc: Global, bytes: &[u8], number: u64) -> Result<Heard, Memory> {
     let mut fail = Vec::new(alloc);
     fail.push(number)?;

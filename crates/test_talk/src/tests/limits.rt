@@ -1,7 +1,7 @@
 // Heads and bodies of the largest sizes, and of one byte more.
 use super::*;
 
-// A head of `14 + filler + rest` bytes and 4 more, whose target is filled up.
+/// A head of `14 + filler + rest` bytes and 4 more, whose target is filled up.
 fn filled(alloc: Global, filler: usize, rest: &[u8]) -> Result<Vec<u8>, Memory> {
     let mut bytes = b"GET /".to_vec(alloc)?;
     put_bytes(&mut bytes, b'a', filler)?;
