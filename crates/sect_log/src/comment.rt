@@ -54,7 +54,7 @@ fn print_placed_words(placed: &Placed, into: &mut Vec<u8>) -> Result<(), Memory>
     print_marked(b' ', &placed.choice, into)
 }
 
-//// Cuts the comment that begins at a place to what a line may have.
+/// Cuts the comment that begins at a place to what a line may have.
 fn cut_comment(start: usize, into: &mut Vec<u8>)
     requires { (before : List ℕ) × (comment : List ℕ) × (into.old.items ≡ before ++ comment) × (start ≡ length before) }
     ensures { (before comment : List ℕ) → into.old.items ≡ before ++ comment → start ≡ length before → into.new.items ≡ before ++ take LINE_LIMIT comment }

@@ -153,7 +153,7 @@ fn wants_section(section: SectionId, want: &Want) -> bool
     lists_section(want.only.as_slice(), section)
 }
 
-//// Whether one of the wants lists the section.
+/// Whether one of the wants lists the section.
 fn one_wants_section(section: SectionId, wants: &[Want]) -> bool
     ensures { result ≡ list_any (wants_section section) wants.now }
 {
@@ -193,7 +193,7 @@ fn line_takes(section: SectionId, line: &Line) -> bool
     }
 }
 
-//// Whether one of the choices takes the section.
+/// Whether one of the choices takes the section.
 fn one_takes_section(section: SectionId, choices: &[Choice]) -> bool
     ensures { result ≡ list_any (takes_section section) choices.now }
 {
