@@ -1,6 +1,8 @@
 // The calendar of each student.
 
-ghost use Rattle.std.specs.Prelude.{◌≡◌, ℕ, true, None, OnOk, option_copied};
+ghost use Rattle.std.specs.Prelude.{◌≡◌, true, OnOk, option_copied};
+ghost use Rattle.sect_model.specs.World.{empty_world};
+ghost use Rattle.sect_weeks.specs.Busy.{ToldWeeks};
 ghost use Rattle.sect_weeks.specs.Rows.{calendar_of, row_of, place_of, has_row, Puts, Keeps};
 
 use sect_base::{Memory, StudentId};
@@ -24,9 +26,9 @@ pub struct Weeks {
 }
 
 impl Weeks {
-    /// No calendars. It takes no memory.
+    /// No calendars, as in a world of no rows. It takes no memory.
     pub fn empty(alloc: Global) -> Weeks
-        ensures { (id : ℕ) → calendar_of result id ≡ None }
+        ensures { ToldWeeks result empty_world }
     {
         Weeks {
             places: HashMap::new(alloc),
