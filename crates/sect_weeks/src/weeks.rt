@@ -45,7 +45,7 @@ impl Weeks {
     }
 
     /// Gives a student an empty calendar, where there is none. Where memory runs out, the calendars stay.
-    pub fn add_row(&mut self, student: StudentId) -> Result<(), Memory>
+    pub(crate) fn add_row(&mut self, student: StudentId) -> Result<(), Memory>
         ensures keeps { Keeps self.old self.new }
         ensures ok { OnOk result (has_row self.new student.0 ≡ true) }
     {
@@ -62,7 +62,7 @@ impl Weeks {
     }
 
     /// Puts a calendar in place of the student's. It takes no memory.
-    pub fn put(&mut self, student: StudentId, calendar: Calendar)
+    pub(crate) fn put(&mut self, student: StudentId, calendar: Calendar)
         requires { has_row self.old student.0 ≡ true }
         ensures { Puts self.old self.new student.0 calendar }
     {
