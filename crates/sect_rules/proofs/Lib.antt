@@ -7,3 +7,4 @@ pub mod ReservedLemmas
 pub mod LeastLemmas
 pub mod OwnLemmas
 pub mod CourseLemmas
+pub mod ClearLemmas

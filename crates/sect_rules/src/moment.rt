@@ -24,7 +24,7 @@ use crate::held::{
     counts_given, counts_made, credits, credits_kept, credits_made, given_by, holds_kept,
     holds_made, made_by, max_credits,
 };
-use crate::overlap::lesser_of;
+use crate::overlap::{is_clear, lesser_of};
 use crate::path::PathOf;
 use crate::place::{offering, subparts};
 use sect_base::{
@@ -205,15 +205,16 @@ impl<'a> Moment<'a> {
     }
 
     /// The least section of the student's other choices that the meetings overlap, where neither
-    /// permits it.
+    /// permits it. Where the student's calendar is clear, what is held isn't looked at.
     pub fn least_held(&self, permitted: bool, meetings: &[Meeting]) -> Option<u32>
         ensures { result ≡ least (flat_map (λ e. overlapped self.now.at permitted meetings.now e.choice) (held_by self.now.at self.now.student)) }
     {
-        let held = self.world.enrolments(self.student);
-        let (give, done) = (self.give, self.done);
-        lesser_of(
-            self.least_kept(permitted, meetings, give, held),
-            self.least_made(permitted, meetings, done),
-        )
+        let kept = if is_clear(self.world.calendar(self.student), meetings) {
+            None
+        } else {
+            let held = self.world.enrolments(self.student);
+            self.least_kept(permitted, meetings, self.give, held)
+        };
+        lesser_of(kept, self.least_made(permitted, meetings, self.done))
     }
 }

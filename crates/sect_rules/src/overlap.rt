@@ -1,10 +1,11 @@
 // The least section that overlaps another one.
 
 ghost use Rattle.std.specs.Prelude.{◌≡◌, ◌++◌, map, filter, cond, flat_map, option_copied};
-ghost use Rattle.std.specs.Prelude.{[], ◌||◌, false};
-ghost use Rattle.std.specs.List.{list_any};
+ghost use Rattle.std.specs.Prelude.{[], ◌||◌, false, IsTrue};
+ghost use Rattle.std.specs.List.{list_any, All};
 ghost use Rattle.std.specs.Option.{option_map_or};
 ghost use Rattle.sect_time.specs.Pattern.{meetings_overlap, lists_overlap};
+ghost use Rattle.sect_time.specs.Calendar.{IsClearFor};
 ghost use Rattle.sect_model.specs.World.{meetings_of};
 ghost use Rattle.sect_model.specs.Allowed.{permits_overlap as choice_permits};
 ghost use Rattle.sect_model.specs.Rules.{least, held_overlaps, own_overlaps};
@@ -16,7 +17,7 @@ use crate::moment::Moment;
 use sect_base::{Choice, CourseId, SectionId};
 use sect_model::Enrolment;
 use sect_reserve::Reservation;
-use sect_time::{Meeting, overlaps};
+use sect_time::{Calendar, Meeting, overlaps};
 
 /// Whether a meeting of the one overlaps a meeting of the other.
 pub fn any_overlap(meetings: &[Meeting], others: &[Meeting]) -> bool
@@ -29,6 +30,13 @@ fn overlaps_any(meeting: &Meeting, others: &[Meeting]) -> bool
     ensures { result ≡ list_any (meetings_overlap meeting.now) others.now }
 {
     others.iter().any(|other| overlaps(meeting, other))
+}
+
+/// Whether none of the meetings' slots is taken in the calendar, whatever their weeks are.
+pub fn is_clear(calendar: &Calendar, meetings: &[Meeting]) -> bool
+    ensures { IsTrue result → All (IsClearFor calendar.now) meetings.now }
+{
+    meetings.iter().all(|meeting| calendar.clear(meeting))
 }
 
 /// The lesser of two numbers, where there are any.

@@ -11,4 +11,5 @@ pub mod StudentBack
 pub mod Sums
 pub mod TakenBack
 pub mod UndoLemmas
+pub mod WeekLemmas
 pub mod WorldLemmas

@@ -1,4 +1,4 @@
--- Each change of the parts, and each taken back, followed by their numbers.
+-- Each change of the parts, and each taken back, followed by their numbers and weeks.
 use Rattle.std.specs.Prelude.{◌≡◌, ◌≤◌, true, false, ◌==◌, find, Option, Some, None, Result, Ok, Err, IfOk, OnErr, refl}
 use Rattle.std.specs.List.{list_any, position_or_len}
 use Rattle.std.specs.Option.{option_map_or, is_some}
@@ -27,13 +27,19 @@ use Rattle.sect_space.proofs.RoomLemmas.{among}
 use Rattle.sect_numbers.proofs.KnownLemmas.{told-grown, told-of-others}
 use Rattle.sect_numbers.proofs.BackLemmas.{told-before-others}
 use Rattle.sect_numbers.proofs.IdLemmas.{counted-id}
+use Rattle.sect_weeks.specs.declared.weeks.Weeks.{Weeks}
+use Rattle.sect_weeks.specs.Busy.{ToldWeeks}
+use Rattle.sect_weeks.specs.Quiet.{has_new as has_student}
+use Rattle.sect_weeks.specs.Rows.{Keeps}
+use Rattle.sect_weeks.proofs.ToldLemmas.{kept-is-told}
+use Rattle.sect_weeks.proofs.QuietLemmas.{quiet-is-told, back-is-told}
 use Rattle.sect_space.specs.declared.back.Back.{Back}
 use Rattle.sect_space.specs.declared.back.Back.TheVariants.{Enrolled, Left}
 use Rattle.sect_space.specs.declared.parts.Parts.{Parts}
 use Rattle.sect_space.specs.Back.{back_of, taken_back, no_change, offering_id, is_of_quiet}
 use Rattle.sect_space.specs.Counting.{OneBehind, OneAhead}
 use Rattle.sect_space.specs.Made.{Made, Unchanged, Taken, Ready}
-use Rattle.sect_space.specs.Parts.{roomed_of, numbered_of, Numbered}
+use Rattle.sect_space.specs.Parts.{roomed_of, numbered_of, Numbered, Followed}
 use Rattle.sect_space.specs.Roomed.{Roomed}
 use Rattle.sect_space.specs.Room.{HasRoom, KeepsUses}
 use Rattle.sect_space.specs.Undoing.{MadeBy}
@@ -81,28 +87,36 @@ numbered-quiet p q n m c (Err e) i f quiet g new made same = record {
   told = subst (Told m) (sym same.world) (told-grown n m (roomed_of p).world i.told g);
 }
 
-pub enrolled-behind : (p q : Parts) (n : Numbers) (e : Enrolment) (b : Back) → Numbered p n → Fits (roomed_of p).world (Enrol e) → Made (roomed_of p) (roomed_of q) (Enrol e) b
-    → OneBehind n (roomed_of q).world e
-enrolled-behind p q n e b i f made =
+pub weeks-quiet : (p q : Parts) (n : Numbers) (k l : Weeks) (c : Change) (result : Result Back Memory) → Followed p n k → Fits (roomed_of p).world c → is_quiet c ≡ true → Keeps k l → has_student l c ≡ true
+    → IfOk result (λ b. Made (roomed_of p) (roomed_of q) c b) → OnErr result (Unchanged (roomed_of p) (roomed_of q)) → ToldWeeks l (roomed_of q).world
+weeks-quiet p q n k l c (Ok b) i f quiet keeps new made same =
+    subst (ToldWeeks l) (sym made.world) (quiet-is-told k l (roomed_of p).world c i.numbered.kept f quiet i.weeks keeps new)
+weeks-quiet p q n k l c (Err e) i f quiet keeps new made same = subst (ToldWeeks l) (sym same.world) (kept-is-told k l (roomed_of p).world i.weeks keeps)
+
+pub enrolled-behind : (p q : Parts) (n : Numbers) (k : Weeks) (e : Enrolment) (b : Back) → Followed p n k → Fits (roomed_of p).world (Enrol e) → Made (roomed_of p) (roomed_of q) (Enrol e) b
+    → OneBehind n k (roomed_of q).world e
+enrolled-behind p q n k e b i f made =
     let w = (roomed_of p).world in
     record {
       less = w.roster;
       is_more = subst (λ es. IsMore w.roster es e) (sym (ap (λ (v : World). v.roster) made.world)) (inserted e w.roster);
-      kept = subst KeptWorld (sym made.world) (changes-keep w (Enrol e) i.kept f);
-      told = subst (λ v. Told n (with_roster v w.roster)) (sym made.world) i.told;
+      kept = subst KeptWorld (sym made.world) (changes-keep w (Enrol e) i.numbered.kept f);
+      told = subst (λ v. Told n (with_roster v w.roster)) (sym made.world) i.numbered.told;
+      weeks = subst (λ v. ToldWeeks k (with_roster v w.roster)) (sym made.world) i.weeks;
     }
 
-pub left-ahead : (p q : Parts) (n : Numbers) (student : StudentId) (course : CourseId) (place : _) (e : Enrolment) (b : Back) → Numbered p n
+pub left-ahead : (p q : Parts) (n : Numbers) (k : Weeks) (student : StudentId) (course : CourseId) (place : _) (e : Enrolment) (b : Back) → Followed p n k
     → Made (roomed_of p) (roomed_of q) (Leave student course) b → place ≤ number_held e.student.0 (roomed_of q).world.roster → (roomed_of p).world.roster ≡ put_among place e (roomed_of q).world.roster
-    → OneAhead n (roomed_of q).world e
-left-ahead p q n student course place e b i made within last =
+    → OneAhead n k (roomed_of q).world e
+left-ahead p q n k student course place e b i made within last =
     let w = (roomed_of p).world in
     let v = (roomed_of q).world in
     record {
       more = w.roster;
       is_more = subst (λ es. IsMore v.roster es e) (sym last) (among e v.roster place within);
-      kept = subst (λ u. KeptWorld (with_roster u w.roster)) (sym made.world) i.kept;
-      told = subst (λ u. Told n (with_roster u w.roster)) (sym made.world) i.told;
+      kept = subst (λ u. KeptWorld (with_roster u w.roster)) (sym made.world) i.numbered.kept;
+      told = subst (λ u. Told n (with_roster u w.roster)) (sym made.world) i.numbered.told;
+      weeks = subst (λ u. ToldWeeks k (with_roster u w.roster)) (sym made.world) i.weeks;
     }
 
 -- ---- changes taken back
@@ -128,7 +142,7 @@ leaves w student course None e h q =
 leaves w student course (Some x) e h q = q
 
 -- what is kept of a change tells whether it enrols nobody, and nobody leaves by it
-of-quiet : (w : World) (c : Change) → Fits w c → is_of_quiet (back_of w c) ≡ true → is_quiet c ≡ true
+pub of-quiet : (w : World) (c : Change) → Fits w c → is_of_quiet (back_of w c) ≡ true → is_quiet c ≡ true
 of-quiet w (Offering row) f h = refl
 of-quiet w (Student row) f h = refl
 of-quiet w (Requests student asks) f h = refl
@@ -177,28 +191,36 @@ back-quiet p q n b i m quiet taken =
     (subst (Told n) (sym m.led) i.told) (old-rows p n m.before m.change m.room m.led m.fits) in
     record { kept = subst KeptWorld (sym same) m.kept; told = subst (Told n) (sym same) before }
 
-pub removed-ahead : (p q : Parts) (n : Numbers) (student : StudentId) (offering : Option OfferingId) (e : Enrolment) → Numbered p n
+pub weeks-back : (p q : Parts) (n : Numbers) (k : Weeks) (b : Back) → ToldWeeks k (roomed_of p).world → MadeBy (numbered_of p n) b → is_of_quiet b ≡ true → Taken (roomed_of p) (roomed_of q) b → ToldWeeks k (roomed_of q).world
+weeks-back p q n k b told m quiet taken =
+    let same = taken.world ∙ back-before p n b m in
+    subst (ToldWeeks k) (sym same)
+    (back-is-told k m.before m.change m.kept m.fits (of-quiet m.before m.change m.fits (ap is_of_quiet m.recorded ∙ quiet)) (subst (ToldWeeks k) (sym m.led) told))
+
+pub removed-ahead : (p q : Parts) (n : Numbers) (k : Weeks) (student : StudentId) (offering : Option OfferingId) (e : Enrolment) → Followed p n k
     → Taken (roomed_of p) (roomed_of q) (Enrolled student offering) → (roomed_of p).world.roster ≡ insert_enrolment e (roomed_of q).world.roster
-    → OneAhead n (roomed_of q).world e
-removed-ahead p q n student offering e i taken last =
+    → OneAhead n k (roomed_of q).world e
+removed-ahead p q n k student offering e i taken last =
     let w = (roomed_of p).world in
     let v = (roomed_of q).world in
     record {
       more = w.roster;
       is_more = subst (λ es. IsMore v.roster es e) (sym last) (inserted e v.roster);
-      kept = subst (λ u. KeptWorld (with_roster u w.roster)) (sym taken.world) i.kept;
-      told = subst (λ u. Told n (with_roster u w.roster)) (sym taken.world) i.told;
+      kept = subst (λ u. KeptWorld (with_roster u w.roster)) (sym taken.world) i.numbered.kept;
+      told = subst (λ u. Told n (with_roster u w.roster)) (sym taken.world) i.numbered.told;
+      weeks = subst (λ u. ToldWeeks k (with_roster u w.roster)) (sym taken.world) i.weeks;
     }
 
-pub put-behind : (p q : Parts) (n : Numbers) (place : _) (e : Enrolment) (offering : Option OfferingId) → Numbered p n → MadeBy (numbered_of p n) (Left place e offering)
-    → Taken (roomed_of p) (roomed_of q) (Left place e offering) → OneBehind n (roomed_of q).world e
-put-behind p q n place e offering i m taken =
+pub put-behind : (p q : Parts) (n : Numbers) (k : Weeks) (place : _) (e : Enrolment) (offering : Option OfferingId) → Followed p n k → MadeBy (numbered_of p n) (Left place e offering)
+    → Taken (roomed_of p) (roomed_of q) (Left place e offering) → OneBehind n k (roomed_of q).world e
+put-behind p q n k place e offering i m taken =
     let w = (roomed_of p).world in
     record {
       less = w.roster;
       is_more = subst (λ es. IsMore w.roster es e) (sym (ap (λ (v : World). v.roster) taken.world)) (among e w.roster place (back-ready p n (Left place e offering) m).1);
       kept = subst KeptWorld (sym taken.world) (back-kept p n (Left place e offering) m);
-      told = subst (λ v. Told n (with_roster v w.roster)) (sym taken.world) i.told;
+      told = subst (λ v. Told n (with_roster v w.roster)) (sym taken.world) i.numbered.told;
+      weeks = subst (λ v. ToldWeeks k (with_roster v w.roster)) (sym taken.world) i.weeks;
     }
 
 pub kept-back : (p q : Parts) (n : Numbers) (b : Back) → MadeBy (numbered_of p n) b → Taken (roomed_of p) (roomed_of q) b → KeptWorld (roomed_of q).world

@@ -1,4 +1,4 @@
-// Each change of the world, and each taken back, with the numbers that tell of it.
+// Each change of the world, and each taken back, with the numbers and weeks that tell of it.
 
 ghost use Rattle.std.specs.Prelude.{◌≡◌, ◌<◌, true, IfOk, IsOk, OnErr, IsTrue};
 ghost use Rattle.sect_model.specs.Fits.{Fits};
@@ -40,6 +40,7 @@ impl World {
         ensures enough { IsTrue (takes_none change) → HasPlace self.old change → IsOk result }
     {
         self.numbers.add_rows(&change)?;
+        self.weeks.add_rows(&change)?;
         self.parts.change(change)
     }
 
@@ -51,7 +52,8 @@ impl World {
         ensures enough { 0 < free_for self.old enrolment.student.0 → IsOk result }
     {
         let back = self.parts.enrol(enrolment)?;
-        self.parts.count_in(&mut self.numbers, &enrolment);
+        self.parts
+            .count_in(&mut self.numbers, &mut self.weeks, &enrolment);
         Ok(back)
     }
 
@@ -61,7 +63,8 @@ impl World {
         ensures uses { KeepsUses self.old self.new }
     {
         let (place, enrolment, offering) = self.parts.leave(student, course);
-        self.parts.count_out(&mut self.numbers, &enrolment);
+        self.parts
+            .count_out(&mut self.numbers, &mut self.weeks, &enrolment);
         Back::Left(place, enrolment, offering)
     }
 
@@ -96,7 +99,8 @@ impl World {
         ensures uses { KeepsUses self.old self.new }
     {
         let enrolment = self.parts.remove_enrolment(student, offering);
-        self.parts.count_out(&mut self.numbers, &enrolment);
+        self.parts
+            .count_out(&mut self.numbers, &mut self.weeks, &enrolment);
     }
 
     fn put_enrolment_back(
@@ -110,6 +114,7 @@ impl World {
         ensures uses { KeepsUses self.old self.new }
     {
         self.parts.put_enrolment_back(place, enrolment, offering);
-        self.parts.count_in(&mut self.numbers, &enrolment);
+        self.parts
+            .count_in(&mut self.numbers, &mut self.weeks, &enrolment);
     }
 }

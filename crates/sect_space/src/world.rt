@@ -1,10 +1,13 @@
 // The world: offerings, students, reservations, restrictions, enrolments, and a day.
 
-ghost use Rattle.std.specs.Prelude.{◌≡◌, option_copied, IfOk};
+ghost use Rattle.std.specs.Prelude.{◌≡◌, option_copied, IfOk, IsTrue};
+ghost use Rattle.std.specs.Option.{is_some};
+ghost use Rattle.sect_people.specs.Student.{find_student};
 ghost use Rattle.sect_model.specs.World.{empty_world, held_by, reservation_of};
 ghost use Rattle.sect_model.specs.Allowed.{reservations_of, restrictions_of};
 ghost use Rattle.sect_model.specs.Refusals.{restriction_of};
 ghost use Rattle.sect_model.specs.Kept.{KeptWorld};
+ghost use Rattle.sect_weeks.specs.Busy.{IsWeekOf};
 
 use crate::parts::Parts;
 use sect_base::{Memory, OfferingId, ReservationId, RestrictionId, StudentId};
@@ -15,7 +18,8 @@ use sect_people::People;
 use sect_reserve::{Reservation, Restriction};
 use sect_roster::{Reservations, Restrictions};
 use sect_slots::Roster;
-use sect_time::Day;
+use sect_time::{Calendar, Day};
+use sect_weeks::Weeks;
 use std::alloc::Global;
 use std::marker::Model;
 
@@ -25,17 +29,18 @@ use std::marker::Model;
 pub struct World {
     pub(crate) parts: Parts,
     pub(crate) numbers: Numbers,
+    pub(crate) weeks: Weeks,
 }
 
 impl Model for World {
     ghost use Rattle.sect_space.specs.Roomed.{Roomed};
-    ghost use Rattle.sect_space.specs.Parts.{numbered_of, Numbered};
+    ghost use Rattle.sect_space.specs.Parts.{numbered_of, Followed};
 
     ghost Value = { Roomed };
 
     ghost view = { λ w. numbered_of w.parts w.numbers };
 
-    ghost invariant = { λ w. Numbered w.parts w.numbers };
+    ghost invariant = { λ w. Followed w.parts w.numbers w.weeks };
 }
 
 /// The day from which days are counted.
@@ -63,6 +68,7 @@ impl World {
                 day: first_day(),
             },
             numbers: Numbers::empty(alloc),
+            weeks: Weeks::empty(alloc),
         }
     }
 
@@ -134,6 +140,17 @@ impl World {
         ensures { result.now ≡ held_by self.now.world student }
     {
         self.parts.roster.of_student(student)
+    }
+
+    /// The slots of the week in which the sections that a known student holds meet. It takes no memory.
+    pub fn calendar(&self, student: StudentId) -> &Calendar
+        requires { IsTrue (is_some (find_student self.now.world.students student)) }
+        ensures { IsWeekOf result.now self.now.world student }
+    {
+        match self.weeks.get(student) {
+            Some(calendar) => calendar,
+            None => unreachable!(),
+        }
     }
 
     /// All enrolments, in rising order of student, and for one student in the order in which they were made.

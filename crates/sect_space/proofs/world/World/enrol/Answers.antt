@@ -1,4 +1,4 @@
--- the numbers count the enrolment
+-- the numbers and weeks count the enrolment
 use Rattle.std.proofs.Common.{◌∙◌}
 use Rattle.sect_model.specs.declared.change.Change.TheVariants.{Enrol}
 use Rattle.sect_space.proofs.NumberLemmas.{fits-in, kept-made, enrolled-behind, uses-kept}
@@ -6,17 +6,20 @@ use Rattle.sect_space.proofs.world.World.enrol.Goals as goal
 
 pub count_in-requires : goal.count_in-requires
 count_in-requires c =
-    enrolled-behind c.self.inside.parts c.enrol.new.self c.self.inside.numbers c.args.enrolment _ c.self.invariant
+    enrolled-behind c.self.inside.parts c.enrol.new.self c.self.inside.numbers c.self.inside.weeks c.args.enrolment _ c.self.invariant
     (fits-in c.args.self.now c.self.inside.parts c.self.inside.numbers (Enrol c.args.enrolment) c.self.view_is c.requires) c.in_ok-back.ensures.ok
 
 pub invariant_of-self-2 : goal.invariant_of-self-2
 invariant_of-self-2 c = record {
-  kept =
-      kept-made c.self.inside.parts c.enrol.new.self c.self.inside.numbers (Enrol c.args.enrolment) _ c.self.invariant
-      (fits-in c.args.self.now c.self.inside.parts c.self.inside.numbers (Enrol c.args.enrolment) c.self.view_is c.requires) c.in_ok-back.ensures.ok;
-  told = c.count_in.ensures.told;
+  numbered = record {
+    kept =
+        kept-made c.self.inside.parts c.enrol.new.self c.self.inside.numbers (Enrol c.args.enrolment) _ c.self.invariant.numbered
+        (fits-in c.args.self.now c.self.inside.parts c.self.inside.numbers (Enrol c.args.enrolment) c.self.view_is c.requires) c.in_ok-back.ensures.ok;
+    told = c.count_in.ensures.told;
+  };
+  weeks = c.count_in.ensures.weeks;
 }
 
 pub returns-clause-uses : goal.returns-clause-uses
 returns-clause-uses c =
-    uses-kept c.args.self.now c.self.inside.parts c.enrol.new.self c.self.inside.numbers c.count_in.new.numbers c.self.view_is c.self.invariant (λ id h. c.count_in.ensures.rows id ∙ h)
+    uses-kept c.args.self.now c.self.inside.parts c.enrol.new.self c.self.inside.numbers c.count_in.new.numbers c.self.view_is c.self.invariant.numbered (λ id h. c.count_in.ensures.rows id ∙ h)

@@ -1,4 +1,4 @@
--- the numbers count the enrolment again
+-- the numbers and weeks count the enrolment again
 use Rattle.std.proofs.Common.{◌∙◌}
 use Rattle.sect_space.specs.declared.back.Back.TheVariants.{Left}
 use Rattle.sect_space.proofs.NumberLemmas.{made-in, back-ready, back-kept, kept-back, put-behind, uses-kept}
@@ -16,19 +16,22 @@ put_enrolment_back-requires-clause-kept c =
 
 pub count_in-requires : goal.count_in-requires
 count_in-requires c =
-    put-behind c.self.inside.parts c.put_enrolment_back.new.self c.self.inside.numbers c.args.place c.args.enrolment c.args.offering c.self.invariant
+    put-behind c.self.inside.parts c.put_enrolment_back.new.self c.self.inside.numbers c.self.inside.weeks c.args.place c.args.enrolment c.args.offering c.self.invariant
     (made-in c.args.self.now c.self.inside.parts c.self.inside.numbers (Left c.args.place c.args.enrolment c.args.offering) c.self.view_is c.requires)
     c.put_enrolment_back.ensures
 
 pub invariant_of-self : goal.invariant_of-self
 invariant_of-self c = record {
-  kept =
-      kept-back c.self.inside.parts c.put_enrolment_back.new.self c.self.inside.numbers (Left c.args.place c.args.enrolment c.args.offering)
-      (made-in c.args.self.now c.self.inside.parts c.self.inside.numbers (Left c.args.place c.args.enrolment c.args.offering) c.self.view_is c.requires)
-      c.put_enrolment_back.ensures;
-  told = c.count_in.ensures.told;
+  numbered = record {
+    kept =
+        kept-back c.self.inside.parts c.put_enrolment_back.new.self c.self.inside.numbers (Left c.args.place c.args.enrolment c.args.offering)
+        (made-in c.args.self.now c.self.inside.parts c.self.inside.numbers (Left c.args.place c.args.enrolment c.args.offering) c.self.view_is c.requires)
+        c.put_enrolment_back.ensures;
+    told = c.count_in.ensures.told;
+  };
+  weeks = c.count_in.ensures.weeks;
 }
 
 pub returns-clause-uses : goal.returns-clause-uses
 returns-clause-uses c =
-    uses-kept c.args.self.now c.self.inside.parts c.put_enrolment_back.new.self c.self.inside.numbers c.count_in.new.numbers c.self.view_is c.self.invariant (λ id h. c.count_in.ensures.rows id ∙ h)
+    uses-kept c.args.self.now c.self.inside.parts c.put_enrolment_back.new.self c.self.inside.numbers c.count_in.new.numbers c.self.view_is c.self.invariant.numbered (λ id h. c.count_in.ensures.rows id ∙ h)

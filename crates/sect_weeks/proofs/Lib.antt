@@ -1,0 +1,4 @@
+pub mod AddLemmas
+pub mod BusyLemmas
+pub mod ToldLemmas
+pub mod QuietLemmas

@@ -1,0 +1,6 @@
+pub mod Busy
+pub mod Enrolled
+pub mod Laws
+pub mod Quiet
+pub mod Rows
+pub mod Taken

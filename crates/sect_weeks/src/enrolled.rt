@@ -1,0 +1,45 @@
+// Calendars after an enrolment is made or taken away.
+
+ghost use Rattle.std.specs.Prelude.{◌≡◌, ℕ, true};
+ghost use Rattle.sect_time.specs.Calendar.{is_set};
+ghost use Rattle.sect_weeks.specs.Rows.{has_row, is_taken};
+ghost use Rattle.sect_weeks.specs.Enrolled.{TakesMore, TakesAnew};
+
+use crate::calendar::{add_sections, calendar_of};
+use crate::weeks::Weeks;
+use sect_base::StudentId;
+use sect_catalog::Catalogue;
+use sect_model::Enrolment;
+use sect_time::Calendar;
+
+impl Weeks {
+    /// Takes the slots of an enrolment that was made. Its student has a calendar. It takes no memory.
+    pub fn enrolled(&mut self, catalogue: &Catalogue, enrolment: &Enrolment)
+        requires { has_row self.old enrolment.now.student.0 ≡ true }
+        ensures { TakesMore self.old self.new catalogue.now.rows enrolment.now }
+    {
+        let mut calendar = self.copied(enrolment.student);
+        let sections = enrolment.choice.sections.as_slice();
+        add_sections(&mut calendar, catalogue, sections);
+        self.put(enrolment.student, calendar);
+    }
+
+    /// Makes the calendar of a student whom an enrolment left again, from those that are still held. The student has a
+    /// calendar. It takes no memory.
+    pub fn left(&mut self, catalogue: &Catalogue, student: StudentId, held: &[Enrolment])
+        requires { has_row self.old student.0 ≡ true }
+        ensures { TakesAnew self.old self.new catalogue.now.rows student.0 held.now }
+    {
+        self.put(student, calendar_of(catalogue, held));
+    }
+
+    /// The calendar of a student, an empty one where there is none.
+    fn copied(&self, student: StudentId) -> Calendar
+        ensures { (day slot : ℕ) → is_set result day slot ≡ is_taken self.now student.0 day slot }
+    {
+        match self.get(student) {
+            Some(calendar) => *calendar,
+            None => Calendar::empty(),
+        }
+    }
+}

@@ -1,0 +1,85 @@
+// The calendar of each student.
+
+ghost use Rattle.std.specs.Prelude.{◌≡◌, true, OnOk, option_copied};
+ghost use Rattle.sect_model.specs.World.{empty_world};
+ghost use Rattle.sect_weeks.specs.Busy.{ToldWeeks};
+ghost use Rattle.sect_weeks.specs.Rows.{calendar_of, row_of, place_of, has_row, Puts, Keeps};
+
+use sect_base::{Memory, StudentId};
+use sect_time::Calendar;
+use std::alloc::Global;
+use std::collections::HashMap;
+
+/// The calendar of a student.
+#[derive(Clone, Copy)]
+struct Row {
+    student: StudentId,
+    calendar: Calendar,
+}
+
+/// The calendars of students. The rows stand in the order of their coming; each names its student, and a look-up tests it,
+/// so that nothing need be kept of the map.
+#[derive(Drop)]
+pub struct Weeks {
+    places: HashMap<u32, usize>,
+    rows: Vec<Row>,
+}
+
+impl Weeks {
+    /// No calendars, as in a world of no rows. It takes no memory.
+    pub fn empty(alloc: Global) -> Weeks
+        ensures { ToldWeeks result empty_world }
+    {
+        Weeks {
+            places: HashMap::new(alloc),
+            rows: Vec::new(alloc),
+        }
+    }
+
+    /// The calendar of a student. None where there is none. It takes no memory.
+    pub fn get(&self, student: StudentId) -> Option<&Calendar>
+        ensures { option_copied result ≡ calendar_of self.now student.0 }
+    {
+        let place = self.place(student)?;
+        Some(&self.rows[place].calendar)
+    }
+
+    /// Gives a student an empty calendar, where there is none. Where memory runs out, the calendars stay.
+    pub(crate) fn add_row(&mut self, student: StudentId) -> Result<(), Memory>
+        ensures keeps { Keeps self.old self.new }
+        ensures ok { OnOk result (has_row self.new student.0 ≡ true) }
+    {
+        if self.place(student).is_some() {
+            return Ok(());
+        }
+        let place = self.rows.len();
+        self.rows.push(Row {
+            student,
+            calendar: Calendar::empty(),
+        })?;
+        self.places.insert(student.0, place)?;
+        Ok(())
+    }
+
+    /// Puts a calendar in place of the student's. It takes no memory.
+    pub(crate) fn put(&mut self, student: StudentId, calendar: Calendar)
+        requires { has_row self.old student.0 ≡ true }
+        ensures { Puts self.old self.new student.0 calendar }
+    {
+        if let Some(place) = self.place(student) {
+            self.rows[place] = Row { student, calendar };
+        }
+    }
+
+    fn place(&self, student: StudentId) -> Option<usize>
+        ensures { result ≡ place_of self.now student.0 }
+    {
+        let place = *self.places.get(&student.0)?;
+        let row = self.rows.get(place)?;
+        if row.student == student {
+            Some(place)
+        } else {
+            None
+        }
+    }
+}
