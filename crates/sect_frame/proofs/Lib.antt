@@ -1,2 +1,8 @@
 mod ReadLemmas
 mod WalkLemmas
+mod FoundLemmas
+mod PartLemmas
+mod CatalogueLemmas
+mod ElsewhereLemmas
+mod UntouchedLemmas
+mod OutcomeLemmas
