@@ -6,3 +6,4 @@ mod CatalogueLemmas
 mod ElsewhereLemmas
 mod UntouchedLemmas
 mod OutcomeLemmas
+mod NeedLemmas
