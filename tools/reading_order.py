@@ -112,6 +112,10 @@ CHAPTERS = [
     ('What a change may open',
      'When a world is no freer for a waiting entry than another, and which changes may give it a move.',
      model('Freer')),
+    ('What leaves an outcome as it is',
+     'When a waiting entry\'s search has the same outcome in two worlds, which changes leave it so, and which entries need '
+     'no other search. The laws stand on the functions of `crates/sect_frame/src/laws.rt`.',
+     ['sect_frame/specs/Frame.antt']),
     ('Histories',
      'Requests that acted, with their replies; what a replay of them gives, and which requests act.',
      model('History')),

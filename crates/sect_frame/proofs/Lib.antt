@@ -1,0 +1,9 @@
+mod ReadLemmas
+mod WalkLemmas
+mod FoundLemmas
+mod PartLemmas
+mod CatalogueLemmas
+mod ElsewhereLemmas
+mod UntouchedLemmas
+mod OutcomeLemmas
+mod NeedLemmas
