@@ -1,5 +1,5 @@
 -- What a command opens is marked, so the entries that aren't marked have no move after it.
-use Rattle.std.specs.Prelude.{◌≡◌, ℕ, max, nat_lt, Bool, true, false, not, ◌&&◌, ◌||◌, ◌==◌, cond, List, [], ◌∷◌, ◌++◌, map, find, filter, Option, Some, None, Result, OnOk, IsTrue, refl, ◌⊎◌}
+use Rattle.std.specs.Prelude.{◌≡◌, ℕ, max, nat_lt, Bool, true, false, not, ◌&&◌, ◌||◌, ◌==◌, cond, List, [], ◌∷◌, ◌++◌, Option, Some, None, Result, OnOk, IsTrue, refl, ◌⊎◌}
 use Rattle.std.specs.List.{list_any, list_all}
 use Rattle.std.specs.Option.{option_map_or, option_and_then, is_some}
 use Rattle.std.proofs.Common.{sym, ◌∙◌, ap, subst, arith, inl, inr}
@@ -24,7 +24,7 @@ use Rattle.sect_model.specs.Refusals.{restriction_of}
 use Rattle.sect_model.specs.Outcome.{outcome_of}
 use Rattle.sect_model.specs.Move.{are_allowed}
 use Rattle.sect_model.specs.Allowed.{is_allowed}
-use Rattle.sect_model.specs.Settle.{found_in, make_move, without}
+use Rattle.sect_model.specs.Settle.{found_in, make_move}
 use Rattle.sect_model.specs.Fits.{Fits, changed}
 use Rattle.sect_model.specs.Kept.{KeptWorld, KeptState, entry_fits}
 use Rattle.sect_model.specs.Accepted.{CommandFits}
@@ -44,7 +44,7 @@ use Rattle.sect_wait.specs.Marked.{Marked, is_marked, OthersHaveNoMove, MarksKep
 use Rattle.sect_wait.specs.Indexed.{MarksTold}
 use Rattle.sect_wait.proofs.MarkLemmas.{changed-others, among-append, more-test, neither, on-ok, others-without}
 use Rattle.sect_wait.proofs.ToldLemmas.{nobody-marked, told-marks}
-use Rattle.sect_machine.specs.Opening.{RecordsLimit, batch_opens, enrolled_opens, flip_opens, is_joined, last_offering, opened, opens, reserved_in, restricted_in, swap_opens}
+use Rattle.sect_machine.specs.Opening.{RecordsLimit, batch_opens, enrolled_opens, flip_opens, last_offering, opened, opens, reserved_in, restricted_in, swap_opens}
 use Rattle.sect_machine.proofs.LimitLemmas.{limit-closed}
 use Rattle.sect_machine.proofs.OpenedLemmas.{Stays, batch-stays, swap-stays}
 
@@ -89,12 +89,12 @@ restricted w e (Some r) k h = wanted w r.offering e k h
 
 module _ (s : State) (k : KeptState s) (m n l : Marked) (others : OthersHaveNoMove s.world s.entries m) where
   -- an entry that isn't marked has no move
-  stays : (e : Waiting) → Among s.entries e → is_marked m e.ticket ≡ false → Stays e s.world
+  stays : (e : Waiting) → Among s.entries e → is_marked m e ≡ false → Stays e s.world
   stays e a unmarked = record { kept = k.world; fits = all-at (entry_fits s.world) s.entries k.entries_fit e (member s.entries e a); no_move = others e a unmarked }
 
   -- nothing of the world was changed
   same-world : MarksKept m n → MarksKept n l → OthersHaveNoMove s.world s.entries l
-  same-world before after e a unmarked = others e a (before e.ticket (after e.ticket unmarked))
+  same-world before after e a unmarked = others e a (before e (after e unmarked))
 
   -- one change was made, of which the command's marks before it tell
   one-change : (change : Change) (test : Waiting → Bool) → Fits s.world change → ((e : Waiting) → test e ≡ false → may_open s.world e change ≡ false) → MarksMore test s.entries m n → MarksKept n l
@@ -102,7 +102,7 @@ module _ (s : State) (k : KeptState s) (m n l : Marked) (others : OthersHaveNoMo
   one-change change test fits opens_what before after =
       changed-others s.world (changed s.world change) s.entries m l change k.world fits k.entries_fit refl others (record {
         kept = λ t h. before.kept t (after t h);
-        added = λ e a h. opens_what e (before.added e a (after e.ticket h));
+        added = λ e a h. opens_what e (before.added e a (after e h));
       })
 
   -- an enrolment by what its search found
@@ -130,7 +130,7 @@ module _ (s : State) (k : KeptState s) (m n l : Marked) (others : OthersHaveNoMo
       → MarksMore (swap_opens (moved s mv Swapped o).state.world mv.student mv.give (moved s mv Swapped o).reply) (moved s mv Swapped o).state.entries n l
       → OthersHaveNoMove (moved s mv Swapped o).state.world (moved s mv Swapped o).state.entries l
   by-swap mv budget (Found choices visits) found fits before after = λ e a unmarked.
-      (swap-stays e s.world mv choices fits (found-allowed s.world mv budget choices (ap found_in found)) (after.added e a unmarked) (stays e a (before e.ticket (after.kept e.ticket unmarked)))).no_move
+      (swap-stays e s.world mv choices fits (found-allowed s.world mv budget choices (ap found_in found)) (after.added e a unmarked) (stays e a (before e (after.kept e unmarked)))).no_move
   by-swap mv budget (blocked tree visits) found fits before after = same-world before after.kept
   by-swap mv budget (spent b) found fits before after = same-world before after.kept
 
@@ -148,7 +148,7 @@ module _ (s : State) (k : KeptState s) (m n l : Marked) (others : OthersHaveNoMo
       → MarksMore (batch_opens (batched s students).state.world (batched s students).reply) (batched s students).state.entries n l
       → OthersHaveNoMove (batched s students).state.world (batched s students).state.entries l
   by-batch students known before after = λ e a unmarked.
-      batch-stays s students e known (λ old. stays e old (before e.ticket (after.kept e.ticket unmarked)))
+      batch-stays s students e known (λ old. stays e old (before e (after.kept e unmarked)))
       (join_lines (record { state = record s { world = (batch_of s.world students).world }; lines = [] }) (batch_of s.world students).answered) refl (after.added e a unmarked) a
 
   by-cancel : (id : SectionId) (b : Bool) → is_cancelled s.world.catalogue id ≡ b → (is_cancelled s.world.catalogue id ≡ false → Fits s.world (Cancelled id)) → MarksMore (λ e. false) s.entries m n → MarksKept n l
@@ -162,7 +162,7 @@ module _ (s : State) (k : KeptState s) (m n l : Marked) (others : OthersHaveNoMo
   by-join f before after e a unmarked = by_place (among-append s.entries f e a)
     where
       by_place : Among s.entries e ⊎ Among (f ∷ []) e → NoMove s.world e
-      by_place (inl old) = others e old (before e.ticket (after.kept e.ticket unmarked))
+      by_place (inl old) = others e old (before e (after.kept e unmarked))
       by_place (inr (inl new)) = no (sym (eq-eqb f.ticket e.ticket (ap (λ (x : Waiting). x.ticket) new)) ∙ after.added e a unmarked)
       by_place (inr (inr new)) = absurd new
 
@@ -261,7 +261,7 @@ either-marks f g es m k n r first marks = on-ok r join marks
     join : MarksMore g es k n → MarksMore (λ e. f e || g e) es m n
     join second = record {
       kept = λ t h. first.kept t (second.kept t h);
-      added = λ e a h. neither (f e) (g e) (first.added e a (second.kept e.ticket h)) (second.added e a h);
+      added = λ e a h. neither (f e) (g e) (first.added e a (second.kept e h)) (second.added e a h);
     }
 
 -- a marked ticket marks its entry

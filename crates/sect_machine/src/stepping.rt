@@ -6,8 +6,10 @@ ghost use Rattle.sect_model.specs.Accepted.{CommandFits};
 ghost use Rattle.sect_model.specs.Kept.{KeptState, entry_fits};
 ghost use Rattle.sect_model.specs.Settle.{settle as settled_from};
 ghost use Rattle.sect_model.specs.Step.{act as act_of, answered, settled_after, step as step_of};
-ghost use Rattle.sect_space.specs.Undo.{Undoable};
+ghost use Rattle.sect_model.specs.World.{holds as is_held, leave};
+ghost use Rattle.sect_space.specs.Undo.{Since, Undoable};
 ghost use Rattle.sect_wait.specs.Marked.{OthersHaveNoMove};
+ghost use Rattle.sect_wait.specs.Opened.{OthersBut};
 ghost use Rattle.sect_wait.specs.Queued.{state_of};
 ghost use Rattle.sect_wait.specs.Undo.{Undoable as QueueUndoable};
 ghost use Rattle.sect_machine.specs.Settling.{placements};
@@ -21,14 +23,14 @@ use crate::marking::{mark_after, mark_before};
 use crate::replies::reply_after;
 use crate::told::ToldStep;
 use crate::undo::MachineUndo;
-use sect_base::{Caller, Items, Memory};
+use sect_base::{Caller, CourseId, Items, Memory, StudentId};
 use sect_command::{Command, Reply};
 use sect_model::Placed;
 use sect_refuse::refusal;
 use sect_space::{Undo, World};
 use sect_steps::Steps;
 use sect_time::Day;
-use sect_wait::{Marks, Queue, QueueUndo, settle};
+use sect_wait::{Marks, Opened, Queue, QueueUndo, leave_course, settle_opened};
 use std::alloc::Global;
 use std::marker::Brand;
 use std::sync::ledger::{Blank, Ledger};
@@ -165,10 +167,30 @@ fn settled<L: Ledger>(
     world.is_kept();
     mark_day(world, queue, day, marks)?;
     set_day(world, day, undo)?;
+    let mut opened = Opened::none(alloc);
     let reply = answer(
-        alloc, world, queue, marks, caller, command, undo, left, steps,
+        alloc,
+        world,
+        queue,
+        marks,
+        &mut opened,
+        caller,
+        command,
+        undo,
+        left,
+        steps,
     )?;
-    place_all(alloc, world, queue, marks, reply, undo, left, steps)
+    place_all(
+        alloc,
+        world,
+        queue,
+        marks,
+        &mut opened,
+        reply,
+        undo,
+        left,
+        steps,
+    )
 }
 
 /// Places those who wait and can be placed, of which the reply to a wait tells, and tells whom. Where memory runs out, nobody is
@@ -178,13 +200,14 @@ fn place_all<L: Ledger>(
     world: &mut World,
     queue: &mut Queue,
     marks: &mut Marks,
+    opened: &mut Opened,
     reply: Reply,
     undo: &mut Undo,
     left: &mut QueueUndo,
     steps: &mut Steps<L>,
 ) -> Result<(Reply, Items<Placed>), Memory>
     requires fit { IsTrue (list_all (entry_fits world.old.world) queue.old.queue.entries) }
-    requires others { OthersHaveNoMove world.old.world queue.old.queue.entries marks.old }
+    requires others { OthersBut world.old.world queue.old.queue.entries marks.old opened.old }
     requires undoable { Undoable world.old undo.old.backs }
     requires queue_undoable { QueueUndoable queue.old left.old }
     ensures settled { IfOk result (λ told. settled_after
@@ -194,7 +217,7 @@ fn place_all<L: Ledger>(
     ensures tracked { Tracked world.old undo.old.backs queue.old left.old world.new undo.new.backs queue.new left.new }
     ensures others { OnOk result (OthersHaveNoMove world.new.world queue.new.queue.entries marks.new) }
 {
-    let placed = settle(alloc, world, queue, marks, undo, left, steps)?;
+    let placed = settle_opened(alloc, world, queue, marks, opened, undo, left, steps)?;
     let told = reply_after(reply, placed.as_slice());
     Ok((told, placed))
 }
@@ -205,6 +228,7 @@ fn answer<L: Ledger>(
     world: &mut World,
     queue: &mut Queue,
     marks: &mut Marks,
+    opened: &mut Opened,
     caller: Caller,
     command: &Command,
     undo: &mut Undo,
@@ -218,17 +242,74 @@ fn answer<L: Ledger>(
     ensures acted { IfOk result (λ reply. answered (state_of world.old.world queue.old.queue) caller command.now
         ≡ record { state = state_of world.new.world queue.new.queue; reply = reply }) }
     ensures tracked { Tracked world.old undo.old.backs queue.old left.old world.new undo.new.backs queue.new left.new }
-    ensures others { OnOk result (OthersHaveNoMove world.new.world queue.new.queue.entries marks.new) }
+    ensures others { OnOk result (OthersBut world.new.world queue.new.queue.entries marks.new opened.new) }
 {
     world.is_kept();
     match refusal(world, queue.entries(), caller, command) {
         Some(refusal) => Ok(Reply::Refused(refusal)),
-        None => marked_act(alloc, world, queue, marks, command, undo, left, steps),
+        None => marked_act(
+            alloc, world, queue, marks, opened, command, undo, left, steps,
+        ),
     }
 }
 
-/// What a command does that fits, with what it may open marked. Where memory runs out, some of it is done.
+/// What a command does that fits, with what it may open marked, or told where a student drops a course. Where memory runs out, some of it is done.
 fn marked_act<L: Ledger>(
+    alloc: Global,
+    world: &mut World,
+    queue: &mut Queue,
+    marks: &mut Marks,
+    opened: &mut Opened,
+    command: &Command,
+    undo: &mut Undo,
+    left: &mut QueueUndo,
+    steps: &mut Steps<L>,
+) -> Result<Reply, Memory>
+    requires kept { KeptState (state_of world.old.world queue.old.queue) }
+    requires fits { CommandFits world.old.world command.now }
+    requires others { OthersHaveNoMove world.old.world queue.old.queue.entries marks.old }
+    requires undoable { Undoable world.old undo.old.backs }
+    requires queue_undoable { QueueUndoable queue.old left.old }
+    ensures acted { IfOk result (λ reply. act_of (state_of world.old.world queue.old.queue) command.now
+        ≡ record { state = state_of world.new.world queue.new.queue; reply = reply }) }
+    ensures tracked { Tracked world.old undo.old.backs queue.old left.old world.new undo.new.backs queue.new left.new }
+    ensures others { OnOk result (OthersBut world.new.world queue.new.queue.entries marks.new opened.new) }
+{
+    match command {
+        Command::Drop { student, course } => {
+            dropped(alloc, world, queue, *student, *course, marks, opened, undo)
+        }
+        _ => all_marked_act(alloc, world, queue, marks, command, undo, left, steps),
+    }
+}
+
+/// The student drops the course, and what that opened is told. Where memory runs out, some of it may be done.
+fn dropped(
+    alloc: Global,
+    world: &mut World,
+    queue: &Queue,
+    student: StudentId,
+    course: CourseId,
+    marks: &mut Marks,
+    opened: &mut Opened,
+    undo: &mut Undo,
+) -> Result<Reply, Memory>
+    requires held { IsTrue (is_held world.old.world student course) }
+    requires fit { IsTrue (list_all (entry_fits world.old.world) queue.now.queue.entries) }
+    requires others { OthersHaveNoMove world.old.world queue.now.queue.entries marks.old }
+    requires undoable { Undoable world.old undo.old.backs }
+    ensures ok { OnOk result (world.new.world ≡ leave world.old.world student course) }
+    ensures reply { IfOk result (λ reply. reply ≡ Reply.Dropped course) }
+    ensures others { OnOk result (OthersBut world.new.world queue.now.queue.entries marks.new opened.new) }
+    ensures since { Since world.old.world undo.old.backs world.new.world undo.new.backs }
+    ensures undoable { Undoable world.new undo.new.backs }
+{
+    *opened = leave_course(alloc, world, queue, student, course, marks, undo)?;
+    Ok(Reply::Dropped(course))
+}
+
+/// What any command does that fits, with what it may open marked. Where memory runs out, some of it is done.
+fn all_marked_act<L: Ledger>(
     alloc: Global,
     world: &mut World,
     queue: &mut Queue,

@@ -1,9 +1,11 @@
 pub mod IndexLemmas
 pub mod MarkLemmas
 pub mod NextLemmas
+pub mod OpenedLemmas
 pub mod PlacingLemmas
 pub mod QueueLemmas
 pub mod SettlingLemmas
+pub mod SoughtLemmas
 pub mod ToldLemmas
 pub mod TriedLemmas
 pub mod UndoLemmas

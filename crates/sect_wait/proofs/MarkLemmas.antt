@@ -1,14 +1,13 @@
 -- Marks: what a change may open is marked, and an entry that isn't marked has no move.
-use Rattle.std.specs.Prelude.{◌≡◌, ℕ, zero, suc, ◌+◌, ◌<◌, Bool, true, false, not, ◌||◌, ◌&&◌, ◌==◌, cond, List, [], ◌∷◌, ◌++◌, length, take, filter, Option, Some, None, Result, Ok, Err, OnOk, IsTrue, refl, ◌⊎◌}
+use Rattle.std.specs.Prelude.{◌≡◌, ℕ, zero, suc, ◌<◌, Bool, true, false, not, ◌||◌, ◌&&◌, ◌==◌, cond, List, [], ◌∷◌, ◌++◌, length, filter, Option, Some, None, Result, Ok, Err, OnOk, IsTrue, refl, ◌⊎◌}
 use Rattle.std.specs.List.{list_any, list_all}
-use Rattle.std.specs.Option.{option_map_or}
+use Rattle.std.specs.Option.{option_map_or, is_some}
 use Rattle.std.specs.Ordering.{nat_cmp, is_eq}
 use Rattle.std.specs.BTreeSet.{BTreeSet, contains}
 use Rattle.std.proofs.lemmas.Bool.Decides.{nat_tests}
 use Rattle.sect_catalog.proofs.SearchLemmas.{any-append}
 use Rattle.std.proofs.Common.{sym, ◌∙◌, ap, subst, arith, inl, inr, get_or}
 use Rattle.std.proofs.lemmas.Bool.{eq-eqb}
-use Rattle.std.proofs.lemmas.List.{take_more}
 use Rattle.sect_base.specs.Tree.{Tree}
 use Rattle.sect_catalog.specs.Catalogue.{has_course}
 use Rattle.sect_model.specs.Data.{OfferingRow, StudentId, CourseId, Want}
@@ -22,20 +21,22 @@ use Rattle.sect_model.specs.World.{World, leave, offering_of, is_of}
 use Rattle.sect_model.specs.Outcome.{outcome_of}
 use Rattle.sect_model.specs.Fits.{Fits, changed}
 use Rattle.sect_model.specs.Kept.{KeptWorld, entry_fits}
-use Rattle.sect_model.specs.Settle.{without, is_placeable, placement_of, move_of}
+use Rattle.sect_model.specs.Settle.{without, is_placeable, move_of}
 use Rattle.sect_model.specs.Freer.{Among, NoMove, may_open, touches, frees_some}
 use Rattle.sect_model.proofs.Members
-use Rattle.sect_model.proofs.Members.{all-at, neither-left, neither-right, none-of}
+use Rattle.sect_model.proofs.Members.{all-at, neither-left, neither-right, none-of, not_both}
 use Rattle.sect_model.proofs.FreerLemmas.{among, member}
 use Rattle.sect_model.proofs.FreerChanges.{changes-open}
 use Rattle.sect_model.proofs.FreerIndex.{touches-listed}
 use Rattle.sect_model.proofs.FreerSettle.{blocked-no-move, no-move-unplaced}
 use Rattle.sect_model.specs.Settle.{Settled, settle, is_settled, first_entry}
 use Rattle.sect_model.proofs.SettleLemmas.{settles, settled-stays, next_entry-none}
-use Rattle.sect_wait.specs.Placing.{IsBest}
-use Rattle.sect_wait.specs.Queued.{Queued, left, state_of}
+use Rattle.sect_wait.specs.declared.marks.Turn.{Turn}
+use Rattle.sect_wait.specs.Indexed.{has_ticket}
+use Rattle.sect_wait.specs.Placing.{IsBest, KeepsListed, UnlistedHaveNoMove}
+use Rattle.sect_wait.specs.Queued.{Queued, state_of}
 use Rattle.std.specs.Prelude.{is_err}
-use Rattle.sect_wait.specs.Marked.{Marked, no_marks, is_marked, OthersHaveNoMove, MarksKept, MarksMore, concerns, IsSetOf}
+use Rattle.sect_wait.specs.Marked.{Marked, no_marks, is_marked, OthersHaveNoMove, MarksKept, MarksMore, concerns, is_from, is_source, wants_one, IsSetOf}
 
 pub neither : (a b : Bool) → a ≡ false → b ≡ false → a || b ≡ false
 neither true b h i = h
@@ -57,35 +58,13 @@ among-get [] i d h = absurd (omega (arith, h))
 among-get (e ∷ es) zero d h = inl refl
 among-get (e ∷ es) (suc i) d h = inr (among-get es i d (omega (arith, h)))
 
-among-without : (es : List Waiting) (ticket : ℕ) (e : Waiting) → Among (without es ticket) e → Among es e
+pub among-without : (es : List Waiting) (ticket : ℕ) (e : Waiting) → Among (without es ticket) e → Among es e
 among-without es ticket e h = among es e (Members.member-filter (λ f. not (f.ticket == ticket)) es e (member (without es ticket) e h)).0
 
--- the entry at a place
-pub others-at : (w : World) (es : List Waiting) (m : Marked) (i : ℕ) (e : Waiting) → i < length es → e ≡ get_or es i e → OthersHaveNoMove w es m → OthersHaveNoMove w (e ∷ []) m
-others-at w es m i e few at others f (inl h) unmarked = others f (subst (Among es) (sym at ∙ h) (among-get es i e few)) unmarked
-others-at w es m i e few at others f (inr h) unmarked = absurd h
-
--- the entries so far, and one more
-pub others-more : (w : World) (es : List Waiting) (i : ℕ) (e : Waiting) (m n : Marked) → i < length es → e ≡ get_or es i e → MarksKept m n
-    → OthersHaveNoMove w (take i es) m → OthersHaveNoMove w (e ∷ []) n → OthersHaveNoMove w (take (i + 1) es) n
-others-more w es i e m n few at kept others one f among_f unmarked =
-    by_place (among-append (take i es) e f (subst (λ fs. Among fs f) (take_more es i e few ∙ ap (λ d. take i es ++ d ∷ []) (sym at)) among_f))
-  where
-    by_place : Among (take i es) f ⊎ Among (e ∷ []) f → NoMove w f
-    by_place (inl a) = others f a (kept f.ticket unmarked)
-    by_place (inr a) = one f a unmarked
-
--- the marks so far, and those for one entry more
-pub marks-more : (test : Waiting → Bool) (es : List Waiting) (i : ℕ) (e : Waiting) (m k n : Marked) → i < length es → e ≡ get_or es i e
-    → MarksMore test (take i es) m k → MarksMore test (e ∷ []) k n → MarksMore test (take (i + 1) es) m n
-marks-more test es i e m k n few at so_far one = record {
-  kept = λ t h. so_far.kept t (one.kept t h);
-  added = λ f among_f unmarked. by_place f unmarked (among-append (take i es) e f (subst (λ fs. Among fs f) (take_more es i e few ∙ ap (λ d. take i es ++ d ∷ []) (sym at)) among_f));
-}
-  where
-    by_place : (f : Waiting) → is_marked n f.ticket ≡ false → Among (take i es) f ⊎ Among (e ∷ []) f → test f ≡ false
-    by_place f unmarked (inl a) = so_far.added f a (one.kept f.ticket unmarked)
-    by_place f unmarked (inr a) = one.added f a unmarked
+-- what holds of all entries holds of the one at a place
+pub each-at : {P : Waiting → Type 0} (es : List Waiting) (i : ℕ) (e : Waiting) → i < length es → e ≡ get_or es i e → ((f : Waiting) → Among es f → P f) → (f : Waiting) → Among (e ∷ []) f → P f
+each-at es i e few at each f (inl h) = each f (subst (Among es) (sym at ∙ h) (among-get es i e few))
+each-at es i e few at each f (inr h) = absurd h
 
 pub others-without : (w : World) (es : List Waiting) (m : Marked) (ticket : ℕ) → OthersHaveNoMove w es m → OthersHaveNoMove w (without es ticket) m
 others-without w es m ticket others e a unmarked = others e (among-without es ticket e a) unmarked
@@ -98,7 +77,9 @@ any-more (s ∷ ts) t ticket h = neither (s == ticket) (list_any (λ s. s == tic
 
 -- marking a ticket takes no mark off
 pub mark-kept : (m : Marked) (ticket : ℕ) → MarksKept m (record m { tickets = m.tickets ++ ticket ∷ [] })
-mark-kept m ticket t h = neither m.all (list_any (λ s. s == t) m.tickets) (neither-left m.all _ h) (any-more m.tickets ticket t (neither-right m.all _ h))
+mark-kept m ticket e h =
+    neither (list_any (λ s. s == e.ticket) m.tickets) (is_source m e && is_from m.from e) (any-more m.tickets ticket e.ticket (neither-left _ (is_source m e && is_from m.from e) h))
+    (neither-right (list_any (λ s. s == e.ticket) (m.tickets ++ ticket ∷ [])) _ h)
 
 any-last : (ts : List ℕ) (t : ℕ) → list_any (λ s. s == t) (ts ++ t ∷ []) ≡ false → ⊥
 any-last [] t h = differ (sym (eq-eqb t t refl) ∙ neither-left (t == t) false h)
@@ -107,24 +88,77 @@ any-last [] t h = differ (sym (eq-eqb t t refl) ∙ neither-left (t == t) false 
     differ e = cc
 any-last (s ∷ ts) t h = any-last ts t (neither-right (s == t) _ h)
 
--- the ticket is marked
-pub mark-marks : {P : Type 0} (m : Marked) (ticket : ℕ) → is_marked (record m { tickets = m.tickets ++ ticket ∷ [] }) ticket ≡ false → P
-mark-marks m ticket h = absurd (any-last m.tickets ticket (neither-right m.all _ h))
+-- the entry of the ticket is marked
+pub mark-marks : {P : Type 0} (m : Marked) (e : Waiting) → is_marked (record m { tickets = m.tickets ++ e.ticket ∷ [] }) e ≡ false → P
+mark-marks m e h = absurd (any-last m.tickets e.ticket (neither-left _ (is_source m e && is_from m.from e) h))
+
+-- ---- courses
+
+pub first-off : (a : Bool) → a && true ≡ false → a ≡ false
+first-off true h = h
+first-off false h = refl
+
+pub off-and : (a b : Bool) → a ≡ false → a && b ≡ false
+off-and true b h = absurd (not_both true refl h)
+off-and false b h = refl
+
+and-any : {X : Type 0} (g : Bool) (test : X → Bool) (xs : List X) (x : X) → g && list_any test (xs ++ x ∷ []) ≡ false → (g && list_any test xs ≡ false) × (g && test x ≡ false)
+and-any true test xs x h =
+    let two : list_any test xs || list_any test (x ∷ []) ≡ false = sym (any-append test xs (x ∷ [])) ∙ h in
+    (neither-left _ (list_any test (x ∷ [])) two, neither-left (test x) false (neither-right (list_any test xs) _ two))
+and-any false test xs x h = (refl, refl)
+
+-- who isn't marked from any turn on is marked by no course
+unsourced : (m : Marked) (e : Waiting) → m.from ≡ None → is_marked m e ≡ false → is_source m e ≡ false
+unsourced m e none h = first-off (is_source m e) (ap (λ (t : Option Turn). is_source m e && is_from t e) (sym none) ∙ neither-right (list_any (λ s. s == e.ticket) m.tickets) _ h)
+
+pub off-source : (m : Marked) (e : Waiting) → list_any (λ s. s == e.ticket) m.tickets ≡ false → is_source m e ≡ false → is_marked m e ≡ false
+off-source m e ticket source = neither (list_any (λ s. s == e.ticket) m.tickets) (is_source m e && is_from m.from e) ticket (off-and (is_source m e) (is_from m.from e) source)
+
+-- a course more is marked for all
+pub course-marks : (m n : Marked) (course : CourseId) (es : List Waiting) → n ≡ record m { courses = m.courses ++ course ∷ []; from = None } → MarksMore (λ e. list_any (λ c. course.0 == c.0) e.want.courses) es m n
+course-marks m n course es is = record { kept = λ e h. (off e h).0; added = λ e a h. (off e h).1 }
+  where
+    off : (e : Waiting) → is_marked n e ≡ false → (is_marked m e ≡ false) × (list_any (λ c. course.0 == c.0) e.want.courses ≡ false)
+    off e h =
+        let k : Marked = record m { courses = m.courses ++ course ∷ []; from = None } in
+        let u : is_marked k e ≡ false = ap (λ x. is_marked x e) (sym is) ∙ h in
+        let source : (m.all || wants_one (m.courses ++ course ∷ []) e) || (is_some e.give && wants_one m.givers e) ≡ false = unsourced k e refl u in
+        let wanted : m.all || wants_one (m.courses ++ course ∷ []) e ≡ false = neither-left (m.all || wants_one (m.courses ++ course ∷ []) e) _ source in
+        let two = and-any true (λ (d : CourseId). list_any (λ (c : CourseId). d.0 == c.0) e.want.courses) m.courses course (neither-right m.all _ wanted) in (
+          off-source m e (neither-left (list_any (λ s. s == e.ticket) m.tickets) _ u)
+              (neither (m.all || wants_one m.courses e) (is_some e.give && wants_one m.givers e) (neither m.all (wants_one m.courses e) (neither-left m.all _ wanted) two.0) (neither-right (m.all || wants_one (m.courses ++ course ∷ []) e) _ source)),
+          two.1,
+        )
+
+-- a course more is marked for those who give one up
+pub giver-marks : (m n : Marked) (course : CourseId) (es : List Waiting) → n ≡ record m { givers = m.givers ++ course ∷ []; from = None } → MarksMore (λ e. is_some e.give && list_any (λ c. course.0 == c.0) e.want.courses) es m n
+giver-marks m n course es is = record { kept = λ e h. (off e h).0; added = λ e a h. (off e h).1 }
+  where
+    off : (e : Waiting) → is_marked n e ≡ false → (is_marked m e ≡ false) × (is_some e.give && list_any (λ c. course.0 == c.0) e.want.courses ≡ false)
+    off e h =
+        let k : Marked = record m { givers = m.givers ++ course ∷ []; from = None } in
+        let u : is_marked k e ≡ false = ap (λ x. is_marked x e) (sym is) ∙ h in
+        let source : (m.all || wants_one m.courses e) || (is_some e.give && wants_one (m.givers ++ course ∷ []) e) ≡ false = unsourced k e refl u in
+        let two = and-any (is_some e.give) (λ (d : CourseId). list_any (λ (c : CourseId). d.0 == c.0) e.want.courses) m.givers course (neither-right (m.all || wants_one m.courses e) _ source) in (
+          off-source m e (neither-left (list_any (λ s. s == e.ticket) m.tickets) _ u)
+              (neither (m.all || wants_one m.courses e) (is_some e.give && wants_one m.givers e) (neither-left (m.all || wants_one m.courses e) _ source) two.0),
+          two.1,
+        )
 
 -- a blocked search tells that the entry has no move
-pub blocked-others : (w : World) (e : Waiting) (m : Marked) (o : Outcome) (tree : Tree) (visits : ℕ) → KeptWorld w → IsTrue (entry_fits w e)
-    → o ≡ outcome_of w (move_of w e) 2000 → o ≡ Blocked tree visits → OthersHaveNoMove w (e ∷ []) m
-blocked-others w e m o tree visits k fits is blocked f (inl h) unmarked = subst (NoMove w) h (blocked-no-move w e visits tree k fits (sym is ∙ blocked))
-blocked-others w e m o tree visits k fits is blocked f (inr h) unmarked = absurd h
+pub blocked-unlisted : (w : World) (e : Waiting) (ts : List ℕ) (o : Outcome) (tree : Tree) (visits : ℕ) → KeptWorld w → IsTrue (entry_fits w e)
+    → o ≡ outcome_of w (move_of w e) 2000 → o ≡ Blocked tree visits → UnlistedHaveNoMove w (e ∷ []) ts
+blocked-unlisted w e ts o tree visits k fits is blocked f (inl h) unlisted = subst (NoMove w) h (blocked-no-move w e visits tree k fits (sym is ∙ blocked))
+blocked-unlisted w e ts o tree visits k fits is blocked f (inr h) unlisted = absurd h
 
--- an entry that is marked isn't one of the others
-pub marked-others : (w : World) (e : Waiting) (m n : Marked) → n ≡ record m { tickets = m.tickets ++ e.ticket ∷ [] } → OthersHaveNoMove w (e ∷ []) n
-marked-others w e m n is f (inl h) unmarked = mark-marks m e.ticket (ap (λ x. is_marked x e.ticket) (sym is) ∙ ap (λ x. is_marked n x.ticket) h ∙ unmarked)
-marked-others w e m n is f (inr h) unmarked = absurd h
+-- an entry that is listed isn't one of the others
+pub listed-unlisted : (w : World) (e : Waiting) (before after : List ℕ) → after ≡ before ++ e.ticket ∷ [] → UnlistedHaveNoMove w (e ∷ []) after
+listed-unlisted w e before after is f (inl h) unlisted = absurd (any-last before e.ticket (ap (λ ts. has_ticket e.ticket ts) (sym is) ∙ ap (λ (x : Waiting). has_ticket x.ticket after) h ∙ unlisted))
+listed-unlisted w e before after is f (inr h) unlisted = absurd h
 
--- an entry that isn't marked isn't placed
-pub others-unplaced : (w : World) (e : Waiting) (m : Marked) → is_marked m e.ticket ≡ false → OthersHaveNoMove w (e ∷ []) m → is_placeable w e ≡ false
-others-unplaced w e m unmarked others = no-move-unplaced w e (others e (inl refl) unmarked)
+pub listed-keeps : (before after : List ℕ) (ticket : ℕ) → after ≡ before ++ ticket ∷ [] → KeepsListed before after
+listed-keeps before after ticket is t h = any-more before ticket t (ap (has_ticket t) (sym is) ∙ h)
 
 -- ---- changes
 
@@ -139,7 +173,7 @@ touches-row w want course None k its =
     by_row None = refl
     by_row (Some x) = ap (λ y. option_map_or (λ z. z.id.0 == x.id.0) y false) its
 
-leave-concerns : (w : World) (student : StudentId) (course : CourseId) (e : Waiting) → KeptWorld w → concerns (Some student) (offering_of w course) e ≡ false
+pub leave-concerns : (w : World) (student : StudentId) (course : CourseId) (e : Waiting) → KeptWorld w → concerns (Some student) (offering_of w course) e ≡ false
     → may_open w e (Leave student course) ≡ false
 leave-concerns w student course e k h =
     neither (student.0 == e.student.0) (touches w e.want course) (neither-left (student.0 == e.student.0) _ h)
@@ -189,7 +223,7 @@ pub changed-others : (w v : World) (es : List Waiting) (m n : Marked) (change : 
     → v ≡ changed w change → OthersHaveNoMove w es m → MarksMore (λ e. may_open w e change) es m n → OthersHaveNoMove v es n
 changed-others w v es m n change k fits fit is others marks e a unmarked =
     subst (λ u. NoMove u e) (sym is)
-    (changes-open w e change k fits (all-at (entry_fits w) es fit e (member es e a)) (marks.added e a unmarked) (others e a (marks.kept e.ticket unmarked)))
+    (changes-open w e change k fits (all-at (entry_fits w) es fit e (member es e a)) (marks.added e a unmarked) (others e a (marks.kept e unmarked)))
 
 pub made-others : {A E : Type 0} (w v : World) (es : List Waiting) (m n : Marked) (change : Change) (r : Result A E) → KeptWorld w → Fits w change
     → IsTrue (list_all (entry_fits w) es) → OnOk r (v ≡ changed w change) → OthersHaveNoMove w es m → MarksMore (λ e. may_open w e change) es m n
@@ -203,10 +237,14 @@ pub none-left : (w : World) (es : List Waiting) → ((e : Waiting) → Among es 
 none-left w [] h = refl
 none-left w (e ∷ es) h = (λ i. cond (h e (inl refl) i) (e ∷ filter (is_placeable w) es) (filter (is_placeable w) es)) ∙ none-left w es (λ f a. h f (inr a))
 
+none-marked : (e : Waiting) (b : Bool) → (b && false) && true ≡ false
+none-marked e true = refl
+none-marked e false = refl
+
 -- where nobody is marked, nobody is placed
 pub unmarked-none : (w : World) (es : List Waiting) (m : Marked) → m ≡ no_marks → OthersHaveNoMove w es m → IsBest w es None
 unmarked-none w es m none others =
-    ap first_entry (none-left w es (λ e a. no-move-unplaced w e (others e a (ap (λ x. is_marked x e.ticket) none))))
+    ap first_entry (none-left w es (λ e a. no-move-unplaced w e (others e a (ap (λ x. is_marked x e) none ∙ none-marked e (is_some e.give)))))
 
 pub unmarked-settled : (w : World) (q : Queued) (m : Marked) → m ≡ no_marks → OthersHaveNoMove w q.entries m
     → settle (state_of w q) ≡ record { state = state_of w q; placed = [] }
@@ -216,18 +254,12 @@ pub unmarked-rests : (w : World) (q : Queued) (m : Marked) → m ≡ no_marks �
 unmarked-rests w q m none others = subst (λ u. IsTrue (is_settled u)) (ap (λ (x : Settled). x.state) (unmarked-settled w q m none others)) (settles (state_of w q))
 
 -- where all are marked, there are no others
-pub all-others : (w : World) (es : List Waiting) (m n : Marked) → n ≡ record m { all = true } → OthersHaveNoMove w es n
-all-others w es m n is e a h = absurd (differ (ap (λ x. is_marked x e.ticket) (sym is) ∙ h))
-  where
-    differ : true ≡ false → ⊥
-    differ d = cc
+pub all-others : (w : World) (es : List Waiting) (m n : Marked) → n ≡ record m { all = true; from = None } → OthersHaveNoMove w es n
+all-others w es m n is e a h = absurd (not_both true refl (neither-right (list_any (λ s. s == e.ticket) m.tickets) true (ap (λ x. is_marked x e) (sym is) ∙ h)))
 
 pub ok-of : {A E P : Type 0} (r : Result A E) → is_err r ≡ false → OnOk r P → P
 ok-of (Ok x) h p = p
 ok-of (Err x) h p = cc
-
-pub left-others : (w : World) (q p : Queued) (m : Marked) (ticket : ℕ) → p ≡ left q ticket → OthersHaveNoMove w q.entries m → OthersHaveNoMove w p.entries m
-left-others w q p m ticket is others = subst (λ (x : Queued). OthersHaveNoMove w x.entries m) (sym is) (others-without w q.entries m ticket others)
 
 -- the entries fit where a student left
 pub left-fit : {A E : Type 0} (w v : World) (es : List Waiting) (student : StudentId) (course : CourseId) (r : Result A E) → OnOk r (v ≡ leave w student course) → IsTrue (list_all (entry_fits w) es)

@@ -1,6 +1,5 @@
 -- The entry that is placed next, found among the marked tickets.
-use Rattle.std.specs.Prelude.{◌≡◌, ℕ, Bool, true, false, not, ◌&&◌, ◌||◌, ◌==◌, nat_lt, nat_le, List, [], ◌∷◌, ◌++◌, filter, find, Option, Some, None, Result, Ok, Err, IfOk, OnOk, IsTrue, refl, ◌⊎◌}
-use Rattle.std.specs.List.{list_any, list_all}
+use Rattle.std.specs.Prelude.{◌≡◌, ℕ, Bool, true, false, not, ◌||◌, ◌==◌, List, [], ◌∷◌, ◌++◌, filter, find, Option, Some, None, Result, Ok, Err, IfOk, refl, ◌⊎◌}
 use Rattle.std.specs.Option.{is_some, option_or}
 use Rattle.std.proofs.Common.{sym, ◌∙◌, ap, subst, arith, inl, inr}
 use Rattle.std.proofs.lemmas.Bool.{eq-eqb, eqb-true}
@@ -9,7 +8,7 @@ use Rattle.sect_catalog.proofs.SearchLemmas.{any-append}
 use Rattle.sect_model.specs.declared.held.Waiting.{Waiting}
 use Rattle.sect_model.specs.World.{World, State}
 use Rattle.sect_model.specs.Freer.{Among, NoMove}
-use Rattle.sect_model.specs.Kept.{tickets_rise, entry_fits}
+use Rattle.sect_model.specs.Kept.{tickets_rise}
 use Rattle.sect_model.specs.Settle.{first_entry, comes_first, is_placeable}
 use Rattle.sect_model.proofs.Members.{Member, all-at, either, find-member, find-some, member-filter, not_both, not_true}
 use Rattle.sect_model.proofs.FreerLemmas.{among, member}
@@ -19,19 +18,18 @@ use Rattle.sect_model.proofs.SettleLemmas.{next_entry-none}
 use Rattle.sect_model.proofs.SettleSteps.{next-is-first}
 use Rattle.sect_wait.specs.declared.next.Candidate.{Candidate}
 use Rattle.sect_wait.specs.Indexed.{has_ticket}
-use Rattle.sect_wait.specs.Marked.{Marked, MarksKept, OthersHaveNoMove, is_marked}
-use Rattle.sect_wait.specs.Placing.{IsBest, Tried}
+use Rattle.sect_wait.specs.Placing.{IsBest, OthersTried, Tried}
 use Rattle.sect_wait.proofs.MarkLemmas.{among-append, none-left}
 use Rattle.sect_wait.proofs.QueueLemmas.{one-entry}
 
 -- no ticket was tried yet
-pub tried-none : (w : World) (es : List Waiting) (m : Marked) → Tried w es [] None m
-tried-none w es m = record { tried = []; within = λ e a. absurd a; all = λ e a has. absurd (not_both false has refl); first = refl; others = λ e a unmarked. absurd a }
+pub tried-none : (w : World) (es : List Waiting) (left : List ℕ) → Tried w es [] None left
+tried-none w es left = record { tried = []; within = λ e a. absurd a; all = λ e a has. absurd (not_both false has refl); first = refl; others = λ e a unlisted behind. absurd a }
 
 -- what holds of all holds of one
-pub others-one : (w : World) (es : List Waiting) (m : Marked) (e : Waiting) → Member es e → OthersHaveNoMove w es m → OthersHaveNoMove w (e ∷ []) m
-others-one w es m e is_one others f (inl is) unmarked = others f (subst (Among es) is (among es e is_one)) unmarked
-others-one w es m e is_one others f (inr a) unmarked = absurd a
+pub each-one : {P : Waiting → Type 0} (es : List Waiting) (e : Waiting) → Member es e → ((f : Waiting) → Among es f → P f) → (f : Waiting) → Among (e ∷ []) f → P f
+each-one es e is_one each f (inl is) = each f (subst (Among es) is (among es e is_one))
+each-one es e is_one each f (inr a) = absurd a
 
 module _ (w : World) (es : List Waiting) (ticket : ℕ) where
   -- who has one of the tickets, has one of those before, or the last
@@ -47,7 +45,7 @@ module _ (w : World) (es : List Waiting) (ticket : ℕ) where
       by_place (inr h) = inr (by_last (ticket == f.ticket) refl h)
 
   -- no entry has the ticket
-  pub tried-unknown : (best : Option Candidate) (m : Marked) → None ≡ find (λ e. e.ticket == ticket) es → (before : List ℕ) → Tried w es before best m → Tried w es (before ++ ticket ∷ []) best m
+  pub tried-unknown : (best : Option Candidate) (m : List ℕ) → None ≡ find (λ e. e.ticket == ticket) es → (before : List ℕ) → Tried w es before best m → Tried w es (before ++ ticket ∷ []) best m
   tried-unknown best m none before t = record { tried = t.tried; within = t.within; all = λ f a has. by_place f a (one-of before f has); first = t.first; others = t.others }
     where
       by_place : (f : Waiting) → Among es f → (has_ticket f.ticket before ≡ true) ⊎ (f.ticket ≡ ticket) → Among t.tried f
@@ -56,15 +54,15 @@ module _ (w : World) (es : List Waiting) (ticket : ℕ) where
           absurd (not_both (is_some (find (λ e. e.ticket == ticket) es)) (find-some (λ (e : Waiting). e.ticket == ticket) es f (member es f a) (eq-eqb f.ticket ticket same)) (ap is_some (sym none)))
 
   -- the entry of the ticket was tried
-  pub tried-more : (next : ℕ) (e : Waiting) (best new : Option Candidate) (m n : Marked) → tickets_rise es next ≡ true → Some e ≡ find (λ e. e.ticket == ticket) es → MarksKept m n
-      → ((before : List Waiting) → IsBest w before best → IsBest w (before ++ e ∷ []) new) → OthersHaveNoMove w (e ∷ []) n
+  pub tried-more : (next : ℕ) (e : Waiting) (best new : Option Candidate) (m n : List ℕ) → tickets_rise es next ≡ true → Some e ≡ find (λ e. e.ticket == ticket) es
+      → ((before : List Waiting) → IsBest w before best → IsBest w (before ++ e ∷ []) new) → ((before : List Waiting) → OthersTried w before best m → OthersTried w (before ++ e ∷ []) new n)
       → (before : List ℕ) → Tried w es before best m → Tried w es (before ++ ticket ∷ []) new n
-  tried-more next e best new m n rise found kept better others before t = record {
+  tried-more next e best new m n rise found better others before t = record {
     tried = t.tried ++ e ∷ [];
     within = λ f a. by_list f (among-append t.tried e f a);
     all = λ f a has. by_place f a (one-of before f has);
     first = better t.tried t.first;
-    others = λ f a unmarked. by_turn f unmarked (among-append t.tried e f a);
+    others = others t.tried t.others;
   }
     where
       entry : Member es e × (e.ticket == ticket ≡ true)
@@ -86,26 +84,23 @@ module _ (w : World) (es : List Waiting) (ticket : ℕ) where
       by_place f a (inl h) = behind t.tried f (inl (t.all f a h))
       by_place f a (inr same) = behind t.tried f (inr (one-entry es next rise e f entry.0 (member es f a) (eqb-true e.ticket ticket entry.1 ∙ sym same)))
 
-      by_turn : (f : Waiting) → is_marked n f.ticket ≡ false → Among t.tried f ⊎ Among (e ∷ []) f → NoMove w f
-      by_turn f unmarked (inl a) = t.others f a (kept f.ticket unmarked)
-      by_turn f unmarked (inr a) = others f a unmarked
-
-  pub tried-better : {E : Type 0} (next : ℕ) (e : Waiting) (best : Option Candidate) (m n : Marked) (r : Result (Option Candidate) E) → tickets_rise es next ≡ true → Some e ≡ find (λ e. e.ticket == ticket) es
-      → MarksKept m n → IfOk r (λ new. (before : List Waiting) → IsBest w before best → IsBest w (before ++ e ∷ []) (option_or new best)) → OnOk r (OthersHaveNoMove w (e ∷ []) n)
+  pub tried-better : {E : Type 0} (next : ℕ) (e : Waiting) (best : Option Candidate) (m n : List ℕ) (r : Result (Option Candidate) E) → tickets_rise es next ≡ true → Some e ≡ find (λ e. e.ticket == ticket) es
+      → IfOk r (λ new. (before : List Waiting) → IsBest w before best → IsBest w (before ++ e ∷ []) (option_or new best))
+      → IfOk r (λ new. (before : List Waiting) → OthersTried w before best m → OthersTried w (before ++ e ∷ []) (option_or new best) n)
       → IfOk r (λ new. (before : List ℕ) → Tried w es before best m → Tried w es (before ++ ticket ∷ []) (option_or new best) n)
-  tried-better next e best m n (Ok new) rise found kept better others = tried-more next e best (option_or new best) m n rise found kept better others
-  tried-better next e best m n (Err x) rise found kept better others = tt
+  tried-better next e best m n (Ok new) rise found better others = tried-more next e best (option_or new best) m n rise found better others
+  tried-better next e best m n (Err x) rise found better others = tt
 
--- ---- all marked tickets were tried
+-- ---- all sought tickets were tried
 
-module _ (w : World) (es : List Waiting) (next : ℕ) (tickets : List ℕ) (best : Option Candidate) (m n : Marked) (rise : tickets_rise es next ≡ true) (t : Tried w es tickets best n)
-    (marked : (ticket : ℕ) → has_ticket ticket tickets ≡ false → is_marked m ticket ≡ false) (others : OthersHaveNoMove w es m) where
-  pub tried-others : OthersHaveNoMove w es n
-  tried-others e a unmarked = by_test (has_ticket e.ticket tickets) refl
+module _ (w : World) (es : List Waiting) (next : ℕ) (tickets : List ℕ) (best : Option Candidate) (left : List ℕ) (rise : tickets_rise es next ≡ true) (t : Tried w es tickets best left)
+    (rest : (e : Waiting) → Among es e → has_ticket e.ticket tickets ≡ false → NoMove w e) where
+  pub tried-others : OthersTried w es best left
+  tried-others e a unlisted before = by_test (has_ticket e.ticket tickets) refl
     where
       by_test : (b : Bool) → has_ticket e.ticket tickets ≡ b → NoMove w e
-      by_test true h = t.others e (t.all e a h) unmarked
-      by_test false h = others e a (marked e.ticket h)
+      by_test true h = t.others e (t.all e a h) unlisted before
+      by_test false h = rest e a h
 
   -- who can be placed was tried
   was-tried : (e : Waiting) → Among es e → is_placeable w e ≡ true → Among t.tried e
@@ -113,7 +108,7 @@ module _ (w : World) (es : List Waiting) (next : ℕ) (tickets : List ℕ) (best
     where
       by_test : (b : Bool) → has_ticket e.ticket tickets ≡ b → Among t.tried e
       by_test true h = t.all e a h
-      by_test false h = absurd (not_both (is_placeable w e) able (no-move-unplaced w e (others e a (marked e.ticket h))))
+      by_test false h = absurd (not_both (is_placeable w e) able (no-move-unplaced w e (rest e a h)))
 
   abbrev state : List Waiting → State
   state fs = record { world = w; entries = fs; next = next }

@@ -49,7 +49,7 @@ is_told tickets ticket = option_map_or (has_ticket ticket) tickets true
 abbrev pub AreTold : (Waiting → Bool) → List Waiting → Option (List ℕ) → Type 0
 AreTold test entries tickets = (e : Waiting) → Among entries e → is_told tickets e.ticket ≡ false → test e ≡ false
 
--- no mark is taken off, and the tickets that are told are marked
+-- no mark is taken off, and the entries of the tickets that are told are marked
 pub record MarksTold (tickets : Option (List ℕ)) (before after : Marked) : Type 0 where
   pub kept : MarksKept before after
-  pub added : (ticket : ℕ) → is_marked after ticket ≡ false → is_told tickets ticket ≡ false
+  pub added : (e : Waiting) → is_marked after e ≡ false → is_told tickets e.ticket ≡ false

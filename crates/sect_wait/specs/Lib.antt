@@ -1,5 +1,6 @@
 pub mod Indexed
 pub mod Marked
+pub mod Opened
 pub mod Placing
 pub mod Queued
 pub mod Undo

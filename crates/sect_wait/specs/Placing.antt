@@ -1,6 +1,6 @@
 -- The entry that is placed next, and what its placement makes of the world.
-use Rattle.std.specs.Prelude.{◌≡◌, ℕ, Bool, true, ◌&&◌, ◌||◌, ◌==◌, nat_lt, nat_le, List, [], ◌∷◌, ◌++◌, filter, Option, Some, None}
-use Rattle.std.specs.Option.{option_to_list}
+use Rattle.std.specs.Prelude.{◌≡◌, ℕ, Bool, true, false, ◌&&◌, ◌||◌, ◌==◌, nat_lt, nat_le, List, [], ◌∷◌, ◌++◌, filter, Option, Some, None}
+use Rattle.std.specs.Option.{option_map_or, option_to_list}
 use Rattle.sect_base.specs.declared.ids.CourseId.{CourseId}
 use Rattle.sect_base.specs.declared.choice.Choice.{Choice}
 use Rattle.sect_model.specs.declared.held.Waiting.{Waiting}
@@ -8,10 +8,13 @@ use Rattle.sect_model.specs.declared.held.Placed.{Placed}
 use Rattle.sect_model.specs.declared.held.Enrolment.{Enrolment}
 use Rattle.sect_model.specs.World.{World, enrol, leave_all, holds}
 use Rattle.sect_model.specs.Settle.{first_entry, is_placeable, placement_of}
-use Rattle.sect_model.specs.Freer.{Among}
+use Rattle.sect_model.specs.Freer.{Among, NoMove}
 use Rattle.sect_wait.specs.declared.next.Candidate.{Candidate}
 use Rattle.sect_wait.specs.Indexed.{has_ticket}
-use Rattle.sect_wait.specs.Marked.{Marked, OthersHaveNoMove}
+use Rattle.sect_wait.specs.declared.marks.Turn.{Turn}
+use Rattle.sect_wait.specs.declared.opened.Opened.{Opened}
+use Rattle.sect_wait.specs.Marked.{Marked, OthersHaveNoMove, no_marks}
+use Rattle.sect_wait.specs.Opened.{OthersBut}
 
 -- the candidate of an entry that a choice places
 abbrev pub candidate_of : Waiting → Choice → Candidate
@@ -30,22 +33,52 @@ abbrev pub IsBest : World → List Waiting → Option Candidate → Type 0
 IsBest w es None = first_entry (filter (is_placeable w) es) ≡ None
 IsBest w es (Some c) = (e : Waiting) × (first_entry (filter (is_placeable w) es) ≡ Some e) × IsOf w e c
 
--- of the entries those were tried that have one of these tickets: this is the first of them that can be placed, and the others
--- of them that aren't marked have no move
-pub record Tried (w : World) (es : List Waiting) (tickets : List ℕ) (best : Option Candidate) (left : Marked) : Type 0 where
+-- the candidate is of a smaller class than the entry, or of the same class and no larger ticket
+abbrev pub is_before : Candidate → Waiting → Bool
+is_before c e = nat_lt c.class e.class || c.class == e.class && nat_le c.ticket e.ticket
+
+-- the best so far comes before the entry, or is its own candidate
+abbrev pub is_behind : Option Candidate → Waiting → Bool
+is_behind best e = option_map_or (λ c. is_before c e) best false
+
+-- each ticket that was listed is listed
+abbrev pub KeepsListed : List ℕ → List ℕ → Type 0
+KeepsListed before after = (ticket : ℕ) → has_ticket ticket after ≡ false → has_ticket ticket before ≡ false
+
+-- each entry whose ticket isn't listed has no move
+abbrev pub UnlistedHaveNoMove : World → List Waiting → List ℕ → Type 0
+UnlistedHaveNoMove w es tickets = (e : Waiting) → Among es e → has_ticket e.ticket tickets ≡ false → NoMove w e
+
+-- each entry before the best whose ticket isn't listed has no move
+abbrev pub OthersTried : World → List Waiting → Option Candidate → List ℕ → Type 0
+OthersTried w es best left = (e : Waiting) → Among es e → has_ticket e.ticket left ≡ false → is_behind best e ≡ false → NoMove w e
+
+-- of the entries those were tried that have one of these tickets: this is the first of them that can be placed, and those of
+-- them before it that aren't listed have no move
+pub record Tried (w : World) (es : List Waiting) (tickets : List ℕ) (best : Option Candidate) (left : List ℕ) : Type 0 where
   pub tried : List Waiting
   pub within : (e : Waiting) → Among tried e → Among es e
   pub all : (e : Waiting) → Among es e → has_ticket e.ticket tickets ≡ true → Among tried e
   pub first : IsBest w tried best
-  pub others : OthersHaveNoMove w tried left
+  pub others : OthersTried w tried best left
 
 -- those of one ticket more were tried
-abbrev pub TriesMore : World → List Waiting → ℕ → Option Candidate → Marked → Option Candidate → Marked → Type 0
+abbrev pub TriesMore : World → List Waiting → ℕ → Option Candidate → List ℕ → Option Candidate → List ℕ → Type 0
 TriesMore w es ticket best left best_now left_now = (before : List ℕ) → Tried w es before best left → Tried w es (before ++ ticket ∷ []) best_now left_now
 
--- the candidate is of a smaller class than the entry, or of the same class and no larger ticket
-abbrev pub is_before : Candidate → Waiting → Bool
-is_before c e = nat_lt c.class e.class || c.class == e.class && nat_le c.ticket e.ticket
+-- what holds of the others once the best was found: where there is none, all were tried
+abbrev pub OthersAfter : World → List Waiting → Option Candidate → Marked → Opened → Type 0
+OthersAfter w es None m o = OthersHaveNoMove w es m
+OthersAfter w es (Some c) m o = OthersBut w es m o
+
+-- when a candidate's entry is tried
+abbrev pub turn_of : Candidate → Turn
+turn_of c = record { class = c.class; ticket = c.ticket }
+
+-- the marks from the turn of the best on, and none where there is no best
+abbrev pub marks_from : Option Candidate → Marked → Marked
+marks_from None m = no_marks
+marks_from (Some c) m = record m { from = Some (turn_of c) }
 
 -- the course that is given up, where the student holds it
 abbrev pub given_by : World → Candidate → List CourseId

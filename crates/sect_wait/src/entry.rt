@@ -5,9 +5,8 @@ ghost use Rattle.std.specs.Option.{option_map, option_to_list};
 ghost use Rattle.sect_model.specs.World.{holds as is_held};
 ghost use Rattle.sect_model.specs.Kept.{entry_fits};
 ghost use Rattle.sect_model.specs.Settle.{move_of as move_of_entry, placement_of};
-ghost use Rattle.sect_wait.specs.Marked.{MarksKept, OthersHaveNoMove};
+ghost use Rattle.sect_wait.specs.Placing.{KeepsListed, UnlistedHaveNoMove};
 
-use crate::marks::Marks;
 use sect_base::{Budget, Choice, CourseId, Duplicate, Items, Memory, Move, StudentId};
 use sect_model::{Outcome, Waiting};
 use sect_search::search;
@@ -16,31 +15,31 @@ use sect_steps::Steps;
 use std::alloc::Global;
 use std::sync::ledger::Ledger;
 
-/// The choice by which the entry can be placed, None exactly where it can't be. The entry is marked unless its search is
+/// The choice by which the entry can be placed, None exactly where it can't be. Its ticket is listed unless its search is
 /// blocked: then it has no move.
 pub fn placement<L: Ledger>(
     alloc: Global,
     world: &World,
     entry: &Waiting,
-    marks: &mut Marks,
+    left: &mut Vec<u64>,
     steps: &mut Steps<L>,
 ) -> Result<Option<Choice>, Memory>
     requires { IsTrue (entry_fits world.now.world entry.now) }
     ensures choice { IfOk result (λ found. option_map (λ c. c ∷ []) found ≡ placement_of world.now.world entry.now) }
-    ensures kept { MarksKept marks.old marks.new }
-    ensures others { OnOk result (OthersHaveNoMove world.now.world (entry.now ∷ []) marks.new) }
+    ensures kept { KeepsListed left.old.items left.new.items }
+    ensures others { OnOk result (UnlistedHaveNoMove world.now.world (entry.now ∷ []) left.new.items) }
     ensures steps { steps.new ≤ steps.old + 1 }
 {
     world.is_kept();
     let mv = move_of(alloc, world, entry)?;
     match search(alloc, world, &mv, budget(), steps)? {
         Outcome::Found(choices, _) => {
-            marks.mark(entry.ticket)?;
+            left.push(entry.ticket)?;
             Ok(choices.as_slice().first().copied())
         }
         Outcome::Blocked(_, _) => Ok(None),
         Outcome::Spent(_) => {
-            marks.mark(entry.ticket)?;
+            left.push(entry.ticket)?;
             Ok(None)
         }
     }

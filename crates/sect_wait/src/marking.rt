@@ -1,9 +1,10 @@
 // Which entries a change marks: those that it may give a move.
 
-ghost use Rattle.std.specs.Prelude.{◌≡◌, ◌==◌, [], ◌∷◌, cond, None as Nobody, Some as Told, OnErr, OnOk, option_copied};
+ghost use Rattle.std.specs.Prelude.{◌≡◌, ◌==◌, [], ◌∷◌, List, cond, None as Nobody, Some as Told, OnErr, OnOk, option_copied};
 ghost use Rattle.std.specs.List.{list_all};
 ghost use Rattle.std.specs.Option.{is_some};
 ghost use Rattle.sect_catalog.specs.Catalogue.{places as places_of};
+ghost use Rattle.sect_model.specs.declared.held.Waiting.{Waiting as Entry};
 ghost use Rattle.sect_model.specs.Choice.{lists_section as is_among};
 ghost use Rattle.sect_model.specs.World.{offering_of as row_of};
 ghost use Rattle.sect_model.specs.Freer.{frees_some, lists_only as is_listing_only, may_open};
@@ -50,7 +51,7 @@ pub fn mark_leaving(
     mark(queue, Some(student), row, marks)
 }
 
-/// Marks the entries of the student, and those that want a course of the offering. They are found by the queue's index.
+/// Marks the entries of the student, which are found by the queue's index, and those that want a course of the offering.
 /// Where memory runs out, some of them are marked.
 pub fn mark(
     queue: &Queue,
@@ -61,11 +62,15 @@ pub fn mark(
     ensures { OnOk result (MarksMore (is_concerned student (option_copied row.entry)) queue.now.queue.entries marks.old marks.new) }
 {
     mark_student(queue, student, marks)?;
-    mark_row(queue, row, marks)
+    mark_row(row, marks)
 }
 
 /// Marks the entries of the student.
-fn mark_student(queue: &Queue, student: Option<StudentId>, marks: &mut Marks) -> Result<(), Memory>
+pub(crate) fn mark_student(
+    queue: &Queue,
+    student: Option<StudentId>,
+    marks: &mut Marks,
+) -> Result<(), Memory>
     ensures { OnOk result (MarksMore (is_concerned student Nobody) queue.now.queue.entries marks.old marks.new) }
 {
     match student {
@@ -75,21 +80,21 @@ fn mark_student(queue: &Queue, student: Option<StudentId>, marks: &mut Marks) ->
 }
 
 /// Marks the entries that want a course of the offering.
-fn mark_row(queue: &Queue, row: Option<&OfferingRow>, marks: &mut Marks) -> Result<(), Memory>
-    ensures { OnOk result (MarksMore (is_concerned Nobody (option_copied row.entry)) queue.now.queue.entries marks.old marks.new) }
+fn mark_row(row: Option<&OfferingRow>, marks: &mut Marks) -> Result<(), Memory>
+    ensures { OnOk result ((entries : List Entry) → MarksMore (is_concerned Nobody (option_copied row.entry)) entries marks.old marks.new) }
 {
     match row {
-        Some(row) => mark_courses(queue, row.courses.as_slice(), marks),
+        Some(row) => mark_courses(row.courses.as_slice(), marks),
         None => Ok(()),
     }
 }
 
-/// Marks the entries that want one of the courses.
-fn mark_courses(queue: &Queue, courses: &[CourseRow], marks: &mut Marks) -> Result<(), Memory>
-    ensures { OnOk result (MarksMore (wants_some courses.now) queue.now.queue.entries marks.old marks.new) }
+/// Marks the entries that want one of the courses, by the courses.
+fn mark_courses(courses: &[CourseRow], marks: &mut Marks) -> Result<(), Memory>
+    ensures { OnOk result ((entries : List Entry) → MarksMore (wants_some courses.now) entries marks.old marks.new) }
 {
     for course in courses {
-        mark_tickets(queue.of_course(course.id), marks)?;
+        marks.mark_course(course.id)?;
     }
     Ok(())
 }
@@ -107,7 +112,8 @@ fn mark_tickets(tickets: Option<&[u64]>, marks: &mut Marks) -> Result<(), Memory
     }
 }
 
-fn mark_each(tickets: &[u64], marks: &mut Marks) -> Result<(), Memory>
+/// Marks the tickets. Where memory runs out, some of them are marked.
+pub(crate) fn mark_each(tickets: &[u64], marks: &mut Marks) -> Result<(), Memory>
     ensures { OnOk result (MarksTold (Told tickets.now) marks.old marks.new) }
 {
     for ticket in tickets {
@@ -121,14 +127,14 @@ pub fn mark_ticket(ticket: u64, marks: &mut Marks) -> Result<(), Memory>
     ensures told { OnOk result (MarksTold (Told (ticket ∷ [])) marks.old marks.new) }
     ensures err { OnErr result (marks.new ≡ marks.old) }
 {
-    if !marks.has(ticket) {
+    if !marks.has_ticket(ticket) {
         marks.mark(ticket)?;
     }
     Ok(())
 }
 
 /// The offering of a course.
-fn offering_of(world: &World, course: CourseId) -> Option<&OfferingRow>
+pub(crate) fn offering_of(world: &World, course: CourseId) -> Option<&OfferingRow>
     ensures { option_copied result ≡ row_of world.now.world course }
 {
     let (row, _) = world.catalogue().course(course)?;
@@ -147,7 +153,7 @@ fn freed<'a>(world: &'a World, choice: &Choice) -> Option<&'a OfferingRow>
 }
 
 /// Whether the choice is by an active reservation with a limit that lists something else.
-fn frees(world: &World, choice: &Choice) -> bool
+pub(crate) fn frees(world: &World, choice: &Choice) -> bool
     ensures { result ≡ frees_some world.now.world choice.now }
 {
     let Some(id) = choice.reservation else {

@@ -1,19 +1,32 @@
 // Which waiting entries must be tried.
 
-ghost use Rattle.std.specs.Prelude.{◌≡◌, ◌++◌, [], ◌∷◌, true, cond, None as Nothing, Some as Told, OnErr, OnOk, IsTrue, option_copied};
-ghost use Rattle.sect_wait.specs.Marked.{no_marks, is_marked};
+ghost use Rattle.std.specs.Prelude.{◌≡◌, ◌==◌, ◌++◌, [], ◌∷◌, true, None as Nothing, Some as Told, OnErr, OnOk, IsTrue};
+ghost use Rattle.std.specs.List.{list_any};
+ghost use Rattle.sect_wait.specs.Marked.{no_marks, is_from as is_turn_from, is_marked, is_source as has_source, wants_one as is_wanting};
 
-use sect_base::Memory;
+use sect_base::{CourseId, Memory};
+use sect_model::Waiting;
 use std::alloc::Global;
 use std::collections::BTreeSet;
 use std::marker::Model;
 
-/// The tickets of the entries that must be tried, or all tickets. They are found by a set.
+/// When an entry is tried: by class, and then by ticket.
+#[derive(Clone, Copy, PartialEq, Eq, Debug)]
+pub struct Turn {
+    pub class: u8,
+    pub ticket: u64,
+}
+
+/// The entries that must be tried: by their tickets, which are found by a set, by a course that they want, or all of them.
+/// Those that aren't marked by their tickets need not be tried before a turn.
 #[derive(Drop)]
 pub struct Marks {
     all: bool,
     tickets: Vec<u64>,
     set: BTreeSet<u64>,
+    courses: Vec<CourseId>,
+    givers: Vec<CourseId>,
+    from: Option<Turn>,
 }
 
 impl Model for Marks {
@@ -21,13 +34,13 @@ impl Model for Marks {
 
     ghost Value = { Marked };
 
-    ghost view = { λ m. record { all = m.all; tickets = m.tickets.items } };
+    ghost view = { λ m. record { all = m.all; tickets = m.tickets.items; courses = m.courses.items; givers = m.givers.items; from = m.from } };
 
     ghost invariant = { λ m. IsSetOf m.tickets.items m.set };
 }
 
 impl Marks {
-    /// No ticket is marked. It takes no memory.
+    /// Nobody is marked. It takes no memory.
     pub fn none(alloc: Global) -> Marks
         ensures { result ≡ no_marks }
     {
@@ -35,33 +48,73 @@ impl Marks {
             all: false,
             tickets: Vec::new(alloc),
             set: BTreeSet::new(alloc),
+            courses: Vec::new(alloc),
+            givers: Vec::new(alloc),
+            from: None,
         }
     }
 
-    /// Whether no ticket is marked. It takes no memory.
+    /// Whether nobody is marked. It takes no memory.
     pub fn is_none(&self) -> bool
         ensures none { IsTrue result → self.now ≡ no_marks }
         ensures only { self.now ≡ no_marks → IsTrue result }
     {
-        !self.all && self.tickets.is_empty()
+        !self.all
+            && self.tickets.is_empty()
+            && self.courses.is_empty()
+            && self.givers.is_empty()
+            && self.from.is_none()
+    }
+
+    /// Whether the entry is marked. It takes no memory.
+    pub fn has(&self, entry: &Waiting) -> bool
+        ensures { result ≡ is_marked self.now entry.now }
+    {
+        self.has_ticket(entry.ticket) || self.is_source(entry) && is_from(&self.from, entry)
     }
 
     /// Whether the ticket is marked. It takes no memory.
-    pub fn has(&self, ticket: u64) -> bool
-        ensures { result ≡ is_marked self.now ticket }
+    pub fn has_ticket(&self, ticket: u64) -> bool
+        ensures { result ≡ list_any (λ t. t == ticket) self.now.tickets }
     {
-        self.all || self.set.contains(&ticket)
+        self.set.contains(&ticket)
     }
 
-    /// The marked tickets, None where all are marked. It takes no memory.
-    pub fn tickets(&self) -> Option<&[u64]>
-        ensures { option_copied result ≡ cond self.now.all Nothing (Told self.now.tickets) }
+    /// Whether all are marked, or a course by which the entry is.
+    fn is_source(&self, entry: &Waiting) -> bool
+        ensures { result ≡ has_source self.now entry.now }
     {
-        if self.all {
-            None
-        } else {
-            Some(self.tickets.as_slice())
-        }
+        self.all
+            || wants_one(self.courses.as_slice(), entry)
+            || entry.give.is_some() && wants_one(self.givers.as_slice(), entry)
+    }
+
+    /// Whether all are marked. It takes no memory.
+    pub fn has_all(&self) -> bool
+        ensures { result ≡ self.now.all }
+    {
+        self.all
+    }
+
+    /// The marked tickets. It takes no memory.
+    pub fn tickets(&self) -> &[u64]
+        ensures { result.now ≡ self.now.tickets }
+    {
+        self.tickets.as_slice()
+    }
+
+    /// The courses that are marked for all who want them. It takes no memory.
+    pub fn courses(&self) -> &[CourseId]
+        ensures { result.now ≡ self.now.courses }
+    {
+        self.courses.as_slice()
+    }
+
+    /// The courses that are marked for those who want them and give one up. It takes no memory.
+    pub fn givers(&self) -> &[CourseId]
+        ensures { result.now ≡ self.now.givers }
+    {
+        self.givers.as_slice()
     }
 
     /// Marks a ticket.
@@ -75,10 +128,68 @@ impl Marks {
         Ok(())
     }
 
-    /// Marks all tickets, those to come too. It takes no memory.
+    /// Marks a course for all who want it, whatever their turn.
+    pub fn mark_course(&mut self, course: CourseId) -> Result<(), Memory>
+        ensures ok { OnOk result (self.new ≡ record self.old { courses = self.old.courses ++ course ∷ []; from = Nothing }) }
+        ensures err { OnErr result (self.new ≡ self.old) }
+    {
+        self.courses.push(course)?;
+        self.from = None;
+        Ok(())
+    }
+
+    /// Marks a course for those who want it and give one up, whatever their turn.
+    pub fn mark_giver(&mut self, course: CourseId) -> Result<(), Memory>
+        ensures ok { OnOk result (self.new ≡ record self.old { givers = self.old.givers ++ course ∷ []; from = Nothing }) }
+        ensures err { OnErr result (self.new ≡ self.old) }
+    {
+        self.givers.push(course)?;
+        self.from = None;
+        Ok(())
+    }
+
+    /// Marks all, those to come too. It takes no memory.
     pub fn mark_all(&mut self)
-        ensures { self.new ≡ record self.old { all = true } }
+        ensures { self.new ≡ record self.old { all = true; from = Nothing } }
     {
         self.all = true;
+        self.from = None;
     }
+
+    /// Takes the marks off that are by no ticket and of those whose turn is before this one. It takes no memory.
+    pub fn pass(&mut self, turn: Turn)
+        ensures { self.new ≡ record self.old { from = Told turn } }
+    {
+        self.from = Some(turn);
+    }
+}
+
+/// Whether the entry's turn is this one or a later one.
+fn is_from(from: &Option<Turn>, entry: &Waiting) -> bool
+    ensures { result ≡ is_turn_from from.now entry.now }
+{
+    match from {
+        Some(turn) => {
+            turn.class < entry.class || turn.class == entry.class && turn.ticket <= entry.ticket
+        }
+        None => true,
+    }
+}
+
+/// Whether the entry wants one of these courses. It takes no memory.
+pub(crate) fn wants_one(courses: &[CourseId], entry: &Waiting) -> bool
+    ensures { result ≡ is_wanting courses.now entry.now }
+{
+    courses.iter().any(|course| wants(entry, *course))
+}
+
+fn wants(entry: &Waiting, course: CourseId) -> bool
+    ensures { result ≡ list_any (λ c. course.0 == c.0) entry.now.want.courses }
+{
+    entry
+        .want
+        .courses
+        .as_slice()
+        .iter()
+        .any(|wanted| course == *wanted)
 }

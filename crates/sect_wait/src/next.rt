@@ -1,17 +1,19 @@
 // The entry to be placed next: of the smallest class among those that can be placed, and in it the smallest ticket.
 
-ghost use Rattle.std.specs.Prelude.{◌≡◌, ℕ, ◌≤◌, ◌+◌, ◌++◌, [], ◌∷◌, List, length, false, IfOk, IsTrue, OnOk};
+ghost use Rattle.std.specs.Prelude.{◌≡◌, ◌≤◌, ◌+◌, ◌++◌, [], ◌∷◌, List, length, IfOk, IsTrue};
 ghost use Rattle.std.specs.List.{list_all};
-ghost use Rattle.std.specs.Option.{option_map_or, option_or};
+ghost use Rattle.std.specs.Option.{option_or};
 ghost use Rattle.sect_model.specs.declared.held.Waiting.{Waiting as Entry};
 ghost use Rattle.sect_model.specs.Kept.{entry_fits};
-ghost use Rattle.sect_wait.specs.Indexed.{has_ticket};
-ghost use Rattle.sect_wait.specs.Marked.{MarksKept, OthersHaveNoMove, is_marked};
-ghost use Rattle.sect_wait.specs.Placing.{IsBest, TriesMore, candidate_of, is_before as comes_before};
+ghost use Rattle.sect_wait.specs.Opened.{AreListed, OthersBut, UnsoughtHaveNoMove, is_sought};
+ghost use Rattle.sect_wait.specs.Placing.{IsBest, OthersAfter, OthersTried, TriesMore, candidate_of, is_before as comes_before, is_behind as is_best_before, marks_from, turn_of as turn_of_candidate};
 
 use crate::entry::placement;
-use crate::marks::Marks;
+use crate::marking::mark_each;
+use crate::marks::{Marks, Turn};
+use crate::opened::Opened;
 use crate::queue::Queue;
+use crate::sought::{seeks, sought};
 use sect_base::{Choice, CourseId, Memory, StudentId};
 use sect_model::Waiting;
 use sect_space::World;
@@ -29,72 +31,98 @@ pub struct Candidate {
     pub choice: Choice,
 }
 
-/// The first of the entries, by class and then by ticket, that can be placed. None exactly where none can be. Only marked
-/// entries are searched; the marks of those that are blocked are taken off.
+/// The first of the entries, by class and then by ticket, that can be placed. None exactly where none can be. Only entries
+/// are searched that are marked or want what opened; the marks of those that are blocked are taken off.
 pub fn next<L: Ledger>(
     alloc: Global,
     world: &World,
     queue: &Queue,
     marks: &mut Marks,
+    opened: &Opened,
     steps: &mut Steps<L>,
 ) -> Result<Option<Candidate>, Memory>
     requires fit { IsTrue (list_all (entry_fits world.now.world) queue.now.queue.entries) }
-    requires others { OthersHaveNoMove world.now.world queue.now.queue.entries marks.old }
+    requires others { OthersBut world.now.world queue.now.queue.entries marks.old opened.now }
     ensures best { IfOk result (λ best. IsBest world.now.world queue.now.queue.entries best) }
-    ensures others { OnOk result (OthersHaveNoMove world.now.world queue.now.queue.entries marks.new) }
+    ensures others { IfOk result (λ best. OthersAfter world.now.world queue.now.queue.entries best marks.new opened.now) }
     ensures steps { steps.new ≤ steps.old + length queue.now.queue.entries }
 {
-    let mut left = Marks::none(alloc);
-    let best = first(alloc, world, queue, marks, &mut left, steps)?;
-    *marks = left;
+    let mut left = Vec::new(alloc);
+    let best = first(alloc, world, queue, marks, opened, &mut left, steps)?;
+    pass(alloc, &best, marks);
+    mark_each(left.as_slice(), marks)?;
     Ok(best)
 }
 
-/// The first of the entries that can be placed, and which of them must be tried again. It is found among the marked
-/// tickets, or among the entries where those are fewer.
+/// Those before the best need not be tried again, and where there is no best, none.
+fn pass(alloc: Global, best: &Option<Candidate>, marks: &mut Marks)
+    ensures { marks.new ≡ marks_from best.now marks.old }
+{
+    match best {
+        Some(candidate) => marks.pass(turn_of(candidate)),
+        None => *marks = Marks::none(alloc),
+    }
+}
+
+/// The first of the entries that can be placed, and which of them must be tried again. It is found among the tickets that
+/// are sought, or among the entries where those aren't few.
 fn first<L: Ledger>(
     alloc: Global,
     world: &World,
     queue: &Queue,
     marks: &Marks,
-    left: &mut Marks,
+    opened: &Opened,
+    left: &mut Vec<u64>,
     steps: &mut Steps<L>,
 ) -> Result<Option<Candidate>, Memory>
     requires fit { IsTrue (list_all (entry_fits world.now.world) queue.now.queue.entries) }
-    requires others { OthersHaveNoMove world.now.world queue.now.queue.entries marks.now }
+    requires others { UnsoughtHaveNoMove world.now.world queue.now.queue.entries marks.now opened.now }
+    requires none { left.old.items ≡ [] }
     ensures best { IfOk result (λ best. IsBest world.now.world queue.now.queue.entries best) }
-    ensures others { OnOk result (OthersHaveNoMove world.now.world queue.now.queue.entries left.new) }
+    ensures others { IfOk result (λ best. OthersTried world.now.world queue.now.queue.entries best left.new.items) }
     ensures steps { steps.new ≤ steps.old + length queue.now.queue.entries }
 {
-    if let Some(tickets) = marks.tickets() {
-        if tickets.len() < queue.entries().len() {
-            return best_of_marked(alloc, world, queue, tickets, marks, left, steps);
-        }
+    match sought(alloc, queue, marks, opened)? {
+        Some(tickets) => best_of_sought(
+            alloc,
+            world,
+            queue,
+            tickets.as_slice(),
+            marks,
+            opened,
+            left,
+            steps,
+        ),
+        None => best_of(alloc, world, queue.entries(), marks, opened, left, steps),
     }
-    best_of(alloc, world, queue.entries(), marks, left, steps)
 }
 
-/// The first of the entries that can be placed, where these tickets are marked, and which must be tried again.
-fn best_of_marked<L: Ledger>(
+/// The first of the entries that can be placed, where these tickets are sought, and which must be tried again.
+fn best_of_sought<L: Ledger>(
     alloc: Global,
     world: &World,
     queue: &Queue,
     tickets: &[u64],
     marks: &Marks,
-    left: &mut Marks,
+    opened: &Opened,
+    left: &mut Vec<u64>,
     steps: &mut Steps<L>,
 ) -> Result<Option<Candidate>, Memory>
     requires fit { IsTrue (list_all (entry_fits world.now.world) queue.now.queue.entries) }
-    requires others { OthersHaveNoMove world.now.world queue.now.queue.entries marks.now }
-    requires all { (ticket : ℕ) → has_ticket ticket tickets.now ≡ false → is_marked marks.now ticket ≡ false }
+    requires others { UnsoughtHaveNoMove world.now.world queue.now.queue.entries marks.now opened.now }
+    requires all { AreListed (is_sought marks.now opened.now) queue.now.queue.entries tickets.now }
+    requires none { left.old.items ≡ [] }
     ensures best { IfOk result (λ best. IsBest world.now.world queue.now.queue.entries best) }
-    ensures others { OnOk result (OthersHaveNoMove world.now.world queue.now.queue.entries left.new) }
+    ensures others { IfOk result (λ best. OthersTried world.now.world queue.now.queue.entries best left.new.items) }
     ensures steps { steps.new ≤ steps.old + length tickets.now }
 {
     queue.is_kept();
     let mut best = None;
     for ticket in tickets {
-        best = better_by(alloc, world, &best, queue, *ticket, marks, left, steps)?.or(best);
+        best = better_by(
+            alloc, world, &best, queue, *ticket, marks, opened, left, steps,
+        )?
+        .or(best);
     }
     Ok(best)
 }
@@ -108,17 +136,19 @@ fn better_by<L: Ledger>(
     queue: &Queue,
     ticket: u64,
     marks: &Marks,
-    left: &mut Marks,
+    opened: &Opened,
+    left: &mut Vec<u64>,
     steps: &mut Steps<L>,
 ) -> Result<Option<Candidate>, Memory>
     requires fit { IsTrue (list_all (entry_fits world.now.world) queue.now.queue.entries) }
-    requires others { OthersHaveNoMove world.now.world queue.now.queue.entries marks.now }
-    ensures tried { IfOk result (λ new. TriesMore world.now.world queue.now.queue.entries ticket best.now left.old (option_or new best.now) left.new) }
+    requires others { UnsoughtHaveNoMove world.now.world queue.now.queue.entries marks.now opened.now }
+    ensures tried { IfOk result (λ new. TriesMore world.now.world queue.now.queue.entries ticket best.now left.old.items
+        (option_or new best.now) left.new.items) }
     ensures steps { steps.new ≤ steps.old + 1 }
 {
     queue.is_kept();
     match queue.entry(ticket) {
-        Some(entry) => better(alloc, world, best, entry, marks, left, steps),
+        Some(entry) => better(alloc, world, best, entry, marks, opened, left, steps),
         None => Ok(None),
     }
 }
@@ -129,46 +159,48 @@ fn best_of<L: Ledger>(
     world: &World,
     entries: &[Waiting],
     marks: &Marks,
-    left: &mut Marks,
+    opened: &Opened,
+    left: &mut Vec<u64>,
     steps: &mut Steps<L>,
 ) -> Result<Option<Candidate>, Memory>
     requires fit { IsTrue (list_all (entry_fits world.now.world) entries.now) }
-    requires others { OthersHaveNoMove world.now.world entries.now marks.now }
+    requires others { UnsoughtHaveNoMove world.now.world entries.now marks.now opened.now }
+    requires none { left.old.items ≡ [] }
     ensures best { IfOk result (λ best. IsBest world.now.world entries.now best) }
-    ensures others { OnOk result (OthersHaveNoMove world.now.world entries.now left.new) }
+    ensures others { IfOk result (λ best. OthersTried world.now.world entries.now best left.new.items) }
     ensures steps { steps.new ≤ steps.old + length entries.now }
 {
     let mut best = None;
     for entry in entries {
-        best = better(alloc, world, &best, entry, marks, left, steps)?.or(best);
+        best = better(alloc, world, &best, entry, marks, opened, left, steps)?.or(best);
     }
     Ok(best)
 }
 
 /// The entry with the choice that its search finds, where it comes before the best so far, and None where that stays. The
-/// entry is searched only where it is marked and would come before. It stays marked unless its search is blocked.
+/// entry is searched only where it would come before and is sought. It must be tried again unless its search is blocked.
 fn better<L: Ledger>(
     alloc: Global,
     world: &World,
     best: &Option<Candidate>,
     entry: &Waiting,
     marks: &Marks,
-    left: &mut Marks,
+    opened: &Opened,
+    left: &mut Vec<u64>,
     steps: &mut Steps<L>,
 ) -> Result<Option<Candidate>, Memory>
     requires fits { IsTrue (entry_fits world.now.world entry.now) }
-    requires others { OthersHaveNoMove world.now.world (entry.now ∷ []) marks.now }
+    requires others { UnsoughtHaveNoMove world.now.world (entry.now ∷ []) marks.now opened.now }
     ensures best { IfOk result (λ new. (before : List Entry) → IsBest world.now.world before best.now
         → IsBest world.now.world (before ++ entry.now ∷ []) (option_or new best.now)) }
-    ensures kept { MarksKept left.old left.new }
-    ensures others { OnOk result (OthersHaveNoMove world.now.world (entry.now ∷ []) left.new) }
+    ensures others { IfOk result (λ new. (before : List Entry) → OthersTried world.now.world before best.now left.old.items
+        → OthersTried world.now.world (before ++ entry.now ∷ []) (option_or new best.now) left.new.items) }
     ensures steps { steps.new ≤ steps.old + 1 }
 {
-    if !marks.has(entry.ticket) {
+    if is_behind(best, entry) {
         return Ok(None);
     }
-    if is_behind(best, entry) {
-        left.mark(entry.ticket)?;
+    if !seeks(marks, opened, entry) {
         return Ok(None);
     }
     match placement(alloc, world, entry, left, steps)? {
@@ -179,7 +211,7 @@ fn better<L: Ledger>(
 
 /// Whether the best so far comes before the entry.
 fn is_behind(best: &Option<Candidate>, entry: &Waiting) -> bool
-    ensures { result ≡ option_map_or (λ c. comes_before c entry.now) best.now false }
+    ensures { result ≡ is_best_before best.now entry.now }
 {
     match best {
         Some(candidate) => is_before(candidate, entry),
@@ -205,5 +237,15 @@ fn chosen(entry: &Waiting, choice: Choice) -> Candidate
         student: entry.student,
         give: entry.give,
         choice,
+    }
+}
+
+/// When the candidate's entry is tried.
+fn turn_of(candidate: &Candidate) -> Turn
+    ensures { result ≡ turn_of_candidate candidate.now }
+{
+    Turn {
+        class: candidate.class,
+        ticket: candidate.ticket,
     }
 }

@@ -1,22 +1,25 @@
 // The placement of an entry: the course to give up leaves, the student is enrolled, and the entry leaves the queue.
 
-ghost use Rattle.std.specs.Prelude.{◌≡◌, [], ◌∷◌, filter, OnOk, IsTrue};
+ghost use Rattle.std.specs.Prelude.{◌≡◌, [], ◌∷◌, List, filter, OnOk, IsTrue};
 ghost use Rattle.std.specs.List.{list_all};
+ghost use Rattle.sect_model.specs.declared.held.Waiting.{Waiting as Entry};
+ghost use Rattle.sect_model.specs.Freer.{frees_some};
 ghost use Rattle.sect_model.specs.World.{leave_all, holds as is_held};
 ghost use Rattle.sect_model.specs.Fits.{Fits, changed};
 ghost use Rattle.sect_model.specs.Kept.{entry_fits};
 ghost use Rattle.sect_space.specs.Undo.{Since, Undoable};
-ghost use Rattle.sect_wait.specs.Marked.{OthersHaveNoMove};
+ghost use Rattle.sect_wait.specs.Opened.{OthersBut};
 ghost use Rattle.sect_wait.specs.Queued.{left as queue_without};
 ghost use Rattle.sect_wait.specs.Undo.{Since as QueueSince, Undoable as QueueUndoable};
 ghost use Rattle.sect_wait.specs.Placing.{given_up, moved, enrolment_of};
 
-use crate::marking::{mark_enrolment, mark_leaving};
+use crate::marking::{frees, mark_enrolment, mark_leaving};
 use crate::marks::Marks;
 use crate::next::Candidate;
+use crate::opened::{Opened, fall_back};
 use crate::queue::Queue;
 use crate::undo::QueueUndo;
-use sect_base::{CourseId, Memory, StudentId};
+use sect_base::{Choice, CourseId, Memory, StudentId};
 use sect_model::{Change, Enrolment};
 use sect_space::{Undo, World};
 
@@ -26,23 +29,24 @@ pub fn place(
     queue: &mut Queue,
     candidate: &Candidate,
     marks: &mut Marks,
+    opened: &mut Opened,
     undo: &mut Undo,
     left: &mut QueueUndo,
 ) -> Result<(), Memory>
     requires fits { Fits (given_up world.old.world candidate.now) (Change.Enrol (enrolment_of candidate.now)) }
     requires fit { IsTrue (list_all (entry_fits world.old.world) queue.old.queue.entries) }
-    requires others { OthersHaveNoMove world.old.world queue.old.queue.entries marks.old }
+    requires others { OthersBut world.old.world queue.old.queue.entries marks.old opened.old }
     requires undoable { Undoable world.old undo.old.backs }
     requires queue_undoable { QueueUndoable queue.old left.old }
     ensures world { OnOk result (world.new.world ≡ moved world.old.world candidate.now) }
     ensures queue { OnOk result (queue.new.queue ≡ queue_without queue.old.queue candidate.now.ticket) }
-    ensures others { OnOk result (OthersHaveNoMove world.new.world queue.new.queue.entries marks.new) }
+    ensures others { OnOk result (OthersBut world.new.world queue.new.queue.entries marks.new opened.new) }
     ensures since { Since world.old.world undo.old.backs world.new.world undo.new.backs }
     ensures queue_since { QueueSince queue.old.queue left.old queue.new.queue left.new }
     ensures undoable { Undoable world.new undo.new.backs }
     ensures queue_undoable { QueueUndoable queue.new left.new }
 {
-    place_in_world(world, queue, candidate, marks, undo)?;
+    place_in_world(world, queue, candidate, marks, opened, undo)?;
     let _ = queue.leave(candidate.ticket, left)?;
     Ok(())
 }
@@ -53,19 +57,20 @@ fn place_in_world(
     queue: &Queue,
     candidate: &Candidate,
     marks: &mut Marks,
+    opened: &mut Opened,
     undo: &mut Undo,
 ) -> Result<(), Memory>
     requires fits { Fits (given_up world.old.world candidate.now) (Change.Enrol (enrolment_of candidate.now)) }
     requires fit { IsTrue (list_all (entry_fits world.old.world) queue.now.queue.entries) }
-    requires others { OthersHaveNoMove world.old.world queue.now.queue.entries marks.old }
+    requires others { OthersBut world.old.world queue.now.queue.entries marks.old opened.old }
     requires undoable { Undoable world.old undo.old.backs }
     ensures ok { OnOk result (world.new.world ≡ moved world.old.world candidate.now) }
-    ensures others { OnOk result (OthersHaveNoMove world.new.world queue.now.queue.entries marks.new) }
+    ensures others { OnOk result (OthersBut world.new.world queue.now.queue.entries marks.new opened.new) }
     ensures since { Since world.old.world undo.old.backs world.new.world undo.new.backs }
     ensures undoable { Undoable world.new undo.new.backs }
 {
-    give_up(world, queue, candidate, marks, undo)?;
-    enrol(world, queue, candidate, marks, undo)
+    give_up(world, queue, candidate, marks, opened, undo)?;
+    enrol(world, queue, candidate, marks, opened, undo)
 }
 
 /// Takes the student out of the course to give up, where the student holds it.
@@ -74,19 +79,20 @@ fn give_up(
     queue: &Queue,
     candidate: &Candidate,
     marks: &mut Marks,
+    opened: &mut Opened,
     undo: &mut Undo,
 ) -> Result<(), Memory>
     requires fit { IsTrue (list_all (entry_fits world.old.world) queue.now.queue.entries) }
-    requires others { OthersHaveNoMove world.old.world queue.now.queue.entries marks.old }
+    requires others { OthersBut world.old.world queue.now.queue.entries marks.old opened.old }
     requires undoable { Undoable world.old undo.old.backs }
     ensures ok { OnOk result (world.new.world ≡ given_up world.old.world candidate.now) }
     ensures fit { OnOk result (IsTrue (list_all (entry_fits world.new.world) queue.now.queue.entries)) }
-    ensures others { OnOk result (OthersHaveNoMove world.new.world queue.now.queue.entries marks.new) }
+    ensures others { OnOk result (OthersBut world.new.world queue.now.queue.entries marks.new opened.new) }
     ensures since { Since world.old.world undo.old.backs world.new.world undo.new.backs }
     ensures undoable { Undoable world.new undo.new.backs }
 {
     match candidate.give {
-        Some(course) => leave(world, queue, candidate.student, course, marks, undo),
+        Some(course) => leave(world, queue, candidate.student, course, marks, opened, undo),
         None => Ok(()),
     }
 }
@@ -98,19 +104,21 @@ fn leave(
     student: StudentId,
     course: CourseId,
     marks: &mut Marks,
+    opened: &mut Opened,
     undo: &mut Undo,
 ) -> Result<(), Memory>
     requires fit { IsTrue (list_all (entry_fits world.old.world) queue.now.queue.entries) }
-    requires others { OthersHaveNoMove world.old.world queue.now.queue.entries marks.old }
+    requires others { OthersBut world.old.world queue.now.queue.entries marks.old opened.old }
     requires undoable { Undoable world.old undo.old.backs }
     ensures ok { OnOk result (world.new.world ≡ leave_all world.old.world student (filter (is_held world.old.world student) (course ∷ []))) }
     ensures fit { OnOk result (IsTrue (list_all (entry_fits world.new.world) queue.now.queue.entries)) }
-    ensures others { OnOk result (OthersHaveNoMove world.new.world queue.now.queue.entries marks.new) }
+    ensures others { OnOk result (OthersBut world.new.world queue.now.queue.entries marks.new opened.new) }
     ensures since { Since world.old.world undo.old.backs world.new.world undo.new.backs }
     ensures undoable { Undoable world.new undo.new.backs }
 {
     if world.holds(student, course) {
         world.is_kept();
+        fall_back(opened, marks)?;
         mark_leaving(world, queue, student, course, marks)?;
         make(world, Change::Leave(student, course), undo)
     } else {
@@ -124,14 +132,15 @@ fn enrol(
     queue: &Queue,
     candidate: &Candidate,
     marks: &mut Marks,
+    opened: &mut Opened,
     undo: &mut Undo,
 ) -> Result<(), Memory>
     requires fits { Fits world.old.world (Change.Enrol (enrolment_of candidate.now)) }
     requires fit { IsTrue (list_all (entry_fits world.old.world) queue.now.queue.entries) }
-    requires others { OthersHaveNoMove world.old.world queue.now.queue.entries marks.old }
+    requires others { OthersBut world.old.world queue.now.queue.entries marks.old opened.old }
     requires undoable { Undoable world.old undo.old.backs }
     ensures ok { OnOk result (world.new.world ≡ changed world.old.world (Change.Enrol (enrolment_of candidate.now))) }
-    ensures others { OnOk result (OthersHaveNoMove world.new.world queue.now.queue.entries marks.new) }
+    ensures others { OnOk result (OthersBut world.new.world queue.now.queue.entries marks.new opened.new) }
     ensures since { Since world.old.world undo.old.backs world.new.world undo.new.backs }
     ensures undoable { Undoable world.new undo.new.backs }
 {
@@ -140,12 +149,31 @@ fn enrol(
         choice: candidate.choice,
     };
     world.is_kept();
+    fall_back_where_freed(world, &enrolment.choice, opened, marks)?;
     mark_enrolment(world, queue, &enrolment, marks)?;
     make(world, Change::Enrol(enrolment), undo)
 }
 
+/// Where an enrolment by the choice frees a place by its reservation, all are tried who want what opened.
+fn fall_back_where_freed(
+    world: &World,
+    choice: &Choice,
+    opened: &mut Opened,
+    marks: &mut Marks,
+) -> Result<(), Memory>
+    ensures others { OnOk result ((entries : List Entry) → OthersBut world.now.world entries marks.old opened.old
+        → OthersBut world.now.world entries marks.new opened.new) }
+    ensures none { OnOk result (IsTrue (frees_some world.now.world choice.now) → opened.new.courses.items ≡ []) }
+{
+    if frees(world, choice) {
+        fall_back(opened, marks)
+    } else {
+        Ok(())
+    }
+}
+
 /// Makes a change that fits.
-fn make(world: &mut World, change: Change, undo: &mut Undo) -> Result<(), Memory>
+pub(crate) fn make(world: &mut World, change: Change, undo: &mut Undo) -> Result<(), Memory>
     requires fits { Fits world.old.world change }
     requires undoable { Undoable world.old undo.old.backs }
     ensures ok { OnOk result (world.new.world ≡ changed world.old.world change) }

@@ -1,17 +1,19 @@
 // Settling: the first entry by class and then by ticket that can be placed is placed, again and again, until none can be.
 
-ghost use Rattle.std.specs.Prelude.{◌≡◌, ◌≤◌, ◌+◌, ◌*◌, length, IfOk, OnOk, OnErr, IsTrue};
+ghost use Rattle.std.specs.Prelude.{◌≡◌, ◌≤◌, ◌+◌, ◌*◌, [], length, IfOk, OnOk, OnErr, IsTrue};
 ghost use Rattle.std.specs.List.{list_all};
 ghost use Rattle.sect_model.specs.Kept.{entry_fits};
 ghost use Rattle.sect_model.specs.Settle.{settle as settled, is_settled};
 ghost use Rattle.sect_space.specs.Undo.{Since, Undoable};
 ghost use Rattle.sect_wait.specs.Marked.{OthersHaveNoMove, no_marks};
+ghost use Rattle.sect_wait.specs.Opened.{OthersBut};
 ghost use Rattle.sect_wait.specs.Queued.{state_of};
 ghost use Rattle.sect_wait.specs.Undo.{Since as QueueSince, Undoable as QueueUndoable};
 ghost use Rattle.sect_wait.specs.Placing.{placed_of as placed_from};
 
 use crate::marks::Marks;
 use crate::next::{Candidate, next};
+use crate::opened::{Opened, shut};
 use crate::place::place;
 use crate::queue::Queue;
 use crate::undo::QueueUndo;
@@ -53,13 +55,49 @@ pub fn settle<L: Ledger>(
     ensures undoable { Undoable world.new undo.new.backs }
     ensures queue_undoable { QueueUndoable queue.new left.new }
 {
-    if marks.is_none() {
+    let mut opened = Opened::none(alloc);
+    settle_opened(alloc, world, queue, marks, &mut opened, undo, left, steps)
+}
+
+/// The same after a leaving, which told what it opened: once that is closed again, those who want it and give nothing up have no
+/// move, as they had none before it, and aren't tried. Where memory runs out, world, queue and
+/// what is recorded are as before, and all entries are marked.
+pub fn settle_opened<L: Ledger>(
+    alloc: Global,
+    world: &mut World,
+    queue: &mut Queue,
+    marks: &mut Marks,
+    opened: &mut Opened,
+    undo: &mut Undo,
+    left: &mut QueueUndo,
+    steps: &mut Steps<L>,
+) -> Result<Items<Placed>, Memory>
+    requires fit { IsTrue (list_all (entry_fits world.old.world) queue.old.queue.entries) }
+    requires others { OthersBut world.old.world queue.old.queue.entries marks.old opened.old }
+    requires undoable { Undoable world.old undo.old.backs }
+    requires queue_undoable { QueueUndoable queue.old left.old }
+    ensures settled { IfOk result (λ placed. settled (state_of world.old.world queue.old.queue)
+        ≡ record { state = state_of world.new.world queue.new.queue; placed = placed }) }
+    ensures nobody_left { OnOk result (IsTrue (is_settled (state_of world.new.world queue.new.queue))) }
+    ensures others { OthersHaveNoMove world.new.world queue.new.queue.entries marks.new }
+    ensures unmarked { marks.old ≡ no_marks → opened.old.courses.items ≡ [] → steps.new ≡ steps.old }
+    ensures steps { IfOk result (λ placed. steps.new ≤ steps.old + (length placed + 1) * length queue.old.queue.entries) }
+    ensures err { OnErr result (world.new.world ≡ world.old.world) }
+    ensures queue_err { OnErr result (queue.new.queue ≡ queue.old.queue) }
+    ensures not_recorded { OnErr result (undo.new.backs ≡ undo.old.backs) }
+    ensures queue_not_recorded { OnErr result (left.new ≡ left.old) }
+    ensures since { Since world.old.world undo.old.backs world.new.world undo.new.backs }
+    ensures queue_since { QueueSince queue.old.queue left.old queue.new.queue left.new }
+    ensures undoable { Undoable world.new undo.new.backs }
+    ensures queue_undoable { QueueUndoable queue.new left.new }
+{
+    if is_idle(marks, opened) {
         return Ok(Items::from_vec(Vec::new(alloc)));
     }
     world.is_kept();
     let made = undo.len();
     let gone = left.len();
-    let placed = place_all(alloc, world, queue, marks, undo, left, steps);
+    let placed = place_all(alloc, world, queue, marks, opened, undo, left, steps);
     if placed.is_err() {
         world.undo_to(undo, made);
         queue.undo_to(left, gone);
@@ -68,18 +106,28 @@ pub fn settle<L: Ledger>(
     placed
 }
 
+/// Whether nobody must be tried.
+fn is_idle(marks: &Marks, opened: &Opened) -> bool
+    ensures none { IsTrue result → marks.now ≡ no_marks }
+    ensures closed { IsTrue result → opened.now.courses.items ≡ [] }
+    ensures only { marks.now ≡ no_marks → opened.now.courses.items ≡ [] → IsTrue result }
+{
+    marks.is_none() && opened.courses.is_empty()
+}
+
 /// Places the entries that can be placed. Where memory runs out, some may have been placed.
 fn place_all<L: Ledger>(
     alloc: Global,
     world: &mut World,
     queue: &mut Queue,
     marks: &mut Marks,
+    opened: &mut Opened,
     undo: &mut Undo,
     left: &mut QueueUndo,
     steps: &mut Steps<L>,
 ) -> Result<Items<Placed>, Memory>
     requires fit { IsTrue (list_all (entry_fits world.old.world) queue.old.queue.entries) }
-    requires others { OthersHaveNoMove world.old.world queue.old.queue.entries marks.old }
+    requires others { OthersBut world.old.world queue.old.queue.entries marks.old opened.old }
     requires undoable { Undoable world.old undo.old.backs }
     requires queue_undoable { QueueUndoable queue.old left.old }
     ensures settled { IfOk result (λ placed. settled (state_of world.old.world queue.old.queue)
@@ -95,9 +143,10 @@ fn place_all<L: Ledger>(
     queue.is_kept();
     let mut placed = Vec::new(alloc);
     'rounds: loop {
-        match next(alloc, world, queue, marks, steps)? {
+        shut(world, opened, marks)?;
+        match next(alloc, world, queue, marks, opened, steps)? {
             Some(candidate) => {
-                place(world, queue, &candidate, marks, undo, left)?;
+                place(world, queue, &candidate, marks, opened, undo, left)?;
                 placed.push(placed_of(&candidate))?;
             }
             None => return Ok(Items::from_vec(placed)),

@@ -2,19 +2,29 @@
 use Rattle.std.proofs.Common.{◌∙◌, [], ◌∷◌, ◌++◌, Some, ap, sym, subst}
 use Rattle.std.specs.Option.{option_map}
 use Rattle.sect_base.specs.declared.choice.Choice.{Choice}
-use Rattle.sect_wait.specs.Placing.{IsBest}
-use Rattle.sect_wait.proofs.MarkLemmas.{others-unplaced}
-use Rattle.sect_wait.proofs.NextLemmas.{best-stays, best-found, best-unplaced}
+use Rattle.sect_wait.specs.Placing.{IsBest, OthersTried}
+use Rattle.sect_wait.proofs.NextLemmas.{best-stays, best-found, best-unplaced, tried-behind, tried-found, tried-unplaced, unsought-unlisted, unsought-unplaced}
 use Rattle.sect_wait.proofs.next.better.Goals as goal
-
-pub returns-then-not-has-clause-best : goal.returns-then-not-has-clause-best
-returns-then-not-has-clause-best g c = λ before b.
-    best-unplaced c.args.world.now.world before c.args.entry.now c.args.best.now
-    (others-unplaced c.args.world.now.world c.args.entry.now c.args.marks.now (sym c.has.ensures ∙ c.if-not-has.true) c.requires.others) b
 
 pub returns-then-is_behind-clause-best : goal.returns-then-is_behind-clause-best
 returns-then-is_behind-clause-best g c = λ before b.
     best-stays c.args.world.now.world before c.args.entry.now c.args.best.now (sym c.if-is_behind.true ∙ c.is_behind.ensures) b
+
+pub returns-then-is_behind-clause-others : goal.returns-then-is_behind-clause-others
+returns-then-is_behind-clause-others g c = λ before b.
+    tried-behind c.args.world.now.world before c.args.entry.now c.args.best.now c.args.left.now.items (sym c.if-is_behind.true ∙ c.is_behind.ensures) b
+
+pub returns-then-not-seeks-clause-best : goal.returns-then-not-seeks-clause-best
+returns-then-not-seeks-clause-best g c = λ before b.
+    best-unplaced c.args.world.now.world before c.args.entry.now c.args.best.now
+    (unsought-unplaced c.args.world.now.world c.args.entry.now c.args.marks.now c.args.opened.now (sym c.seeks.ensures ∙ c.if-not-seeks.true) c.requires.others) b
+
+pub returns-then-not-seeks-clause-others : goal.returns-then-not-seeks-clause-others
+returns-then-not-seeks-clause-others g c = λ before b.
+    let w = c.args.world.now.world in
+    let ts = c.args.left.now.items in
+    tried-unplaced w before c.args.entry.now c.args.best.now ts ts (λ t h. h)
+    (unsought-unlisted w c.args.entry.now c.args.marks.now c.args.opened.now ts (sym c.seeks.ensures ∙ c.if-not-seeks.true) c.requires.others) b
 
 pub returns-in-Some-clause-best : goal.returns-in-Some-clause-best
 returns-in-Some-clause-best g c = λ before b.
@@ -23,3 +33,14 @@ returns-in-Some-clause-best g c = λ before b.
     let found = ap (option_map (λ (x : Choice). x ∷ [])) (sym c.in-Some.is) ∙ c.in_ok-choice.ensures.choice in
     subst (λ x. IsBest w (before ++ e ∷ []) (Some x)) (sym c.chosen.ensures)
     (best-found w before e c.args.best.now c.in-Some.choice (sym c.if-is_behind.false ∙ c.is_behind.ensures) found b)
+
+pub returns-in-Some-clause-others : goal.returns-in-Some-clause-others
+returns-in-Some-clause-others g c = λ before b.
+    let w = c.args.world.now.world in
+    let e = c.args.entry.now in
+    subst (λ x. OthersTried w (before ++ e ∷ []) (Some x) c.placement.new.left.items) (sym c.chosen.ensures)
+    (tried-found w before e c.args.best.now c.in-Some.choice c.args.left.now.items c.placement.new.left.items (sym c.if-is_behind.false ∙ c.is_behind.ensures) c.placement.ensures.kept b)
+
+pub returns-in-None-clause-others : goal.returns-in-None-clause-others
+returns-in-None-clause-others g c = λ before b.
+    tried-unplaced c.args.world.now.world before c.args.entry.now c.args.best.now c.args.left.now.items c.placement.new.left.items c.placement.ensures.kept c.in_ok-choice.ensures.others b

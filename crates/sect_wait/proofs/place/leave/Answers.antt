@@ -1,7 +1,8 @@
 -- What the leaving may open is marked.
 use Rattle.std.proofs.Common.{◌∙◌, sym}
 use Rattle.sect_model.specs.declared.change.Change.TheVariants.{Leave}
-use Rattle.sect_wait.proofs.MarkLemmas.{made-others, left-fit}
+use Rattle.sect_wait.proofs.MarkLemmas.{made-others, left-fit, on-ok}
+use Rattle.sect_wait.proofs.OpenedLemmas.{all-but, fallen-back}
 use Rattle.sect_wait.proofs.place.leave.Goals as goal
 
 pub returns-in_ok-mark_leaving-clause-fit : goal.returns-in_ok-mark_leaving-clause-fit
@@ -10,5 +11,10 @@ returns-in_ok-mark_leaving-clause-fit c =
 
 pub returns-in_ok-mark_leaving-clause-others : goal.returns-in_ok-mark_leaving-clause-others
 returns-in_ok-mark_leaving-clause-others c =
-    made-others c.args.world.now.world c.make.new.world.world c.args.queue.now.queue.entries c.args.marks.now c.mark_leaving.new.marks (Leave c.args.student c.args.course) c.make.result c.is_kept.ensures
-    (sym c.holds.ensures ∙ c.if-holds.true) c.requires.fit c.make.ensures.ok c.requires.others c.in_ok-mark_leaving.ensures
+    let w = c.args.world.now.world in
+    let v = c.make.new.world.world in
+    let es = c.args.queue.now.queue.entries in
+    on-ok c.make.result (all-but v es c.mark_leaving.new.marks c.fall_back.new.opened)
+    (made-others w v es c.fall_back.new.marks c.mark_leaving.new.marks (Leave c.args.student c.args.course) c.make.result c.is_kept.ensures
+    (sym c.holds.ensures ∙ c.if-holds.true) c.requires.fit c.make.ensures.ok
+    (fallen-back w es c.args.marks.now c.fall_back.new.marks c.args.opened.now (c.in_ok-fall_back.ensures.more es) c.requires.others) c.in_ok-mark_leaving.ensures)

@@ -1,7 +1,7 @@
 -- Each round places the first entry that can be placed.
 use Rattle.std.proofs.Common.{Some, None, ◌+◌, ◌*◌, ◌≡◌, ◌∙◌, ◌++◌, [], ◌∷◌, ◌≤◌, suc, ap, sym, subst, length}
 use Rattle.sect_space.proofs.Steps.{since-both}
-use Rattle.sect_wait.specs.Placing.{placed_of}
+use Rattle.sect_wait.specs.Placing.{OthersAfter, placed_of}
 use Rattle.sect_wait.specs.Queued.{state_of}
 use Rattle.sect_wait.proofs.PlacingLemmas.{best-fits}
 use Rattle.sect_wait.proofs.SettlingLemmas.{best-of, shorter, settling-more, settling-done, settling-counted}
@@ -70,3 +70,14 @@ returns-in-None-clause-steps g c =
     (settling-counted c.args.world.now.world c.args.queue.now.queue c.args.steps.now w q c.rounds.placed.items c.rounds.steps c.next.new.steps c.rounds.invariant.0
     (best-of w q.entries c.in_ok-candidate.field-0 None c.in-None.is c.in_ok-candidate.ensures.best)
     c.in_ok-candidate.ensures.steps)
+
+pub next-requires-clause-others : goal.next-requires-clause-others
+next-requires-clause-others g c = c.in_ok-shut.ensures c.rounds.queue.queue.entries c.rounds.invariant.5
+
+pub place-requires-clause-others : goal.place-requires-clause-others
+place-requires-clause-others g c =
+    subst (λ b. OthersAfter c.rounds.world.world c.rounds.queue.queue.entries b c.next.new.marks c.shut.new.opened) c.in-Some.is c.in_ok-candidate.ensures.others
+
+pub returns-in-None-clause-others : goal.returns-in-None-clause-others
+returns-in-None-clause-others g c =
+    subst (λ b. OthersAfter c.rounds.world.world c.rounds.queue.queue.entries b c.next.new.marks c.shut.new.opened) c.in-None.is c.in_ok-candidate.ensures.others

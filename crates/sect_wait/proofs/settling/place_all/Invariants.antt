@@ -1,7 +1,7 @@
 -- settling what is left gives what settling all gives, and the changes made so far can be taken back
 use Rattle.std.proofs.Common.{length}
 use Rattle.sect_space.specs.Undo.{Since, Undoable}
-use Rattle.sect_wait.specs.Marked.{OthersHaveNoMove}
+use Rattle.sect_wait.specs.Opened.{OthersBut}
 use Rattle.sect_wait.specs.Undo.{Since as QueueSince, Undoable as QueueUndoable}
 use Rattle.sect_wait.proofs.SettlingLemmas.{Settling}
 use Rattle.sect_wait.proofs.settling.place_all.Given as goal
@@ -13,7 +13,7 @@ invariant-rounds g l =
     × QueueSince l.initial.queue.queue l.initial.left l.queue.queue l.left
     × Undoable l.world l.undo.backs
     × QueueUndoable l.queue l.left
-    × OthersHaveNoMove l.world.world l.queue.queue.entries l.marks
+    × OthersBut l.world.world l.queue.queue.entries l.marks l.opened
 
 abbrev pub decreases-rounds : goal.decreases-rounds
 decreases-rounds g l = length l.queue.queue.entries

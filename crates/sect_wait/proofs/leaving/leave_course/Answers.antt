@@ -1,0 +1,14 @@
+-- Where nobody waits for the offering, what the leaving may open is marked.
+use Rattle.sect_model.specs.declared.change.Change.TheVariants.{Leave}
+use Rattle.sect_wait.proofs.MarkLemmas.{changed-others}
+use Rattle.sect_wait.proofs.OpenedLemmas.{all-but}
+use Rattle.sect_wait.proofs.leaving.leave_course.Goals as goal
+
+pub returns-in_ok-make-clause-others : goal.returns-in_ok-make-clause-others
+returns-in_ok-make-clause-others c =
+    let w = c.args.world.now.world in
+    let v = c.make.new.world.world in
+    let es = c.args.queue.now.queue.entries in
+    all-but v es c.mark_leaving.new.marks c.none.result
+    (changed-others w v es c.args.marks.now c.mark_leaving.new.marks (Leave c.args.student c.args.course) c.is_kept.ensures c.requires.held c.requires.fit c.in_ok-make.ensures.ok c.requires.others
+    c.in_ok-mark_leaving.ensures)

@@ -1,0 +1,13 @@
+-- What opened is noted, and the student's entries are marked.
+use Rattle.std.proofs.Common.{sym, subst}
+use Rattle.sect_wait.specs.Opened.{OthersBut}
+use Rattle.sect_wait.proofs.OpenedLemmas.{noted-all}
+use Rattle.sect_wait.proofs.leaving.leave_noted.Goals as goal
+
+pub returns-clause-others : goal.returns-clause-others
+returns-clause-others c =
+    let w = c.args.world.now.world in
+    let es = c.args.queue.now.queue.entries in
+    subst (λ v. OthersBut v es c.mark_student.new.marks c.in_ok-opened.opened) (sym c.in_ok-make.ensures.ok)
+    (noted-all w c.is_kept.ensures c.args.student c.args.course es c.args.marks.now c.mark_student.new.marks c.in_ok-opened.opened c.in_ok-opened.ensures c.requires.held c.requires.fit
+    c.requires.others c.in_ok-mark_student.ensures)

@@ -1,0 +1,8 @@
+-- Who wants one of the courses is marked.
+use Rattle.std.proofs.Common.{subst}
+use Rattle.sect_wait.specs.Marked.{MarksMore, wants_one}
+use Rattle.sect_wait.proofs.opened.fall_back.Goals as goal
+
+pub returns-clause-more : goal.returns-clause-more
+returns-clause-more c = λ es.
+    subst (λ cs. MarksMore (wants_one cs) es c.args.marks.now c.mark_wanted.new.marks) c.as_slice.ensures.value (c.in_ok-mark_wanted.ensures es)

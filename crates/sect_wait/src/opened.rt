@@ -1,0 +1,150 @@
+// What a student's leaving a course opened: levels that were closed before, and a reservation that was used up.
+
+ghost use Rattle.std.specs.Prelude.{◌≡◌, ◌&&◌, not, true, [], List, OnOk};
+ghost use Rattle.std.specs.List.{list_all};
+ghost use Rattle.std.specs.Option.{option_map_or};
+ghost use Rattle.sect_model.specs.Space.{has_place as has_place_at, has_unreserved as has_unreserved_at};
+ghost use Rattle.sect_model.specs.World.{reservation_of};
+ghost use Rattle.sect_model.specs.Freer.{has_room as has_room_in};
+ghost use Rattle.sect_model.specs.declared.held.Waiting.{Waiting as Entry};
+ghost use Rattle.sect_wait.specs.Marked.{MarksMore, wants_one as is_wanting};
+ghost use Rattle.sect_wait.specs.Opened.{OthersBut, gives_and_wants, is_closed_again as is_closed};
+
+use crate::marks::Marks;
+use sect_base::{CourseId, Level, Limit, Memory, ReservationId};
+use sect_reserve::Reservation;
+use sect_space::World;
+use std::alloc::Global;
+
+/// What opened where a student left: those who want one of the courses may have a move by it, as long as one of the levels
+/// has a place again or unreserved space again, or one of the reservations has room again.
+#[derive(Drop)]
+pub struct Opened {
+    pub(crate) courses: Vec<CourseId>,
+    pub(crate) full: Vec<Level>,
+    pub(crate) reserved: Vec<Level>,
+    pub(crate) used_up: Vec<ReservationId>,
+}
+
+impl Opened {
+    /// Nothing opened. It takes no memory.
+    pub fn none(alloc: Global) -> Opened
+        ensures { result.courses.items ≡ [] }
+    {
+        Opened {
+            courses: Vec::new(alloc),
+            full: Vec::new(alloc),
+            reserved: Vec::new(alloc),
+            used_up: Vec::new(alloc),
+        }
+    }
+}
+
+/// Marks those who want one of the courses, so that all of them are tried. Where memory runs out, some of them are marked.
+pub(crate) fn fall_back(opened: &mut Opened, marks: &mut Marks) -> Result<(), Memory>
+    ensures more { OnOk result ((entries : List Entry) → MarksMore (is_wanting opened.old.courses.items) entries marks.old marks.new) }
+    ensures none { OnOk result (opened.new.courses.items ≡ []) }
+{
+    mark_wanted(opened.courses.as_slice(), marks)?;
+    opened.courses.clear();
+    Ok(())
+}
+
+fn mark_wanted(courses: &[CourseId], marks: &mut Marks) -> Result<(), Memory>
+    ensures { OnOk result ((entries : List Entry) → MarksMore (is_wanting courses.now) entries marks.old marks.new) }
+{
+    for course in courses {
+        marks.mark_course(*course)?;
+    }
+    Ok(())
+}
+
+/// Where all that opened is closed again, only those who give a course up are marked by what opened. Where memory runs out,
+/// some of them are marked.
+pub(crate) fn shut(world: &World, opened: &mut Opened, marks: &mut Marks) -> Result<(), Memory>
+    ensures { OnOk result ((entries : List Entry) → OthersBut world.now.world entries marks.old opened.old
+        → OthersBut world.now.world entries marks.new opened.new) }
+{
+    if !is_closed_again(world, opened) {
+        return Ok(());
+    }
+    world.is_kept();
+    mark_givers(opened.courses.as_slice(), marks)?;
+    opened.courses.clear();
+    Ok(())
+}
+
+fn mark_givers(courses: &[CourseId], marks: &mut Marks) -> Result<(), Memory>
+    ensures { OnOk result ((entries : List Entry) → MarksMore (gives_and_wants courses.now) entries marks.old marks.new) }
+{
+    for course in courses {
+        marks.mark_giver(*course)?;
+    }
+    Ok(())
+}
+
+/// Whether all that opened is closed again. It takes no memory.
+pub(crate) fn is_closed_again(world: &World, opened: &Opened) -> bool
+    ensures { result ≡ is_closed world.now.world opened.now }
+{
+    are_full(world, opened.full.as_slice())
+        && are_reserved(world, opened.reserved.as_slice())
+        && are_used_up(world, opened.used_up.as_slice())
+}
+
+fn are_full(world: &World, levels: &[Level]) -> bool
+    ensures { result ≡ list_all (λ level. not (has_place_at world.now.world level)) levels.now }
+{
+    levels.iter().all(|level| !has_place(world, *level))
+}
+
+fn are_reserved(world: &World, levels: &[Level]) -> bool
+    ensures { result ≡ list_all (λ level. not (has_unreserved_at world.now.world level)) levels.now }
+{
+    levels.iter().all(|level| !has_unreserved(world, *level))
+}
+
+fn are_used_up(world: &World, ids: &[ReservationId]) -> bool
+    ensures { result ≡ list_all (λ id. not (option_map_or (has_room_in world.now.world) (reservation_of world.now.world id) true)) ids.now }
+{
+    ids.iter().all(|id| is_used_up(world, *id))
+}
+
+fn is_used_up(world: &World, id: ReservationId) -> bool
+    ensures { result ≡ not (option_map_or (has_room_in world.now.world) (reservation_of world.now.world id) true) }
+{
+    match world.reservation(id) {
+        Some(row) => !has_room(world, row),
+        None => false,
+    }
+}
+
+/// Whether the level has no limit, or its count is below it. It takes no memory.
+pub(crate) fn has_place(world: &World, level: Level) -> bool
+    ensures { result ≡ has_place_at world.now.world level }
+{
+    match world.places(level) {
+        Some(places) => u64::from(world.count(level)) < places,
+        None => true,
+    }
+}
+
+/// Whether the level has no limit, or unreserved space. It takes no memory.
+pub(crate) fn has_unreserved(world: &World, level: Level) -> bool
+    ensures { result ≡ has_unreserved_at world.now.world level }
+{
+    match world.unreserved(level) {
+        Some(space) => 0 < space,
+        None => true,
+    }
+}
+
+/// Whether the reservation isn't used up. It takes no memory.
+pub(crate) fn has_room(world: &World, row: &Reservation) -> bool
+    ensures { result ≡ has_room_in world.now.world row.now }
+{
+    match row.limit {
+        Limit::Places(places) => world.used(row.id) < places,
+        Limit::Unlimited => true,
+    }
+}
