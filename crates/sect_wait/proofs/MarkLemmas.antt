@@ -36,7 +36,7 @@ use Rattle.sect_wait.specs.Indexed.{has_ticket}
 use Rattle.sect_wait.specs.Placing.{IsBest, KeepsListed, UnlistedHaveNoMove}
 use Rattle.sect_wait.specs.Queued.{Queued, state_of}
 use Rattle.std.specs.Prelude.{is_err}
-use Rattle.sect_wait.specs.Marked.{Marked, no_marks, is_marked, OthersHaveNoMove, MarksKept, MarksMore, concerns, is_from, is_source, wants_one, IsSetOf}
+use Rattle.sect_wait.specs.Marked.{Marked, no_marks, is_marked, OthersHaveNoMove, MarksKept, MarksMore, concerns, is_from, is_source, wants_one, IsSetOf, IsSetOfCourses}
 
 pub neither : (a b : Bool) → a ≡ false → b ≡ false → a || b ≡ false
 neither true b h i = h
@@ -272,15 +272,40 @@ left-fit w v es student course (Err x) is fit = tt
 same_order : (a b : ℕ) → is_eq (nat_cmp a b) ≡ (a == b)
 same_order a b = grind (arith, nat_tests)
 
--- the set has one ticket more
-pub set-more : (ts : List ℕ) (ticket : ℕ) (old new : BTreeSet ℕ) → IsSetOf ts old
-    → ((q : ℕ) → contains nat_cmp new q ≡ cond (is_eq (nat_cmp ticket q)) true (contains nat_cmp old q)) → IsSetOf (ts ++ ticket ∷ []) new
-set-more ts ticket old new k after = record {
-  has = λ q. after q ∙ (λ i. cond (same_order ticket q i) true (k.has q i)) ∙ by_test (ticket == q) (list_any (λ t. t == q) ts) ∙ sym (any-append (λ t. t == q) ts (ticket ∷ []));
-}
+-- the set of the keys has that of one element more
+key-more : {X : Type 0} (key : X → ℕ) (xs : List X) (x : X) (old new : BTreeSet ℕ) → ((q : ℕ) → contains nat_cmp old q ≡ list_any (λ y. key y == q) xs)
+    → ((q : ℕ) → contains nat_cmp new q ≡ cond (is_eq (nat_cmp (key x) q)) true (contains nat_cmp old q)) → (q : ℕ) → contains nat_cmp new q ≡ list_any (λ y. key y == q) (xs ++ x ∷ [])
+key-more key xs x old new has after q =
+    after q ∙ (λ i. cond (same_order (key x) q i) true (has q i)) ∙ by_test (key x == q) (list_any (λ y. key y == q) xs) ∙ sym (any-append (λ y. key y == q) xs (x ∷ []))
   where
     by_test : (b a : Bool) → cond b true a ≡ a || (b || false)
     by_test true true = refl
     by_test true false = refl
     by_test false true = refl
     by_test false false = refl
+
+-- the set has one ticket more
+pub set-more : (ts : List ℕ) (ticket : ℕ) (old new : BTreeSet ℕ) → IsSetOf ts old
+    → ((q : ℕ) → contains nat_cmp new q ≡ cond (is_eq (nat_cmp ticket q)) true (contains nat_cmp old q)) → IsSetOf (ts ++ ticket ∷ []) new
+set-more ts ticket old new k after = record { has = key-more (λ t. t) ts ticket old new k.has after }
+
+-- and one course more
+pub courses-more : (cs : List CourseId) (course : CourseId) (old new : BTreeSet ℕ) → IsSetOfCourses cs old
+    → ((q : ℕ) → contains nat_cmp new q ≡ cond (is_eq (nat_cmp course.0 q)) true (contains nat_cmp old q)) → IsSetOfCourses (cs ++ course ∷ []) new
+courses-more cs course old new k after = record { has = key-more (λ c. c.0) cs course old new k.has after }
+
+-- whether one of these is one of those, whichever are gone through first
+pub one-of-both : (cs ds : List CourseId) → list_any (λ c. list_any (λ d. d.0 == c.0) ds) cs ≡ list_any (λ d. list_any (λ c. d.0 == c.0) cs) ds
+one-of-both cs ds = Members.same_test (list_any (λ c. list_any (λ d. d.0 == c.0) ds) cs) (list_any (λ d. list_any (λ c. d.0 == c.0) cs) ds) there back
+  where
+    there : list_any (λ c. list_any (λ d. d.0 == c.0) ds) cs ≡ true → list_any (λ d. list_any (λ c. d.0 == c.0) cs) ds ≡ true
+    there h =
+        let c = Members.any-at (λ (c : CourseId). list_any (λ d. d.0 == c.0) ds) cs h in
+        let d = Members.any-at (λ (d : CourseId). d.0 == c.0.0) ds c.2 in
+        Members.any-of (λ (d : CourseId). list_any (λ c. d.0 == c.0) cs) ds d.0 d.1 (Members.any-of (λ (c : CourseId). d.0.0 == c.0) cs c.0 c.1 d.2)
+
+    back : list_any (λ d. list_any (λ c. d.0 == c.0) cs) ds ≡ true → list_any (λ c. list_any (λ d. d.0 == c.0) ds) cs ≡ true
+    back h =
+        let d = Members.any-at (λ (d : CourseId). list_any (λ c. d.0 == c.0) cs) ds h in
+        let c = Members.any-at (λ (c : CourseId). d.0.0 == c.0) cs d.2 in
+        Members.any-of (λ (c : CourseId). list_any (λ d. d.0 == c.0) ds) cs c.0 c.1 (Members.any-of (λ (d : CourseId). d.0 == c.0.0) ds d.0 d.1 c.2)

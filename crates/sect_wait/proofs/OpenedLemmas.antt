@@ -4,6 +4,8 @@ use Rattle.std.specs.List.{list_any, list_all}
 use Rattle.std.specs.Option.{option_map, option_map_or, option_and_then, option_to_list, is_some}
 use Rattle.std.proofs.Common.{sym, ◌∙◌, ap, subst, arith, inl, inr}
 use Rattle.std.proofs.lemmas.Bool.{eqb-true, eq-eqb}
+use Rattle.std.proofs.lemmas.Bool.Decides.{nat_tests}
+use Rattle.std.proofs.lemmas.Int.{ints}
 use Rattle.std.proofs.lemmas.List.Sums.{sum_by-cons}
 use Rattle.sect_base.specs.declared.limit.Level.TheVariants.{Course, Offering, Config, Section}
 use Rattle.sect_catalog.specs.Catalogue.{places, has_course}
@@ -37,7 +39,20 @@ use Rattle.sect_wait.specs.declared.opened.Opened.{Opened}
 use Rattle.sect_wait.specs.Marked.{Marked, is_marked, wants_one, concerns, OthersHaveNoMove, MarksMore}
 use Rattle.sect_wait.specs.Opened.{OpenedSince, WasBlocked, OthersBut, Notes, NotesAll, levels_at, courses_with, gives_and_wants, is_closed_again}
 use Rattle.sect_wait.specs.Queued.{Queued, left}
-use Rattle.sect_wait.proofs.MarkLemmas.{neither, among-without, leave-concerns}
+use Rattle.sect_wait.proofs.MarkLemmas.{neither, off-and, among-without, leave-concerns}
+
+-- ---- a level without a place has no unreserved space
+
+no-space : (l c s : ℕ) → nat_lt c l ≡ false → int_lt (pos 0) (pos l -ℤ pos (c + s)) ≡ false
+no-space l c s h = grind (arith, ints, nat_tests, h)
+
+by-limit : (limit : Option ℕ) (u : Bool) (c s : ℕ) → option_map_or (nat_lt c) limit true ≡ false → option_map_or (int_lt (pos 0)) (option_map (λ l. cond u (pos 0) (pos l -ℤ pos (c + s))) limit) true ≡ false
+by-limit None u c s h = absurd (not_both true refl h)
+by-limit (Some l) true c s h = refl
+by-limit (Some l) false c s h = no-space l c s h
+
+pub full-unreserved : (w : World) (level : Level) → has_place w level ≡ false → has_unreserved w level ≡ false
+full-unreserved w level h = by-limit (places_at w level) (has_unlimited (active_at w level)) (count_of w level) (sum_by (remaining w) (active_at w level)) h
 
 -- ---- the leaving
 
@@ -330,6 +345,14 @@ gives-nothing o e wants none =
     by_give : (give : Option CourseId) → is_some give && true ≡ false → give ≡ None
     by_give None h = refl
     by_give (Some c) h = absurd (not_both true refl h)
+
+-- where no entry gives a course up, nobody is to be marked
+pub no-givers : (es : List Waiting) (cs : List CourseId) (m : Marked) → list_any (λ e. is_some e.give) es ≡ false → MarksMore (gives_and_wants cs) es m m
+no-givers es cs m none = record {
+  kept = λ e u. u;
+  added = λ e a u. none-of (λ (d : CourseId). is_some e.give && list_any (λ c. d.0 == c.0) e.want.courses) cs (λ d n.
+      off-and (is_some e.give) (list_any (λ c. d.0 == c.0) e.want.courses) (none-at (λ (e : Waiting). is_some e.give) es none e (member es e a)));
+}
 
 pub shut-but : (w : World) (es : List Waiting) (m n : Marked) (o p : Opened) → KeptWorld w → is_closed_again w o ≡ true → MarksMore (gives_and_wants o.courses.items) es m n → OthersBut w es m o → OthersBut w es n p
 shut-but w es m n o p k closed marks but = record { others = λ e a u none. stays e a u; blocked = λ e a u give. inl (stays e a u) }

@@ -27,6 +27,10 @@ pub record Marked : Type 0 where
 pub record IsSetOf (tickets : List ℕ) (set : BTreeSet ℕ) : Type 0 where
   pub has : (ticket : ℕ) → contains nat_cmp set ticket ≡ list_any (λ t. t == ticket) tickets
 
+-- the set has the courses
+pub record IsSetOfCourses (courses : List CourseId) (set : BTreeSet ℕ) : Type 0 where
+  pub has : (course : ℕ) → contains nat_cmp set course ≡ list_any (λ d. d.0 == course) courses
+
 -- nobody is marked
 abbrev pub no_marks : Marked
 no_marks = record { all = false; tickets = []; courses = []; givers = []; from = None }

@@ -58,6 +58,7 @@ fn is_wanted(queue: &Queue, row: Option<&OfferingRow>) -> bool {
     }
 }
 
+/// Whether somebody waits for one of the courses.
 fn are_wanted(queue: &Queue, courses: &[CourseRow]) -> bool {
     courses.iter().any(|course| match queue.of_course(course.id) {
         Some(tickets) => !tickets.is_empty(),

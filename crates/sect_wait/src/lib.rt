@@ -2,6 +2,7 @@
 #![tactic(auto)]
 
 mod back;
+mod courses;
 mod entry;
 mod index;
 pub mod laws;

@@ -2,8 +2,9 @@
 
 ghost use Rattle.std.specs.Prelude.{◌≡◌, ◌==◌, ◌++◌, [], ◌∷◌, true, None as Nothing, Some as Told, OnErr, OnOk, IsTrue};
 ghost use Rattle.std.specs.List.{list_any};
-ghost use Rattle.sect_wait.specs.Marked.{no_marks, is_from as is_turn_from, is_marked, is_source as has_source, wants_one as is_wanting};
+ghost use Rattle.sect_wait.specs.Marked.{no_marks, is_from as is_turn_from, is_marked, is_source as has_source};
 
+use crate::courses::Courses;
 use sect_base::{CourseId, Memory};
 use sect_model::Waiting;
 use std::alloc::Global;
@@ -24,8 +25,8 @@ pub struct Marks {
     all: bool,
     tickets: Vec<u64>,
     set: BTreeSet<u64>,
-    courses: Vec<CourseId>,
-    givers: Vec<CourseId>,
+    courses: Courses,
+    givers: Courses,
     from: Option<Turn>,
 }
 
@@ -34,7 +35,7 @@ impl Model for Marks {
 
     ghost Value = { Marked };
 
-    ghost view = { λ m. record { all = m.all; tickets = m.tickets.items; courses = m.courses.items; givers = m.givers.items; from = m.from } };
+    ghost view = { λ m. record { all = m.all; tickets = m.tickets.items; courses = m.courses; givers = m.givers; from = m.from } };
 
     ghost invariant = { λ m. IsSetOf m.tickets.items m.set };
 }
@@ -48,8 +49,8 @@ impl Marks {
             all: false,
             tickets: Vec::new(alloc),
             set: BTreeSet::new(alloc),
-            courses: Vec::new(alloc),
-            givers: Vec::new(alloc),
+            courses: Courses::none(alloc),
+            givers: Courses::none(alloc),
             from: None,
         }
     }
@@ -85,8 +86,8 @@ impl Marks {
         ensures { result ≡ has_source self.now entry.now }
     {
         self.all
-            || wants_one(self.courses.as_slice(), entry)
-            || entry.give.is_some() && wants_one(self.givers.as_slice(), entry)
+            || self.courses.are_wanted(entry)
+            || entry.give.is_some() && self.givers.are_wanted(entry)
     }
 
     /// Whether all are marked. It takes no memory.
@@ -174,22 +175,4 @@ fn is_from(from: &Option<Turn>, entry: &Waiting) -> bool
         }
         None => true,
     }
-}
-
-/// Whether the entry wants one of these courses. It takes no memory.
-pub(crate) fn wants_one(courses: &[CourseId], entry: &Waiting) -> bool
-    ensures { result ≡ is_wanting courses.now entry.now }
-{
-    courses.iter().any(|course| wants(entry, *course))
-}
-
-fn wants(entry: &Waiting, course: CourseId) -> bool
-    ensures { result ≡ list_any (λ c. course.0 == c.0) entry.now.want.courses }
-{
-    entry
-        .want
-        .courses
-        .as_slice()
-        .iter()
-        .any(|wanted| course == *wanted)
 }

@@ -43,6 +43,7 @@ fn levels_at(alloc: Global, world: &World, choice: &Choice) -> Result<Vec<Level>
     }
 }
 
+/// Puts the sections behind the levels.
 fn push_sections(sections: &[SectionId], levels: &mut Vec<Level>) -> Result<(), Memory>
     ensures { OnOk result (levels.new.items ≡ levels.old.items ++ map section_level sections.now) }
 {
@@ -62,6 +63,7 @@ fn courses(alloc: Global, world: &World, course: CourseId) -> Result<Vec<CourseI
     }
 }
 
+/// The ids of the courses.
 fn ids(alloc: Global, courses: &[CourseRow]) -> Result<Vec<CourseId>, Memory>
     ensures { IfOk result (λ ids. ids.items ≡ map (λ c. c.id) courses.now) }
 {

@@ -1,8 +1,8 @@
 // What a student's leaving a course opened: levels that were closed before, and a reservation that was used up.
 
 ghost use Rattle.std.specs.Prelude.{◌≡◌, ◌&&◌, not, true, [], List, OnOk};
-ghost use Rattle.std.specs.List.{list_all};
-ghost use Rattle.std.specs.Option.{option_map_or};
+ghost use Rattle.std.specs.List.{list_all, list_any};
+ghost use Rattle.std.specs.Option.{is_some, option_map_or};
 ghost use Rattle.sect_model.specs.Space.{has_place as has_place_at, has_unreserved as has_unreserved_at};
 ghost use Rattle.sect_model.specs.World.{reservation_of};
 ghost use Rattle.sect_model.specs.Freer.{has_room as has_room_in};
@@ -11,7 +11,9 @@ ghost use Rattle.sect_wait.specs.Marked.{MarksMore, wants_one as is_wanting};
 ghost use Rattle.sect_wait.specs.Opened.{OthersBut, gives_and_wants, is_closed_again as is_closed};
 
 use crate::marks::Marks;
+use crate::queue::Queue;
 use sect_base::{CourseId, Level, Limit, Memory, ReservationId};
+use sect_model::Waiting;
 use sect_reserve::Reservation;
 use sect_space::World;
 use std::alloc::Global;
@@ -50,6 +52,7 @@ pub(crate) fn fall_back(opened: &mut Opened, marks: &mut Marks) -> Result<(), Me
     Ok(())
 }
 
+/// Marks the courses for all who want them.
 fn mark_wanted(courses: &[CourseId], marks: &mut Marks) -> Result<(), Memory>
     ensures { OnOk result ((entries : List Entry) → MarksMore (is_wanting courses.now) entries marks.old marks.new) }
 {
@@ -61,19 +64,50 @@ fn mark_wanted(courses: &[CourseId], marks: &mut Marks) -> Result<(), Memory>
 
 /// Where all that opened is closed again, only those who give a course up are marked by what opened. Where memory runs out,
 /// some of them are marked.
-pub(crate) fn shut(world: &World, opened: &mut Opened, marks: &mut Marks) -> Result<(), Memory>
-    ensures { OnOk result ((entries : List Entry) → OthersBut world.now.world entries marks.old opened.old
-        → OthersBut world.now.world entries marks.new opened.new) }
+pub(crate) fn shut(
+    world: &World,
+    queue: &Queue,
+    opened: &mut Opened,
+    marks: &mut Marks,
+) -> Result<(), Memory>
+    ensures { OnOk result (OthersBut world.now.world queue.now.queue.entries marks.old opened.old
+        → OthersBut world.now.world queue.now.queue.entries marks.new opened.new) }
 {
+    if opened.courses.is_empty() {
+        return Ok(());
+    }
     if !is_closed_again(world, opened) {
         return Ok(());
     }
     world.is_kept();
-    mark_givers(opened.courses.as_slice(), marks)?;
+    mark_givers_among(queue.entries(), opened.courses.as_slice(), marks)?;
     opened.courses.clear();
     Ok(())
 }
 
+/// Marks those of the entries that want one of the courses and give one up.
+fn mark_givers_among(
+    entries: &[Waiting],
+    courses: &[CourseId],
+    marks: &mut Marks,
+) -> Result<(), Memory>
+    ensures { OnOk result (MarksMore (gives_and_wants courses.now) entries.now marks.old marks.new) }
+{
+    if gives_some(entries) {
+        mark_givers(courses, marks)
+    } else {
+        Ok(())
+    }
+}
+
+/// Whether one of the entries gives a course up.
+fn gives_some(entries: &[Waiting]) -> bool
+    ensures { result ≡ list_any (λ e. is_some e.give) entries.now }
+{
+    entries.iter().any(|entry| entry.give.is_some())
+}
+
+/// Marks the courses for those who want them and give one up.
 fn mark_givers(courses: &[CourseId], marks: &mut Marks) -> Result<(), Memory>
     ensures { OnOk result ((entries : List Entry) → MarksMore (gives_and_wants courses.now) entries marks.old marks.new) }
 {
@@ -92,24 +126,28 @@ pub(crate) fn is_closed_again(world: &World, opened: &Opened) -> bool
         && are_used_up(world, opened.used_up.as_slice())
 }
 
+/// Whether none of the levels has a place.
 fn are_full(world: &World, levels: &[Level]) -> bool
     ensures { result ≡ list_all (λ level. not (has_place_at world.now.world level)) levels.now }
 {
     levels.iter().all(|level| !has_place(world, *level))
 }
 
+/// Whether none of the levels has unreserved space.
 fn are_reserved(world: &World, levels: &[Level]) -> bool
     ensures { result ≡ list_all (λ level. not (has_unreserved_at world.now.world level)) levels.now }
 {
     levels.iter().all(|level| !has_unreserved(world, *level))
 }
 
+/// Whether each of the reservations is known and used up.
 fn are_used_up(world: &World, ids: &[ReservationId]) -> bool
     ensures { result ≡ list_all (λ id. not (option_map_or (has_room_in world.now.world) (reservation_of world.now.world id) true)) ids.now }
 {
     ids.iter().all(|id| is_used_up(world, *id))
 }
 
+/// Whether the reservation is known and used up.
 fn is_used_up(world: &World, id: ReservationId) -> bool
     ensures { result ≡ not (option_map_or (has_room_in world.now.world) (reservation_of world.now.world id) true) }
 {
@@ -129,10 +167,13 @@ pub(crate) fn has_place(world: &World, level: Level) -> bool
     }
 }
 
-/// Whether the level has no limit, or unreserved space. It takes no memory.
+/// Whether the level has no limit, or unreserved space, which a full one hasn't. It takes no memory.
 pub(crate) fn has_unreserved(world: &World, level: Level) -> bool
     ensures { result ≡ has_unreserved_at world.now.world level }
 {
+    if !has_place(world, level) {
+        return false;
+    }
     match world.unreserved(level) {
         Some(space) => 0 < space,
         None => true,

@@ -143,7 +143,7 @@ fn place_all<L: Ledger>(
     queue.is_kept();
     let mut placed = Vec::new(alloc);
     'rounds: loop {
-        shut(world, opened, marks)?;
+        shut(world, queue, opened, marks)?;
         match next(alloc, world, queue, marks, opened, steps)? {
             Some(candidate) => {
                 place(world, queue, &candidate, marks, opened, undo, left)?;

@@ -1,10 +1,11 @@
 // Which entries are sought: those that are marked, and those that want what opened.
 
-ghost use Rattle.std.specs.Prelude.{◌≡◌, ◌≤◌, ◌++◌, length, IfOk, IfSome, IsTrue};
+ghost use Rattle.std.specs.Prelude.{◌≡◌, ◌==◌, ◌≤◌, ◌++◌, length, IfOk, IfSome, IsTrue};
+ghost use Rattle.std.specs.List.{list_any};
 ghost use Rattle.sect_wait.specs.Marked.{wants_one as is_wanting};
 ghost use Rattle.sect_wait.specs.Opened.{AreListed, ListsMore, is_sought};
 
-use crate::marks::{Marks, wants_one};
+use crate::marks::Marks;
 use crate::opened::Opened;
 use crate::queue::Queue;
 use sect_base::{CourseId, Memory};
@@ -72,4 +73,23 @@ fn list(more: &[u64], most: usize, tickets: &mut Vec<u64>) -> Result<bool, Memor
     }
     tickets.extend_from_slice(more)?;
     Ok(true)
+}
+
+/// Whether the entry wants one of these courses.
+fn wants_one(courses: &[CourseId], entry: &Waiting) -> bool
+    ensures { result ≡ is_wanting courses.now entry.now }
+{
+    courses.iter().any(|course| wants(entry, *course))
+}
+
+/// Whether the entry wants the course.
+fn wants(entry: &Waiting, course: CourseId) -> bool
+    ensures { result ≡ list_any (λ c. course.0 == c.0) entry.now.want.courses }
+{
+    entry
+        .want
+        .courses
+        .as_slice()
+        .iter()
+        .any(|wanted| course == *wanted)
 }

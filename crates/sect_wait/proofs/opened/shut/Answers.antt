@@ -6,8 +6,10 @@ use Rattle.sect_wait.proofs.OpenedLemmas.{shut-but}
 use Rattle.sect_wait.proofs.opened.shut.Goals as goal
 
 pub returns : goal.returns
-returns c = λ es but.
+returns c = λ but.
     let w = c.args.world.now.world in
-    let o = c.args.opened.now in
-    shut-but w es c.args.marks.now c.mark_givers.new.marks o _ c.is_kept.ensures (sym c.is_closed_again.ensures ∙ c.if-not-is_closed_again.false)
-    (subst (λ cs. MarksMore (gives_and_wants cs) es c.args.marks.now c.mark_givers.new.marks) c.as_slice.ensures.value (c.in_ok-mark_givers.ensures es)) but
+    let es = c.args.queue.now.queue.entries in
+    let n = c.mark_givers_among.new.marks in
+    shut-but w es c.args.marks.now n c.args.opened.now _ c.is_kept.ensures (sym c.is_closed_again.ensures ∙ c.if-not-is_closed_again.false)
+    (subst (λ cs. MarksMore (gives_and_wants cs) es c.args.marks.now n) c.as_slice.ensures.value
+    (subst (λ fs. MarksMore (gives_and_wants c.as_slice.result.now) fs c.args.marks.now n) c.entries.ensures c.in_ok-mark_givers_among.ensures)) but

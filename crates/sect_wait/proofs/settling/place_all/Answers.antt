@@ -72,7 +72,7 @@ returns-in-None-clause-steps g c =
     c.in_ok-candidate.ensures.steps)
 
 pub next-requires-clause-others : goal.next-requires-clause-others
-next-requires-clause-others g c = c.in_ok-shut.ensures c.rounds.queue.queue.entries c.rounds.invariant.5
+next-requires-clause-others g c = c.in_ok-shut.ensures c.rounds.invariant.5
 
 pub place-requires-clause-others : goal.place-requires-clause-others
 place-requires-clause-others g c =

@@ -1,0 +1,11 @@
+-- Where nobody gives a course up, nobody is marked.
+use Rattle.std.proofs.Common.{◌∙◌, List, sym}
+use Rattle.sect_wait.proofs.MarkLemmas.{on-ok}
+use Rattle.sect_wait.proofs.OpenedLemmas.{no-givers}
+use Rattle.sect_wait.proofs.opened.mark_givers_among.Goals as goal
+
+pub returns-then-gives_some : goal.returns-then-gives_some
+returns-then-gives_some c = on-ok c.mark_givers.result (λ each. each c.args.entries.now) c.mark_givers.ensures
+
+pub returns-else-gives_some : goal.returns-else-gives_some
+returns-else-gives_some c = no-givers c.args.entries.now c.args.courses.now c.args.marks.now (sym c.gives_some.ensures ∙ c.if-gives_some.false)
