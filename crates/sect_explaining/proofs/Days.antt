@@ -1,7 +1,7 @@
 -- What is said of a reply doesn't depend on the day.
 use Rattle.std.proofs.Common.{◌≡◌, ◌∙◌, ℕ, ◌+◌, List, [], ◌∷◌, ◌++◌, refl, ap, Option, None, Some}
-use Rattle.std.specs.Prelude.{cond, nat_le, length, flat_map, slice_get, ◌-◌}
-use Rattle.std.specs.Option.{option_and_then, option_map_or}
+use Rattle.std.specs.Prelude.{cond, nat_le, length}
+use Rattle.std.specs.Option.{option_map_or}
 use Rattle.sect_base.specs.Tree.{Tree, Trees, broken, split, none, more}
 use Rattle.sect_base.specs.declared.rule.Rule.{Rule}
 use Rattle.sect_base.specs.declared.rule.Rule.TheVariants.{InOffering, Credits, NotApplicable, Expired, UsedUp, MustUse, CourseFull, OfferingFull, OfferingReserved, ConfigFull, ConfigReserved, NotIncluded, Restricted, Cancelled, Parent, SectionFull, SectionReserved, Overlap, FreeTime, NotAsked}
@@ -11,7 +11,7 @@ use Rattle.sect_command.specs.declared.reply.LineResult.{LineResult}
 use Rattle.sect_command.specs.declared.reply.LineResult.TheVariants as results
 use Rattle.sect_command.specs.declared.reply.Reply.{Reply}
 use Rattle.sect_command.specs.declared.reply.Reply.TheVariants as replies
-use Rattle.sect_explain.specs.Explained.{decision_line, explain_below, explain_each, explain_text, indent, verdict_text}
+use Rattle.sect_explain.specs.Explained.{decision_line, explain_below, explain_each, indent, verdict_text}
 use Rattle.sect_explain.specs.Reason.{pick_text, reason_text}
 use Rattle.sect_explain.specs.Replied.{explain_lines, explain_move, explain_result, has_blocked, reply_explained, requested, request_line, unblocked_text}
 use Rattle.sect_model.specs.Change.{put_day}

@@ -69,12 +69,6 @@ fn print_entry(
     requires replied { (stepped (state_in machine.now) entry.now.day entry.now.id.caller entry.now.command).1 ≡ entry.now.reply }
     ensures { OnOk result (into.new.items ≡ into.old.items ++ explained_in (state_in machine.now) entry.now) }
 {
-    explain_reply(
-        alloc,
-        machine.world(),
-        &entry.command,
-        &entry.reply,
-        into,
-    )?;
+    explain_reply(alloc, machine.world(), &entry.command, &entry.reply, into)?;
     Ok(())
 }
