@@ -25,6 +25,7 @@ STEP = 'sect_model/specs/Step.antt: '
 REGISTRARS = 'What registrars send'
 STUDENTS = 'What students send'
 FAULTS = 'test_faults/stdin: '
+CLERKS = 'test_clerk/stdin: '
 BODIES = 'test_bodies/stdin: '
 DATA = 'test_data/src/tests/'
 TABLES = 'Tables: `import` and `export`'
@@ -351,6 +352,13 @@ GROUPS = [
          'sect_machine/src/recheck.rt: recheck'], FAULTS + '# the sink of what is told: audit'),
         ('`clerk check`', '`clerk check`', ['sect_clerk/specs/Checked.antt: Checks', 'sect_check/specs/Complaints.antt: complaint_of'],
          ['sect_clerk/src/checker.rt: check'], 'clerk/stdin: # Lines as a registrar may type them'),
+        ('`clerk try`', '`clerk try`', ['sect_try/specs/Tried.antt: Tries', 'sect_try/specs/Answered.antt: WouldAnswer'],
+         ['sect_try/src/runs.rt: try_lines'], CLERKS + '# what is tried changes nothing'),
+        ('`clerk explain`', '`clerk explain PLACE`', ['sect_explaining/specs/Explaining.antt: explained_at',
+         'sect_explain/specs/Replied.antt: reply_explained'], ['sect_explaining/src/explanation.rt: print_explanation',
+         'sect_explain/src/reply.rt: explain_reply'], CLERKS + '# a full section: four decisions'),
+        ('`clerk log`', '`clerk log`', ['sect_log/specs/Log.antt: log_text', 'sect_log/specs/Laws.antt: LogIsTaken'],
+         ['sect_log/src/log.rt: print_log'], CLERKS + '# a log is the history again'),
         ('`clerk demand`', '`clerk demand`', ['sect_clerk/specs/Shows.antt: IsDemand', 'sect_shown/specs/Shown.antt: demand_text'],
          ['sect_shown/src/shown.rt: print_demand'], 'sect_shown/src/examples.rt: shown'),
         ('`clerk timetable`', '`clerk timetable STUDENT`', ['sect_clerk/specs/Shows.antt: IsTimetable', 'sect_shown/specs/Shown.antt: timetable_of'],

@@ -223,6 +223,9 @@ CHAPTERS = [
     ('A history as lines',
      'What names a student or a section, the log of a history, and what a run over the whole log does.',
      ['sect_log/specs/' + n + '.antt' for n in ('Naming', 'Log', 'Laws')]),
+    ('A place of a history, in words',
+     'What is said of the entry at a place, in the world in which its command acted.',
+     ['sect_explaining/specs/Explaining.antt']),
     ('Requests and answers over HTTP',
      'What a head says of its body and its connection, what a path asks for, the commands of bodies, and the texts of '
      'answers.',

@@ -12,7 +12,7 @@ use std::process::ExitCode;
 use std::thread::Threads;
 
 /// What is told where the words aren't in the grammar.
-const USAGE: &str = "usage: clerk check|demand|timetable\n";
+const USAGE: &str = "usage: clerk check|demand|explain|log|timetable|try\n";
 
 fn main(rt: HostRuntime) -> ExitCode {
     let end = match start(rt, &rt) {

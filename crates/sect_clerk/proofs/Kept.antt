@@ -8,6 +8,7 @@ use Rattle.sect_model.specs.World.{empty_state}
 use Rattle.sect_once.specs.declared.entry.Entry.{Entry}
 use Rattle.sect_wire.specs.Laws.{IsRow}
 use Rattle.sect_script.specs.declared.status.Status.{Status}
+use Rattle.sect_try.specs.Tried.{Tries}
 use Rattle.sect_clerk.specs.Clerk.{TellsOf}
 
 -- rows stay where nothing is done
@@ -21,3 +22,8 @@ module _ {K : Type 0} (rows : K → Option (List (List ℕ))) (faults : K → �
       → KeepsRows (rows keeper) (rows back)
   told_keeps IsText (inl told) = subst (λ (k : K). KeepsRows (rows keeper) (rows k)) (sym told.back_is) told.opens.rows_stay
   told_keeps IsText (inr shut) = shut.rows_stay
+
+  -- so has the keeper over whose history lines are tried
+  pub tried_keeps : (days : Option (List ℕ)) → Tries empty_state stepped IsRow rows faults keeper back left left' taken taken' days status → KeepsRows (rows keeper) (rows back)
+  tried_keeps days (inl tried) = subst (λ (k : K). KeepsRows (rows keeper) (rows k)) (sym tried.back_is) tried.opens.rows_stay
+  tried_keeps days (inr shut) = shut.rows_stay

@@ -11,7 +11,10 @@ use Rattle.sect_wire.specs.Laws.{IsRow}
 use Rattle.sect_script.specs.declared.status.Status.{Status}
 use Rattle.sect_script.specs.Statuses.{Says}
 use Rattle.sect_asking.specs.Desk.{StaysShut}
+use Rattle.sect_explaining.specs.Explaining.{IsExplanation}
+use Rattle.sect_log.specs.Log.{IsLog}
 use Rattle.sect_tell.specs.Told.{TellsHistory}
+use Rattle.sect_try.specs.Tried.{Tries}
 use Rattle.sect_clerk_words.specs.declared.words.Words.{Words}
 use Rattle.sect_clerk_words.specs.declared.words.Words.TheVariants as asked
 use Rattle.sect_clerk_words.specs.Help.{help_text, version_text}
@@ -29,7 +32,12 @@ module _ {K : Type 0} (rows : K → Option (List (List ℕ))) (faults : K → �
   ClerkDoes asked.Check keeper back left left' taken taken' days status =
       Checks left left' taken taken' status × RunWould status left × (back ≡ keeper)
   ClerkDoes asked.Demand keeper back left left' taken taken' days status = TellsOf IsDemand keeper back left left' taken taken' status
+  ClerkDoes (asked.Explain place) keeper back left left' taken taken' days status = TellsOf (IsExplanation place) keeper back left left' taken taken' status
+  ClerkDoes (asked.Log student section from) keeper back left left' taken taken' days status =
+      TellsOf (IsLog (record { student = student; section = section; from = from })) keeper back left left' taken taken' status
   ClerkDoes (asked.Timetable student) keeper back left left' taken taken' days status = TellsOf (IsTimetable student) keeper back left left' taken taken' status
+  ClerkDoes asked.Try keeper back left left' taken taken' days status =
+      Tries empty_state stepped IsRow rows faults keeper back left left' taken taken' days status
   ClerkDoes (asked.Help topic) keeper back left left' taken taken' days status = Says (help_text topic) taken taken' status × (left' ≡ left) × (back ≡ keeper)
   ClerkDoes asked.Version keeper back left left' taken taken' days status = Says version_text taken taken' status × (left' ≡ left) × (back ≡ keeper)
 
@@ -37,7 +45,10 @@ module _ {K : Type 0} (rows : K → Option (List (List ℕ))) (faults : K → �
 abbrev pub reads : Words → Bool
 reads asked.Check = true
 reads asked.Demand = false
+reads (asked.Explain place) = false
+reads (asked.Log student section from) = false
 reads (asked.Timetable student) = false
+reads asked.Try = true
 reads (asked.Help topic) = false
 reads asked.Version = false
 

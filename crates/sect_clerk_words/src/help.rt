@@ -10,7 +10,10 @@ const CLERK_HELP: &[u8] = b"clerk: helps those who work at the desk, and changes
 Commands:\n\
 \x20 clerk check              reads requests from standard input, one a line, and names each line that desk run would refuse\n\
 \x20 clerk demand             prints how many ask for each course, hold it and wait for it, and its limit\n\
+\x20 clerk explain PLACE      prints in words why the request at a place of the history found no place in a section\n\
+\x20 clerk log                prints the history as a script that makes it again, with its replies and placements\n\
 \x20 clerk timetable STUDENT  prints the week of a student, day by day in order of time\n\
+\x20 clerk try                reads requests from standard input, one a line, and answers each as it would be now\n\
 \x20 clerk COMMAND --help     says more of a command, with its options\n\
 \x20 clerk --help             prints this text\n\
 \x20 clerk --version          prints the version\n\
@@ -42,6 +45,41 @@ Options:\n\
 \x20 --journal FILE  the history is in this journal (default: there is none)\n\
 Either file is made where there is none. Only one of the two may be given.\n";
 
+const EXPLAIN_HELP: &[u8] =
+    b"clerk explain PLACE [--db FILE | --journal FILE]: prints in words why the request at a place of the history found no place in a\n\
+section. A request's place is the number in front of its reply.\n\
+\n\
+\x20 course 1\n\
+\x20   no reservation\n\
+\x20     configuration 1\n\
+\x20       section 7 is full (rule 16)\n\
+A line names a decision, those that follow it stand below, and the last of them says what is in the way, with the\n\
+number of the rule. Of a batch each blocked request is told behind a line `student ID rank POSITION`. A reply that\n\
+doesn't block is told by `not blocked`, and a place at which no request stands by `place PLACE unknown`.\n\
+\n\
+Options:\n\
+\x20 --db FILE       the history is in this database of SQLite (default: there is none)\n\
+\x20 --journal FILE  the history is in this journal (default: there is none)\n\
+Either file is made where there is none. Only one of the two may be given.\n";
+
+const LOG_HELP: &[u8] =
+    b"clerk log [--student ID] [--section ID] [--from PLACE] [--db FILE | --journal FILE]: prints the requests of the history as\n\
+lines that desk run reads, each on its day, and behind each its place and reply and whom it let in from the\n\
+wait-list, as comments:\n\
+\n\
+\x20 @2025-08-01 s11 3 drop 11 1\n\
+\x20 # 6 dropped 1\n\
+\x20 # placed 1 s12 1/-/1/7\n\
+The whole log, read by desk run where no history is, makes the same history again.\n\
+\n\
+Options:\n\
+\x20 --student ID    only what student ID asked, what names the student, and what placed the student (default: all)\n\
+\x20 --section ID    only what names section ID, takes a place in it, or placed somebody in it (default: all)\n\
+\x20 --from PLACE    only from this place on, from 0 to 4294967295 (default: 0)\n\
+\x20 --db FILE       the history is in this database of SQLite (default: there is none)\n\
+\x20 --journal FILE  the history is in this journal (default: there is none)\n\
+Either file is made where there is none. Only one of the two may be given.\n";
+
 const TIMETABLE_HELP: &[u8] =
     b"clerk timetable STUDENT [--db FILE | --journal FILE]: prints the week of a student: behind a line that names the student a\n\
 line for each time at which a section that is held meets, day by day in order of time:\n\
@@ -49,6 +87,19 @@ line for each time at which a section that is held meets, day by day in order of
 \x20 student 11\n\
 \x20 M/0900-0950/1-15 course 1 section 7\n\
 A student that isn't known is told by `student STUDENT unknown`.\n\
+\n\
+Options:\n\
+\x20 --db FILE       the history is in this database of SQLite (default: there is none)\n\
+\x20 --journal FILE  the history is in this journal (default: there is none)\n\
+Either file is made where there is none. Only one of the two may be given.\n";
+
+const TRY_HELP: &[u8] =
+    b"clerk try [--db FILE | --journal FILE]: reads requests from standard input, one a line, as desk run does, and answers each\n\
+by a line as desk run would if it were the next one. Nothing is added: each line is tried on the history as it is.\n\
+\n\
+\x20 s11 4 enrol 11 1\n\
+A line is answered by the place that the request would have and its reply. One that was answered before is answered\n\
+again from its own place. It ends as desk run would.\n\
 \n\
 Options:\n\
 \x20 --db FILE       the history is in this database of SQLite (default: there is none)\n\
@@ -65,7 +116,10 @@ pub fn help_of(topic: Topic) -> &'static [u8]
         Topic::Clerk => CLERK_HELP,
         Topic::Command(Verb::Check) => CHECK_HELP,
         Topic::Command(Verb::Demand) => DEMAND_HELP,
+        Topic::Command(Verb::Explain) => EXPLAIN_HELP,
+        Topic::Command(Verb::Log) => LOG_HELP,
         Topic::Command(Verb::Timetable) => TIMETABLE_HELP,
+        Topic::Command(Verb::Try) => TRY_HELP,
     }
 }
 

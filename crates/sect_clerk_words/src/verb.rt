@@ -1,7 +1,7 @@
 // The commands and their options.
 
 ghost use Rattle.std.specs.Prelude.{◌≡◌};
-ghost use Rattle.sect_clerk_words.specs.Grammar.{takes as takes_name, verb_of};
+ghost use Rattle.sect_clerk_words.specs.Grammar.{is_of_log as is_of_log_name, takes as takes_name, verb_of};
 
 use sect_usage::{Options, is_keeper};
 use sect_words::same_bytes;
@@ -11,7 +11,10 @@ use sect_words::same_bytes;
 pub enum Verb {
     Check,
     Demand,
+    Explain,
+    Log,
     Timetable,
+    Try,
 }
 
 /// What a text of help is about.
@@ -31,8 +34,14 @@ pub(crate) fn read_verb(word: &[u8]) -> Option<Verb>
         Some(Verb::Check)
     } else if same_bytes(word, b"demand") {
         Some(Verb::Demand)
+    } else if same_bytes(word, b"explain") {
+        Some(Verb::Explain)
+    } else if same_bytes(word, b"log") {
+        Some(Verb::Log)
     } else if same_bytes(word, b"timetable") {
         Some(Verb::Timetable)
+    } else if same_bytes(word, b"try") {
+        Some(Verb::Try)
     } else {
         None
     }
@@ -54,6 +63,16 @@ fn takes(verb: Verb, name: &[u8]) -> bool
     match verb {
         Verb::Check => false,
         Verb::Demand => is_keeper(name),
+        Verb::Explain => is_keeper(name),
+        Verb::Log => is_keeper(name) || is_of_log(name),
         Verb::Timetable => is_keeper(name),
+        Verb::Try => is_keeper(name),
     }
+}
+
+/// Whether the option says which entries a log tells.
+fn is_of_log(name: &[u8]) -> bool
+    ensures { result ≡ is_of_log_name name.now }
+{
+    same_bytes(name, b"student") || same_bytes(name, b"section") || same_bytes(name, b"from")
 }

@@ -1,13 +1,25 @@
 // What the words of the command line ask for. It takes no memory.
 
-ghost use Rattle.std.specs.Prelude.{◌≡◌, map};
+ghost use Rattle.std.specs.Prelude.{◌≡◌, map, option_map};
 ghost use Rattle.std.specs.String.{string_bytes};
-ghost use Rattle.sect_usage.specs.Items.{items_of};
-ghost use Rattle.sect_clerk_words.specs.Grammar.{asked_by, asked_for, lone_of, timetable_of, words_of};
+ghost use Rattle.sect_usage.specs.Grammar.{where_none};
+ghost use Rattle.sect_usage.specs.Items.{items_of, positionals};
+ghost use Rattle.sect_clerk_words.specs.Grammar.{
+  asked_by,
+  asked_for,
+  explain_of,
+  log_of,
+  lone_of,
+  place_or_first as place_or_first_of,
+  section_named as section_named_by,
+  student_named as student_named_by,
+  timetable_of,
+  words_of,
+};
 
 use crate::verb::{Topic, Verb, read_verb};
-use sect_base::StudentId;
-use sect_usage::{alone, helps, id, only, takes_words};
+use sect_base::{SectionId, StudentId};
+use sect_usage::{alone, helps, id, only, option_value, takes_words};
 use sect_words::same_bytes;
 
 /// What the words ask for.
@@ -17,8 +29,18 @@ pub enum Words {
     Check,
     /// What is wanted of each course.
     Demand,
+    /// Why the search at a place of the history was blocked.
+    Explain(u32),
+    /// The entries of the history from a place on, of these those that concern the student and the section, where they are named.
+    Log {
+        student: Option<StudentId>,
+        section: Option<SectionId>,
+        from: u32,
+    },
     /// The week of a student.
     Timetable(StudentId),
+    /// Each line of standard input is answered as it would be now.
+    Try,
     Help(Topic),
     Version,
 }
@@ -73,7 +95,67 @@ fn asked_of(verb: Verb, words: &[String]) -> Option<Words>
     match verb {
         Verb::Check => alone(Words::Check, words),
         Verb::Demand => alone(Words::Demand, words),
+        Verb::Explain => read_explain(words),
+        Verb::Log => read_log(words),
         Verb::Timetable => read_timetable(words),
+        Verb::Try => alone(Words::Try, words),
+    }
+}
+
+fn read_explain(words: &[String]) -> Option<Words>
+    ensures { result ≡ explain_of (items_of (map string_bytes words.now)) }
+{
+    let place = id(only(words)?)?;
+    Some(Words::Explain(place))
+}
+
+fn read_log(words: &[String]) -> Option<Words>
+    ensures { result ≡ where_none (log_of (items_of (map string_bytes words.now))) (positionals (items_of (map string_bytes words.now))) }
+{
+    let student = student_named(option_value(b"student", words))?;
+    let section = section_named(option_value(b"section", words))?;
+    let from = place_or_first(option_value(b"from", words))?;
+    let asked = Words::Log {
+        student,
+        section,
+        from,
+    };
+    alone(asked, words)
+}
+
+/// The student, where there is a word.
+fn student_named(word: Option<&[u8]>) -> Option<Option<StudentId>>
+    ensures { result ≡ student_named_by (option_map (λ w. w.now) word.entry) }
+{
+    match word {
+        None => Some(None),
+        Some(word) => {
+            let student = id(word)?;
+            Some(Some(StudentId(student)))
+        }
+    }
+}
+
+/// The section, where there is a word.
+fn section_named(word: Option<&[u8]>) -> Option<Option<SectionId>>
+    ensures { result ≡ section_named_by (option_map (λ w. w.now) word.entry) }
+{
+    match word {
+        None => Some(None),
+        Some(word) => {
+            let section = id(word)?;
+            Some(Some(SectionId(section)))
+        }
+    }
+}
+
+/// The place, and the first where there is no word.
+fn place_or_first(word: Option<&[u8]>) -> Option<u32>
+    ensures { result ≡ place_or_first_of (option_map (λ w. w.now) word.entry) }
+{
+    match word {
+        None => Some(0),
+        Some(word) => id(word),
     }
 }
 
