@@ -121,7 +121,7 @@ def lost():
 
 def misquoted():
     """The files that docs/CALLING.md quotes otherwise than they are."""
-    for path, code in re.findall(r'^From `crates/([^`]*)`:\n\n```rust\n(.*?)^```', read('docs', 'CALLING.md'), re.M | re.S):
+    for path, code in re.findall(r'^From `crates/([^`]*)`:\n\n```(?:rust|text)\n(.*?)^```', read('docs', 'CALLING.md'), re.M | re.S):
         if not stands(path, re.escape(code)):
             yield path
 
