@@ -6,4 +6,4 @@ mod CatalogueLemmas
 mod ElsewhereLemmas
 mod UntouchedLemmas
 mod OutcomeLemmas
-mod NeedLemmas
+pub mod NeedLemmas

@@ -15,7 +15,7 @@ use Rattle.sect_model.specs.World.{World, offering_of}
 use Rattle.sect_model.specs.Change.{put_limit}
 use Rattle.sect_model.specs.Fits.{Fits}
 use Rattle.sect_model.specs.Kept.{KeptWorld, has_config}
-use Rattle.sect_model.specs.Freer.{has_cap, has_section, may_open}
+use Rattle.sect_model.specs.Freer.{caps_wanted, has_cap, has_section, may_open}
 use Rattle.sect_model.proofs.Members
 use Rattle.sect_model.proofs.Members.{Member, not_both}
 use Rattle.sect_model.proofs.CapChange.{any-map}
@@ -25,7 +25,7 @@ use Rattle.sect_space.specs.declared.back.Back.{Back}
 use Rattle.sect_space.specs.Back.{back_of, cap_offering, mark_of, has_section as section_is_in}
 use Rattle.sect_space.proofs.MarkLemmas.{marked}
 use Rattle.sect_wait.specs.Marked.{concerns}
-use Rattle.sect_machine.specs.Opening.{last_offering}
+use Rattle.sect_machine.specs.Opening.{last_offering, sectioned_in}
 
 -- ---- the last of a list
 
@@ -101,3 +101,20 @@ limit-closed w cap limit before after e k fits recorded closed =
     by_row : (c : CourseId) → Member e.want.courses c → (o : Option OfferingRow) → offering_of w c ≡ o → option_map_or (has_cap cap) o false ≡ false
     by_row c m None its = refl
     by_row c m (Some x) its = by_test c m x its (has_cap cap x) refl
+
+-- a section stands in no offering that an entry wants which doesn't want the section's own
+pub cancel-closed : (w : World) (id : SectionId) (e : Waiting) → KeptWorld w → concerns None (sectioned_in w id) e ≡ false → caps_wanted w e.want (cap_section id) ≡ false
+cancel-closed w id e k closed = Members.none-of (λ c. option_map_or (has_cap (cap_section id)) (offering_of w c) false) e.want.courses (λ c m. by_row c m (offering_of w c) refl)
+  where
+    by_test : (c : CourseId) → Member e.want.courses c → (x : OfferingRow) → offering_of w c ≡ Some x → (b : Bool) → has_section x id ≡ b → b ≡ false
+    by_test c m x its false has = refl
+    by_test c m x its true has =
+        let f = Members.find-member (λ o. has_course o c) w.catalogue.rows x its in
+        let y = Members.known (find (section_is_in id) w.catalogue.rows) (Members.find-some (section_is_in id) w.catalogue.rows x f.0 (sym (section-test x id) ∙ has)) in
+        let g = Members.find-member (section_is_in id) w.catalogue.rows y.0 y.1 in
+        let own : sectioned_in w id ≡ Some x = y.1 ∙ ap Some (sym (section-row w.catalogue.rows k.rows_pass x y.0 id f.0 g.0 has (section-test y.0 id ∙ g.1))) in
+        absurd (not_both (has_course x c) f.1 (Members.none-at (has_course x) e.want.courses (sym (ap (λ o. concerns None o e) own) ∙ closed) c m))
+
+    by_row : (c : CourseId) → Member e.want.courses c → (o : Option OfferingRow) → offering_of w c ≡ o → option_map_or (has_cap (cap_section id)) o false ≡ false
+    by_row c m None its = refl
+    by_row c m (Some x) its = by_test c m x its (has_section x id) refl

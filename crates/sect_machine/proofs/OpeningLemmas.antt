@@ -1,4 +1,4 @@
--- What a command opens is marked, so the entries that aren't marked have no move after it.
+-- What a command opens or touches is marked, so the entries that aren't marked need no search after it.
 use Rattle.std.specs.Prelude.{◌≡◌, ℕ, max, nat_lt, Bool, true, false, not, ◌&&◌, ◌||◌, ◌==◌, cond, List, [], ◌∷◌, ◌++◌, Option, Some, None, Result, OnOk, IsTrue, refl, ◌⊎◌}
 use Rattle.std.specs.List.{list_any, list_all}
 use Rattle.std.specs.Option.{option_map_or, option_and_then, is_some}
@@ -31,7 +31,8 @@ use Rattle.sect_model.specs.Accepted.{CommandFits}
 use Rattle.sect_model.specs.Premises.{MoveFits}
 use Rattle.sect_model.specs.Batch.{batch_of, join_lines}
 use Rattle.sect_model.specs.Step.{Acted, act, batched, moved, enrolled, enrol_move}
-use Rattle.sect_model.specs.Freer.{Among, NoMove, may_open, flips, wants}
+use Rattle.sect_base.specs.declared.limit.Cap.TheVariants.{Section as cap_section}
+use Rattle.sect_model.specs.Freer.{Among, caps_wanted, may_open, flips, wants}
 use Rattle.sect_model.proofs.Members
 use Rattle.sect_model.proofs.Members.{all-at, neither-left, neither-right, none-of, both-left, not_both}
 use Rattle.sect_model.proofs.FreerLemmas.{member}
@@ -40,12 +41,13 @@ use Rattle.sect_model.proofs.FreerIndex.{wants-listed}
 use Rattle.sect_space.specs.declared.back.Back.{Back}
 use Rattle.sect_space.specs.Back.{back_of}
 use Rattle.sect_wait.specs.Queued.{Queued, new_entry, state_of}
-use Rattle.sect_wait.specs.Marked.{Marked, is_marked, OthersHaveNoMove, MarksKept, MarksMore, concerns}
+use Rattle.sect_wait.specs.Marked.{Marked, Needless, is_marked, is_noted, is_noted_in, may_need, OthersNeedNoSearch, MarksKept, MarksMore, concerns}
 use Rattle.sect_wait.specs.Indexed.{MarksTold}
-use Rattle.sect_wait.proofs.MarkLemmas.{changed-others, among-append, more-test, neither, on-ok, others-without}
+use Rattle.sect_wait.proofs.MarkLemmas.{changed-others, among-append, more-test, on-ok, others-without}
+use Rattle.sect_wait.proofs.NeedLemmas.{both-kept, neither, plain-marks, plain-need, same-notes}
 use Rattle.sect_wait.proofs.ToldLemmas.{nobody-marked, told-marks}
-use Rattle.sect_machine.specs.Opening.{RecordsLimit, batch_opens, enrolled_opens, flip_opens, last_offering, opened, opens, reserved_in, restricted_in, swap_opens}
-use Rattle.sect_machine.proofs.LimitLemmas.{limit-closed}
+use Rattle.sect_machine.specs.Opening.{RecordsLimit, batch_opens, enrolled_opens, flip_opens, last_offering, opened, opens, reserved_in, restricted_in, sectioned_in, swap_opens}
+use Rattle.sect_machine.proofs.LimitLemmas.{cancel-closed, limit-closed}
 use Rattle.sect_machine.proofs.OpenedLemmas.{Stays, batch-stays, swap-stays}
 
 no : {P : Type 0} → true ≡ false → P
@@ -87,106 +89,117 @@ restricted w e (Some r) k h = wanted w r.offering e k h
 
 -- ---- a command
 
-module _ (s : State) (k : KeptState s) (m n l : Marked) (others : OthersHaveNoMove s.world s.entries m) where
-  -- an entry that isn't marked has no move
-  stays : (e : Waiting) → Among s.entries e → is_marked m e ≡ false → Stays e s.world
-  stays e a unmarked = record { kept = k.world; fits = all-at (entry_fits s.world) s.entries k.entries_fit e (member s.entries e a); no_move = others e a unmarked }
+module _ (s : State) (k : KeptState s) (m n l : Marked) (others : OthersNeedNoSearch s.world s.entries m) where
+  -- an entry that isn't marked needs no search
+  stays : (e : Waiting) → Among s.entries e → is_marked m e ≡ false → Stays e m.spent s.world
+  stays e a unmarked = record { kept = k.world; fits = all-at (entry_fits s.world) s.entries k.entries_fit e (member s.entries e a); needless = others e a unmarked }
 
   -- nothing of the world was changed
-  same-world : MarksKept m n → MarksKept n l → OthersHaveNoMove s.world s.entries l
-  same-world before after e a unmarked = others e a (before e (after e unmarked))
+  same-world : MarksKept m n → MarksKept n l → OthersNeedNoSearch s.world s.entries l
+  same-world before after e a unmarked = same-notes s.world e m l (both-kept m n l before after) (others e a (before.marks e (after.marks e unmarked)))
 
   -- one change was made, of which the command's marks before it tell
-  one-change : (change : Change) (test : Waiting → Bool) → Fits s.world change → ((e : Waiting) → test e ≡ false → may_open s.world e change ≡ false) → MarksMore test s.entries m n → MarksKept n l
-      → OthersHaveNoMove (changed s.world change) s.entries l
+  one-change : (change : Change) (test : Waiting → Bool) → Fits s.world change → ((e : Waiting) → test e ≡ false → may_need s.world (is_noted m.spent e) e change ≡ false) → MarksMore test s.entries m n → MarksKept n l
+      → OthersNeedNoSearch (changed s.world change) s.entries l
   one-change change test fits opens_what before after =
       changed-others s.world (changed s.world change) s.entries m l change k.world fits k.entries_fit refl others (record {
-        kept = λ t h. before.kept t (after t h);
-        added = λ e a h. opens_what e (before.added e a (after e h));
+        kept = both-kept m n l before.kept after;
+        added = λ e a h. opens_what e (before.added e a (after.marks e h));
       })
 
   -- an enrolment by what its search found
   enrolment : (student : StudentId) (want : Want) (choices : List Choice) → is_some (find_student s.world.students student) ≡ true → are_allowed s.world student (want ∷ []) choices ≡ true
-      → MarksKept m n → MarksMore (enrolled_opens (make_move s.world (enrol_move student want) choices) student (enrolled choices)) s.entries n l
-      → OthersHaveNoMove (make_move s.world (enrol_move student want) choices) s.entries l
+      → MarksKept m n → MarksMore (enrolled_opens (make_move s.world (enrol_move student want) choices) m.spent student (enrolled choices)) s.entries n l
+      → OthersNeedNoSearch (make_move s.world (enrol_move student want) choices) s.entries l
   enrolment student want [] known h before after = no (sym h)
   enrolment student want (c ∷ []) known h before after =
       changed-others s.world (enrol s.world student c) s.entries m l (new_enrolment (record { student = student; choice = c })) k.world (known, want, both-left (is_allowed s.world student want c) _ h) k.entries_fit refl others
       (record {
-        kept = λ t unmarked. before t (after.kept t unmarked);
+        kept = both-kept m n l before after.kept;
         added = after.added;
       })
   enrolment student want (c ∷ d ∷ cs) known h before after = absurd (not_both false (Members.both-right (is_allowed s.world student want c) false h) refl)
 
   by-enrolment : (student : StudentId) (want : Want) (budget : ℕ) (o : Outcome) → outcome_of s.world (enrol_move student want) budget ≡ o → is_some (find_student s.world.students student) ≡ true
-      → MarksKept m n → MarksMore (enrolled_opens (moved s (enrol_move student want) enrolled o).state.world student (moved s (enrol_move student want) enrolled o).reply) (moved s (enrol_move student want) enrolled o).state.entries n l
-      → OthersHaveNoMove (moved s (enrol_move student want) enrolled o).state.world (moved s (enrol_move student want) enrolled o).state.entries l
+      → MarksKept m n → MarksMore (enrolled_opens (moved s (enrol_move student want) enrolled o).state.world m.spent student (moved s (enrol_move student want) enrolled o).reply) (moved s (enrol_move student want) enrolled o).state.entries n l
+      → OthersNeedNoSearch (moved s (enrol_move student want) enrolled o).state.world (moved s (enrol_move student want) enrolled o).state.entries l
   by-enrolment student want budget (Found choices visits) e known before after =
       enrolment student want choices known (found-allowed s.world (enrol_move student want) budget choices (ap found_in e)) before after
   by-enrolment student want budget (blocked tree visits) e known before after = same-world before after.kept
   by-enrolment student want budget (spent b) e known before after = same-world before after.kept
 
   by-swap : (mv : Move) (budget : ℕ) (o : Outcome) → outcome_of s.world mv budget ≡ o → MoveFits s.world mv → MarksKept m n
-      → MarksMore (swap_opens (moved s mv Swapped o).state.world mv.student mv.give (moved s mv Swapped o).reply) (moved s mv Swapped o).state.entries n l
-      → OthersHaveNoMove (moved s mv Swapped o).state.world (moved s mv Swapped o).state.entries l
+      → MarksMore (swap_opens (moved s mv Swapped o).state.world m.spent mv.student mv.give (moved s mv Swapped o).reply) (moved s mv Swapped o).state.entries n l
+      → OthersNeedNoSearch (moved s mv Swapped o).state.world (moved s mv Swapped o).state.entries l
   by-swap mv budget (Found choices visits) found fits before after = λ e a unmarked.
-      (swap-stays e s.world mv choices fits (found-allowed s.world mv budget choices (ap found_in found)) (after.added e a unmarked) (stays e a (before e (after.kept e unmarked)))).no_move
+      same-notes (make_move s.world mv choices) e m l (both-kept m n l before after.kept)
+      (swap-stays e m.spent s.world mv choices fits (found-allowed s.world mv budget choices (ap found_in found)) (after.added e a unmarked) (stays e a (before.marks e (after.kept.marks e unmarked)))).needless
   by-swap mv budget (blocked tree visits) found fits before after = same-world before after.kept
   by-swap mv budget (spent b) found fits before after = same-world before after.kept
 
   -- a limit that was set
   by-limit : (cap : Cap) (limit : Limit) (backs now : List Back) → Fits s.world (new_cap cap limit) → now ≡ backs ++ back_of s.world (new_cap cap limit) ∷ [] → MarksKept m n
-      → MarksMore (concerns None (last_offering (put_limit s.world cap limit) now)) s.entries n l → OthersHaveNoMove (put_limit s.world cap limit) s.entries l
+      → MarksMore (concerns None (last_offering (put_limit s.world cap limit) now)) s.entries n l → OthersNeedNoSearch (put_limit s.world cap limit) s.entries l
   by-limit cap limit backs now fits recorded before after =
       changed-others s.world (put_limit s.world cap limit) s.entries m l (new_cap cap limit) k.world fits k.entries_fit refl others (record {
-        kept = λ t h. before t (after.kept t h);
-        added = λ e a h. limit-closed s.world cap limit backs now e k.world fits recorded (after.added e a h);
+        kept = both-kept m n l before after.kept;
+        added = λ e a h. plain-need s.world e (is_noted m.spent e) (new_cap cap limit) refl (limit-closed s.world cap limit backs now e k.world fits recorded (after.added e a h));
       })
 
   -- a batch that was made
   by-batch : (students : List StudentId) → list_all (λ x. is_some (find_student s.world.students x)) students ≡ true → MarksKept m n
-      → MarksMore (batch_opens (batched s students).state.world (batched s students).reply) (batched s students).state.entries n l
-      → OthersHaveNoMove (batched s students).state.world (batched s students).state.entries l
+      → MarksMore (batch_opens (batched s students).state.world m.spent (batched s students).reply) (batched s students).state.entries n l
+      → OthersNeedNoSearch (batched s students).state.world (batched s students).state.entries l
   by-batch students known before after = λ e a unmarked.
-      batch-stays s students e known (λ old. stays e old (before e (after.kept e unmarked)))
-      (join_lines (record { state = record s { world = (batch_of s.world students).world }; lines = [] }) (batch_of s.world students).answered) refl (after.added e a unmarked) a
+      same-notes (batched s students).state.world e m l (both-kept m n l before after.kept)
+      (batch-stays s m.spent students e known (λ old. stays e old (before.marks e (after.kept.marks e unmarked)))
+      (join_lines (record { state = record s { world = (batch_of s.world students).world }; lines = [] }) (batch_of s.world students).answered) refl (after.added e a unmarked) a)
 
-  by-cancel : (id : SectionId) (b : Bool) → is_cancelled s.world.catalogue id ≡ b → (is_cancelled s.world.catalogue id ≡ false → Fits s.world (Cancelled id)) → MarksMore (λ e. false) s.entries m n → MarksKept n l
-      → OthersHaveNoMove (cancel s.world id) s.entries l
+  by-cancel : (id : SectionId) (b : Bool) → is_cancelled s.world.catalogue id ≡ b → (is_cancelled s.world.catalogue id ≡ false → Fits s.world (Cancelled id)) → MarksMore (is_noted_in m.spent (sectioned_in s.world id)) s.entries m n → MarksKept n l
+      → OthersNeedNoSearch (cancel s.world id) s.entries l
   by-cancel id true e fits before after =
-      subst (λ c. OthersHaveNoMove (record s.world { catalogue = record { rows = s.world.catalogue.rows; cancelled = c } }) s.entries l)
+      subst (λ c. OthersNeedNoSearch (record s.world { catalogue = record { rows = s.world.catalogue.rows; cancelled = c } }) s.entries l)
       (λ i. cond (sym e i) s.world.catalogue.cancelled (s.world.catalogue.cancelled ++ id ∷ [])) (same-world before.kept after)
-  by-cancel id false e fits before after = one-change (Cancelled id) (λ e. false) (fits e) (λ f h. refl) before after
+  by-cancel id false e fits before after = one-change (Cancelled id) (is_noted_in m.spent (sectioned_in s.world id)) (fits e) (λ f h. by_noted f (is_noted m.spent f) h) before after
+    where
+      by_noted : (f : Waiting) (b : Bool) → b && concerns None (sectioned_in s.world id) f ≡ false → b && caps_wanted s.world f.want (cap_section id) ≡ false
+      by_noted f true h = cancel-closed s.world id f k.world h
+      by_noted f false h = refl
 
-  by-join : (f : Waiting) → MarksKept m n → MarksMore (λ e. f.ticket == e.ticket) (s.entries ++ f ∷ []) n l → OthersHaveNoMove s.world (s.entries ++ f ∷ []) l
+  by-join : (f : Waiting) → MarksKept m n → MarksMore (λ e. f.ticket == e.ticket) (s.entries ++ f ∷ []) n l → OthersNeedNoSearch s.world (s.entries ++ f ∷ []) l
   by-join f before after e a unmarked = by_place (among-append s.entries f e a)
     where
-      by_place : Among s.entries e ⊎ Among (f ∷ []) e → NoMove s.world e
-      by_place (inl old) = others e old (before e (after.kept e unmarked))
+      by_place : Among s.entries e ⊎ Among (f ∷ []) e → Needless s.world (is_noted l.spent e) e
+      by_place (inl old) = same-notes s.world e m l (both-kept m n l before after.kept) (others e old (before.marks e (after.kept.marks e unmarked)))
       by_place (inr (inl new)) = no (sym (eq-eqb f.ticket e.ticket (ap (λ (x : Waiting). x.ticket) new)) ∙ after.added e a unmarked)
       by_place (inr (inr new)) = absurd new
 
-  pub act-others : (backs now : List Back) (command : Command) → RecordsLimit s.world command backs now → CommandFits s.world command → MarksMore (opens s.world command) s.entries m n
-      → MarksMore (opened (act s command).state.world now command (act s command).reply) (act s command).state.entries n l → OthersHaveNoMove (act s command).state.world (act s command).state.entries l
-  act-others backs now (Offering row) recorded fits before after = one-change (new_offering row) (λ e. false) fits (λ e h. refl) before after.kept
-  act-others backs now (student_row row) recorded fits before after = one-change (new_student row) (concerns (Some row.id) None) fits (λ e h. neither-left (row.id.0 == e.student.0) false h) before after.kept
-  act-others backs now (Requests student asks) recorded fits before after = one-change (new_requests student asks) (concerns (Some student) None) fits (λ e h. neither-left (student.0 == e.student.0) false h) before after.kept
+  pub act-others : (backs now : List Back) (command : Command) → RecordsLimit s.world command backs now → CommandFits s.world command → MarksMore (opens s.world m.spent command) s.entries m n
+      → MarksMore (opened (act s command).state.world m.spent now command (act s command).reply) (act s command).state.entries n l → OthersNeedNoSearch (act s command).state.world (act s command).state.entries l
+  act-others backs now (Offering row) recorded fits before after = one-change (new_offering row) (λ e. false) fits (λ e h. plain-need s.world e (is_noted m.spent e) (new_offering row) refl refl) before after.kept
+  act-others backs now (student_row row) recorded fits before after = one-change (new_student row) (concerns (Some row.id) None) fits (λ e h. plain-need s.world e (is_noted m.spent e) (new_student row) refl (neither-left (row.id.0 == e.student.0) false h)) before after.kept
+  act-others backs now (Requests student asks) recorded fits before after = one-change (new_requests student asks) (concerns (Some student) None) fits (λ e h. plain-need s.world e (is_noted m.spent e) (new_requests student asks) refl (neither-left (student.0 == e.student.0) false h)) before after.kept
   act-others backs now (Reserve row) recorded fits before after =
-      one-change (new_reservation (reservation_from s.world row)) (concerns None (find_offering s.world.catalogue.rows row.offering)) fits (λ e h. wanted s.world row.offering e k.world h) before after.kept
+      one-change (new_reservation (reservation_from s.world row)) (concerns None (find_offering s.world.catalogue.rows row.offering)) fits
+      (λ e h. plain-need s.world e (is_noted m.spent e) (new_reservation (reservation_from s.world row)) refl (wanted s.world row.offering e k.world h)) before after.kept
   act-others backs now (Unreserve id) recorded fits before after =
-      one-change (gone_reservation id) (concerns None (reserved_in s.world id)) fits (λ e h. reserved s.world e (reservation_of s.world id) k.world h) before after.kept
+      one-change (gone_reservation id) (concerns None (reserved_in s.world id)) fits
+      (λ e h. plain-need s.world e (is_noted m.spent e) (gone_reservation id) refl (reserved s.world e (reservation_of s.world id) k.world h)) before after.kept
   act-others backs now (Expire id expiry) recorded fits before after =
-      one-change (Expiry id expiry) (concerns None (reserved_in s.world id)) fits (λ e h. reserved s.world e (reservation_of s.world id) k.world h) before after.kept
+      one-change (Expiry id expiry) (concerns None (reserved_in s.world id)) fits
+      (λ e h. plain-need s.world e (is_noted m.spent e) (Expiry id expiry) refl (reserved s.world e (reservation_of s.world id) k.world h)) before after.kept
   act-others backs now (Restrict row) recorded fits before after =
-      one-change (new_restriction (restriction_from s.world row)) (concerns None (find_offering s.world.catalogue.rows row.offering)) fits (λ e h. wanted s.world row.offering e k.world h) before after.kept
+      one-change (new_restriction (restriction_from s.world row)) (concerns None (find_offering s.world.catalogue.rows row.offering)) fits
+      (λ e h. plain-need s.world e (is_noted m.spent e) (new_restriction (restriction_from s.world row)) refl (wanted s.world row.offering e k.world h)) before after.kept
   act-others backs now (Unrestrict id) recorded fits before after =
-      one-change (gone_restriction id) (concerns None (restricted_in s.world id)) fits (λ e h. restricted s.world e (restriction_of s.world id) k.world h) before after.kept
+      one-change (gone_restriction id) (concerns None (restricted_in s.world id)) fits
+      (λ e h. plain-need s.world e (is_noted m.spent e) (gone_restriction id) refl (restricted s.world e (restriction_of s.world id) k.world h)) before after.kept
   act-others backs now (SetLimit level limit) recorded fits before after = by-limit level limit backs now fits recorded before.kept after
   act-others backs now (Cancel id) recorded fits before after = by-cancel id (is_cancelled s.world.catalogue id) refl fits before after.kept
   act-others backs now (Enrol student want budget) recorded fits before after =
       by-enrolment student want budget (outcome_of s.world (enrol_move student want) budget) refl fits.student before.kept after
   act-others backs now (Drop student course) recorded fits before after =
-      one-change (Leave student course) (λ e. may_open s.world e (Leave student course)) fits (λ e h. h) before after.kept
+      one-change (Leave student course) (λ e. may_open s.world e (Leave student course)) fits (λ e h. plain-need s.world e (is_noted m.spent e) (Leave student course) refl h) before after.kept
   act-others backs now (Swap student give take budget) recorded fits before after =
       let mv : Move = record { student = student; give = give; take = take } in
       by-swap mv budget (outcome_of s.world mv budget) refl fits before.kept after
@@ -196,17 +209,18 @@ module _ (s : State) (k : KeptState s) (m n l : Marked) (others : OthersHaveNoMo
 
 -- once a command was answered, and what it opens is marked
 pub acted-others : (w v : World) (q p : Queued) (backs now : List Back) (command : Command) (reply : Reply) (m n l : Marked) → KeptState (state_of w q) → CommandFits w command
-    → act (state_of w q) command ≡ record { state = state_of v p; reply = reply } → RecordsLimit w command backs now → OthersHaveNoMove w q.entries m → MarksMore (opens w command) q.entries m n
-    → MarksMore (opened v now command reply) p.entries n l → OthersHaveNoMove v p.entries l
+    → act (state_of w q) command ≡ record { state = state_of v p; reply = reply } → RecordsLimit w command backs now → OthersNeedNoSearch w q.entries m → MarksMore (opens w m.spent command) q.entries m n
+    → MarksMore (opened v n.spent now command reply) p.entries n l → OthersNeedNoSearch v p.entries l
 acted-others w v q p backs now command reply m n l k fits is recorded others before after =
-    subst (λ (a : Acted). OthersHaveNoMove a.state.world a.state.entries l) is
+    subst (λ (a : Acted). OthersNeedNoSearch a.state.world a.state.entries l) is
     (act-others (state_of w q) k m n l others backs now command recorded fits before
-    (subst (λ (a : Acted). MarksMore (opened a.state.world now command a.reply) a.state.entries n l) (sym is) after))
+    (subst (λ (a : Acted). MarksMore (opened a.state.world m.spent now command a.reply) a.state.entries n l) (sym is)
+    (subst (λ ts. MarksMore (opened v ts now command reply) p.entries n l) before.kept.spent after)))
 
 -- the day, once what it opens is marked
-pub day-others : (w v : World) (es : List Waiting) (day : ℕ) (m n : Marked) → KeptWorld w → IsTrue (list_all (entry_fits w) es) → v ≡ changed w (Day (max w.day day)) → OthersHaveNoMove w es m
-    → MarksMore (λ e. may_open w e (Day (max w.day day))) es m n → OthersHaveNoMove v es n
-day-others w v es day m n k fit is others marks = changed-others w v es m n (Day (max w.day day)) k tt fit is others marks
+pub day-others : (w v : World) (es : List Waiting) (day : ℕ) (m n : Marked) → KeptWorld w → IsTrue (list_all (entry_fits w) es) → v ≡ changed w (Day (max w.day day)) → OthersNeedNoSearch w es m
+    → MarksMore (λ e. may_open w e (Day (max w.day day))) es m n → OthersNeedNoSearch v es n
+day-others w v es day m n k fit is others marks = changed-others w v es m n (Day (max w.day day)) k tt fit is others (plain-marks w es m n (Day (max w.day day)) (λ e. refl) marks)
 
 -- ---- marks of a day
 
@@ -260,8 +274,8 @@ either-marks f g es m k n r first marks = on-ok r join marks
   where
     join : MarksMore g es k n → MarksMore (λ e. f e || g e) es m n
     join second = record {
-      kept = λ t h. first.kept t (second.kept t h);
-      added = λ e a h. neither (f e) (g e) (first.added e a (second.kept e h)) (second.added e a h);
+      kept = both-kept m k n first.kept second.kept;
+      added = λ e a h. neither (f e) (g e) (first.added e a (second.kept.marks e h)) (second.added e a h);
     }
 
 -- a marked ticket marks its entry

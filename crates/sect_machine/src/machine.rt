@@ -33,7 +33,7 @@ pub struct Machine {
 }
 
 impl Model for Machine {
-    ghost use Rattle.sect_wait.specs.Marked.{OthersHaveNoMove};
+    ghost use Rattle.sect_wait.specs.Marked.{OthersNeedNoSearch};
     ghost use Rattle.sect_wait.specs.Queued.{state_of};
     ghost use Rattle.sect_machine.specs.Standing.{Standing, IsResting};
 
@@ -41,7 +41,7 @@ impl Model for Machine {
 
     ghost view = { λ m. record { world = m.world; queue = m.queue } };
 
-    ghost invariant = { λ m. IsResting (state_of m.world.world m.queue.queue) × OthersHaveNoMove m.world.world m.queue.queue.entries m.marks };
+    ghost invariant = { λ m. IsResting (state_of m.world.world m.queue.queue) × OthersNeedNoSearch m.world.world m.queue.queue.entries m.marks };
 }
 
 impl Machine {

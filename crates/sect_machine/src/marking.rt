@@ -1,7 +1,9 @@
-// Which entries a command marks: those that it may give a move.
+// Which entries a command marks: those that it may give a move, and those whose spent searches it touches.
 
-ghost use Rattle.std.specs.Prelude.{◌≡◌, List, OnOk, option_copied};
+ghost use Rattle.std.specs.Prelude.{◌≡◌, ◌==◌, List, OnOk, option_copied};
+ghost use Rattle.std.specs.List.{list_any};
 ghost use Rattle.sect_model.specs.declared.held.Waiting.{Waiting as Entry};
+ghost use Rattle.sect_space.specs.Back.{has_section as section_is_in};
 ghost use Rattle.sect_wait.specs.Marked.{MarksMore};
 ghost use Rattle.sect_machine.specs.Opening.{
   enrolled_opens,
@@ -11,14 +13,15 @@ ghost use Rattle.sect_machine.specs.Opening.{
   opens,
   reserved_in as reserved_offering,
   restricted_in as restricted_offering,
+  sectioned_in as sectioned_offering,
 };
 
 use crate::opened::{mark_batched, mark_choice, mark_swapped};
-use sect_base::{Memory, ReservationId, RestrictionId, StudentId};
-use sect_catalog::OfferingRow;
+use sect_base::{Memory, ReservationId, RestrictionId, SectionId, StudentId};
+use sect_catalog::{ConfigRow, OfferingRow, SubpartRow};
 use sect_command::{Command, Reply};
 use sect_space::{Undo, World};
-use sect_wait::{Marks, Queue, mark, mark_leaving, mark_ticket};
+use sect_wait::{Marks, Queue, mark, mark_leaving, mark_noted, mark_ticket};
 
 /// Marks the entries that a command may give a move whose change is known before it acts. Where memory runs out, some of
 /// them are marked.
@@ -28,7 +31,7 @@ pub fn mark_before(
     command: &Command,
     marks: &mut Marks,
 ) -> Result<(), Memory>
-    ensures { OnOk result (MarksMore (opens world.now.world command.now) queue.now.queue.entries marks.old marks.new) }
+    ensures { OnOk result (MarksMore (opens world.now.world marks.old.spent command.now) queue.now.queue.entries marks.old marks.new) }
 {
     match command {
         Command::Student(row) => mark(queue, Some(row.id), None, marks),
@@ -47,6 +50,7 @@ pub fn mark_before(
             mark(queue, None, row, marks)
         }
         Command::Unrestrict(id) => mark(queue, None, restricted_in(world, *id), marks),
+        Command::Cancel(id) => mark_noted(queue, sectioned_in(world, *id), marks),
         Command::Drop { student, course } => {
             mark_leaving(world, queue, *student, *course, marks)
         }
@@ -64,7 +68,7 @@ pub fn mark_after(
     undo: &Undo,
     marks: &mut Marks,
 ) -> Result<(), Memory>
-    ensures { OnOk result (MarksMore (opened world.now.world undo.now.backs command.now reply.now) queue.now.queue.entries marks.old marks.new) }
+    ensures { OnOk result (MarksMore (opened world.now.world marks.old.spent undo.now.backs command.now reply.now) queue.now.queue.entries marks.old marks.new) }
 {
     match command {
         Command::SetLimit { cap: _, limit: _ } => {
@@ -100,7 +104,7 @@ fn mark_enrolled(
     reply: &Reply,
     marks: &mut Marks,
 ) -> Result<(), Memory>
-    ensures { OnOk result (MarksMore (enrolled_opens world.now.world student reply.now) queue.now.queue.entries marks.old marks.new) }
+    ensures { OnOk result (MarksMore (enrolled_opens world.now.world marks.old.spent student reply.now) queue.now.queue.entries marks.old marks.new) }
 {
     if let Reply::Enrolled(choice) = reply {
         return mark_choice(world, queue, student, choice, marks);
@@ -132,6 +136,38 @@ fn restricted_in(world: &World, id: RestrictionId) -> Option<&OfferingRow>
 {
     let row = world.restriction(id)?;
     world.catalogue().offering(row.offering)
+}
+
+/// The offering in which a section stands.
+fn sectioned_in(world: &World, id: SectionId) -> Option<&OfferingRow>
+    ensures { option_copied result ≡ sectioned_offering world.now.world id }
+{
+    let rows = world.catalogue().rows();
+    rows.iter().find(|row| has_section(row, id))
+}
+
+/// Whether the section stands in the offering.
+fn has_section(row: &OfferingRow, id: SectionId) -> bool
+    ensures { result ≡ section_is_in id row.now }
+{
+    let configs = row.configs.as_slice();
+    configs.iter().any(|config| config_has(config, id))
+}
+
+/// Whether the section stands in the configuration.
+fn config_has(config: &ConfigRow, id: SectionId) -> bool
+    ensures { result ≡ list_any (λ p. list_any (λ s. s.id.0 == id.0) p.sections) config.now.subparts }
+{
+    let subparts = config.subparts.as_slice();
+    subparts.iter().any(|subpart| subpart_has(subpart, id))
+}
+
+/// Whether the section stands in the subpart.
+fn subpart_has(subpart: &SubpartRow, id: SectionId) -> bool
+    ensures { result ≡ list_any (λ s. s.id.0 == id.0) subpart.now.sections }
+{
+    let sections = subpart.sections.as_slice();
+    sections.iter().any(|section| section.id == id)
 }
 
 /// The offering that the change recorded last concerns.

@@ -1,9 +1,8 @@
 // Which entries a made swap and a made batch mark: those that one of their changes may give a move.
 
 ghost use Rattle.std.specs.Prelude.{◌||◌, OnOk};
-ghost use Rattle.sect_model.specs.Freer.{may_open};
 ghost use Rattle.sect_model.specs.declared.change.Change.TheVariants.{Enrol};
-ghost use Rattle.sect_wait.specs.Marked.{MarksMore};
+ghost use Rattle.sect_wait.specs.Marked.{MarksMore, is_noted, may_need};
 ghost use Rattle.sect_machine.specs.Opening.{batch_opens, leaving_opens, lines_open, result_opens, swap_opens, taking_opens};
 
 use sect_base::{Choice, CourseId, Memory, StudentId};
@@ -22,7 +21,7 @@ pub fn mark_swapped(
     reply: &Reply,
     marks: &mut Marks,
 ) -> Result<(), Memory>
-    ensures { OnOk result (MarksMore (swap_opens world.now.world student give.now reply.now) queue.now.queue.entries marks.old marks.new) }
+    ensures { OnOk result (MarksMore (swap_opens world.now.world marks.old.spent student give.now reply.now) queue.now.queue.entries marks.old marks.new) }
 {
     if let Reply::Swapped(choices) = reply {
         return mark_move(world, queue, student, give, choices.as_slice(), marks);
@@ -40,7 +39,7 @@ fn mark_move(
     marks: &mut Marks,
 ) -> Result<(), Memory>
     ensures { OnOk result (MarksMore (λ e. leaving_opens world.now.world student give.now e || taking_opens world.now.world
-        student choices.now e) queue.now.queue.entries marks.old marks.new) }
+        marks.old.spent student choices.now e) queue.now.queue.entries marks.old marks.new) }
 {
     mark_given(world, queue, student, give, marks)?;
     mark_taken(world, queue, student, choices, marks)
@@ -70,7 +69,7 @@ fn mark_taken(
     choices: &[Choice],
     marks: &mut Marks,
 ) -> Result<(), Memory>
-    ensures { OnOk result (MarksMore (taking_opens world.now.world student choices.now) queue.now.queue.entries marks.old marks.new) }
+    ensures { OnOk result (MarksMore (taking_opens world.now.world marks.old.spent student choices.now) queue.now.queue.entries marks.old marks.new) }
 {
     for choice in choices {
         mark_choice(world, queue, student, choice, marks)?;
@@ -86,7 +85,7 @@ pub fn mark_choice(
     choice: &Choice,
     marks: &mut Marks,
 ) -> Result<(), Memory>
-    ensures { OnOk result (MarksMore (λ e. may_open world.now.world e
+    ensures { OnOk result (MarksMore (λ e. may_need world.now.world (is_noted marks.old.spent e) e
         (Enrol (record { student = student; choice = choice.now }))) queue.now.queue.entries marks.old marks.new) }
 {
     let enrolment = Enrolment {
@@ -103,7 +102,7 @@ pub fn mark_batched(
     reply: &Reply,
     marks: &mut Marks,
 ) -> Result<(), Memory>
-    ensures { OnOk result (MarksMore (batch_opens world.now.world reply.now) queue.now.queue.entries marks.old marks.new) }
+    ensures { OnOk result (MarksMore (batch_opens world.now.world marks.old.spent reply.now) queue.now.queue.entries marks.old marks.new) }
 {
     if let Reply::Batched(lines) = reply {
         return mark_lines(world, queue, lines.as_slice(), marks);
@@ -113,7 +112,7 @@ pub fn mark_batched(
 
 /// Marks what the lines may have opened.
 fn mark_lines(world: &World, queue: &Queue, lines: &[Line], marks: &mut Marks) -> Result<(), Memory>
-    ensures { OnOk result (MarksMore (lines_open world.now.world lines.now) queue.now.queue.entries marks.old marks.new) }
+    ensures { OnOk result (MarksMore (lines_open world.now.world marks.old.spent lines.now) queue.now.queue.entries marks.old marks.new) }
 {
     for line in lines {
         mark_line(world, queue, line, marks)?;
@@ -123,7 +122,7 @@ fn mark_lines(world: &World, queue: &Queue, lines: &[Line], marks: &mut Marks) -
 
 /// Marks what the enrolment of a line that is met may have opened, and the entry of one that waits.
 fn mark_line(world: &World, queue: &Queue, line: &Line, marks: &mut Marks) -> Result<(), Memory>
-    ensures { OnOk result (MarksMore (result_opens world.now.world line.now.student line.now.result) queue.now.queue.entries marks.old marks.new) }
+    ensures { OnOk result (MarksMore (result_opens world.now.world marks.old.spent line.now.student line.now.result) queue.now.queue.entries marks.old marks.new) }
 {
     match &line.result {
         LineResult::Met(choice) => mark_choice(world, queue, line.student, choice, marks),

@@ -8,7 +8,7 @@ ghost use Rattle.sect_model.specs.Settle.{settle as settled_from};
 ghost use Rattle.sect_model.specs.Step.{act as act_of, answered, settled_after, step as step_of};
 ghost use Rattle.sect_model.specs.World.{holds as is_held, leave};
 ghost use Rattle.sect_space.specs.Undo.{Since, Undoable};
-ghost use Rattle.sect_wait.specs.Marked.{OthersHaveNoMove};
+ghost use Rattle.sect_wait.specs.Marked.{OthersNeedNoSearch};
 ghost use Rattle.sect_wait.specs.Opened.{OthersBut};
 ghost use Rattle.sect_wait.specs.Queued.{state_of};
 ghost use Rattle.sect_wait.specs.Undo.{Undoable as QueueUndoable};
@@ -46,14 +46,14 @@ pub fn step(
     command: &Command,
 ) -> Result<ToldStep, Memory>
     requires resting { IsResting (state_of world.old.world queue.old.queue) }
-    requires others { OthersHaveNoMove world.old.world queue.old.queue.entries marks.old }
+    requires others { OthersNeedNoSearch world.old.world queue.old.queue.entries marks.old }
     ensures acted { IfOk result (λ r. step_of (state_of world.old.world queue.old.queue) day caller command.now
         ≡ record { state = state_of world.new.world queue.new.queue; reply = r.reply }) }
     ensures placed { IfOk result (λ r. r.placed ≡ placements (state_of world.old.world queue.old.queue) day caller command.now) }
     ensures undo { IfOk result (λ r. Restores r.undo (record { world = world.new; queue = queue.new }) (state_of world.old.world queue.old.queue)) }
     ensures world_err { OnErr result (world.new.world ≡ world.old.world) }
     ensures queue_err { OnErr result (queue.new.queue ≡ queue.old.queue) }
-    ensures others { OthersHaveNoMove world.new.world queue.new.queue.entries marks.new }
+    ensures others { OthersNeedNoSearch world.new.world queue.new.queue.entries marks.new }
 {
     counted::<Brand>(
         alloc,
@@ -82,14 +82,14 @@ fn counted<L: Ledger>(
     requires parts { blank.parts ≡ L.parts }
     requires some { 0 < blank.parts }
     requires resting { IsResting (state_of world.old.world queue.old.queue) }
-    requires others { OthersHaveNoMove world.old.world queue.old.queue.entries marks.old }
+    requires others { OthersNeedNoSearch world.old.world queue.old.queue.entries marks.old }
     ensures acted { IfOk result (λ r. step_of (state_of world.old.world queue.old.queue) day caller command.now
         ≡ record { state = state_of world.new.world queue.new.queue; reply = r.reply }) }
     ensures placed { IfOk result (λ r. r.placed ≡ placements (state_of world.old.world queue.old.queue) day caller command.now) }
     ensures undo { IfOk result (λ r. Restores r.undo (record { world = world.new; queue = queue.new }) (state_of world.old.world queue.old.queue)) }
     ensures world_err { OnErr result (world.new.world ≡ world.old.world) }
     ensures queue_err { OnErr result (queue.new.queue ≡ queue.old.queue) }
-    ensures others { OthersHaveNoMove world.new.world queue.new.queue.entries marks.new }
+    ensures others { OthersNeedNoSearch world.new.world queue.new.queue.entries marks.new }
 {
     let mut steps: Steps<L> = Steps::new(blank);
     all_or_none(alloc, world, queue, marks, day, caller, command, &mut steps)
@@ -107,14 +107,14 @@ fn all_or_none<L: Ledger>(
     steps: &mut Steps<L>,
 ) -> Result<ToldStep, Memory>
     requires resting { IsResting (state_of world.old.world queue.old.queue) }
-    requires others { OthersHaveNoMove world.old.world queue.old.queue.entries marks.old }
+    requires others { OthersNeedNoSearch world.old.world queue.old.queue.entries marks.old }
     ensures acted { IfOk result (λ r. step_of (state_of world.old.world queue.old.queue) day caller command.now
         ≡ record { state = state_of world.new.world queue.new.queue; reply = r.reply }) }
     ensures placed { IfOk result (λ r. r.placed ≡ placements (state_of world.old.world queue.old.queue) day caller command.now) }
     ensures undo { IfOk result (λ r. Restores r.undo (record { world = world.new; queue = queue.new }) (state_of world.old.world queue.old.queue)) }
     ensures world_err { OnErr result (world.new.world ≡ world.old.world) }
     ensures queue_err { OnErr result (queue.new.queue ≡ queue.old.queue) }
-    ensures others { OthersHaveNoMove world.new.world queue.new.queue.entries marks.new }
+    ensures others { OthersNeedNoSearch world.new.world queue.new.queue.entries marks.new }
 {
     world.is_kept();
     queue.is_kept();
@@ -155,14 +155,14 @@ fn settled<L: Ledger>(
     steps: &mut Steps<L>,
 ) -> Result<(Reply, Items<Placed>), Memory>
     requires kept { KeptState (state_of world.old.world queue.old.queue) }
-    requires others { OthersHaveNoMove world.old.world queue.old.queue.entries marks.old }
+    requires others { OthersNeedNoSearch world.old.world queue.old.queue.entries marks.old }
     requires undoable { Undoable world.old undo.old.backs }
     requires queue_undoable { QueueUndoable queue.old left.old }
     ensures acted { IfOk result (λ told. step_of (state_of world.old.world queue.old.queue) day caller command.now
         ≡ record { state = state_of world.new.world queue.new.queue; reply = told.0 }) }
     ensures placed { IfOk result (λ told. told.1 ≡ placements (state_of world.old.world queue.old.queue) day caller command.now) }
     ensures tracked { Tracked world.old undo.old.backs queue.old left.old world.new undo.new.backs queue.new left.new }
-    ensures others { OnOk result (OthersHaveNoMove world.new.world queue.new.queue.entries marks.new) }
+    ensures others { OnOk result (OthersNeedNoSearch world.new.world queue.new.queue.entries marks.new) }
 {
     world.is_kept();
     mark_day(world, queue, day, marks)?;
@@ -215,7 +215,7 @@ fn place_all<L: Ledger>(
         ≡ record { state = state_of world.new.world queue.new.queue; reply = told.0 }) }
     ensures placed { IfOk result (λ told. told.1 ≡ (settled_from (state_of world.old.world queue.old.queue)).placed) }
     ensures tracked { Tracked world.old undo.old.backs queue.old left.old world.new undo.new.backs queue.new left.new }
-    ensures others { OnOk result (OthersHaveNoMove world.new.world queue.new.queue.entries marks.new) }
+    ensures others { OnOk result (OthersNeedNoSearch world.new.world queue.new.queue.entries marks.new) }
 {
     let placed = settle_opened(alloc, world, queue, marks, opened, undo, left, steps)?;
     let told = reply_after(reply, placed.as_slice());
@@ -236,7 +236,7 @@ fn answer<L: Ledger>(
     steps: &mut Steps<L>,
 ) -> Result<Reply, Memory>
     requires kept { KeptState (state_of world.old.world queue.old.queue) }
-    requires others { OthersHaveNoMove world.old.world queue.old.queue.entries marks.old }
+    requires others { OthersNeedNoSearch world.old.world queue.old.queue.entries marks.old }
     requires undoable { Undoable world.old undo.old.backs }
     requires queue_undoable { QueueUndoable queue.old left.old }
     ensures acted { IfOk result (λ reply. answered (state_of world.old.world queue.old.queue) caller command.now
@@ -267,7 +267,7 @@ fn marked_act<L: Ledger>(
 ) -> Result<Reply, Memory>
     requires kept { KeptState (state_of world.old.world queue.old.queue) }
     requires fits { CommandFits world.old.world command.now }
-    requires others { OthersHaveNoMove world.old.world queue.old.queue.entries marks.old }
+    requires others { OthersNeedNoSearch world.old.world queue.old.queue.entries marks.old }
     requires undoable { Undoable world.old undo.old.backs }
     requires queue_undoable { QueueUndoable queue.old left.old }
     ensures acted { IfOk result (λ reply. act_of (state_of world.old.world queue.old.queue) command.now
@@ -296,7 +296,7 @@ fn dropped(
 ) -> Result<Reply, Memory>
     requires held { IsTrue (is_held world.old.world student course) }
     requires fit { IsTrue (list_all (entry_fits world.old.world) queue.now.queue.entries) }
-    requires others { OthersHaveNoMove world.old.world queue.now.queue.entries marks.old }
+    requires others { OthersNeedNoSearch world.old.world queue.now.queue.entries marks.old }
     requires undoable { Undoable world.old undo.old.backs }
     ensures ok { OnOk result (world.new.world ≡ leave world.old.world student course) }
     ensures reply { IfOk result (λ reply. reply ≡ Reply.Dropped course) }
@@ -321,13 +321,13 @@ fn all_marked_act<L: Ledger>(
 ) -> Result<Reply, Memory>
     requires kept { KeptState (state_of world.old.world queue.old.queue) }
     requires fits { CommandFits world.old.world command.now }
-    requires others { OthersHaveNoMove world.old.world queue.old.queue.entries marks.old }
+    requires others { OthersNeedNoSearch world.old.world queue.old.queue.entries marks.old }
     requires undoable { Undoable world.old undo.old.backs }
     requires queue_undoable { QueueUndoable queue.old left.old }
     ensures acted { IfOk result (λ reply. act_of (state_of world.old.world queue.old.queue) command.now
         ≡ record { state = state_of world.new.world queue.new.queue; reply = reply }) }
     ensures tracked { Tracked world.old undo.old.backs queue.old left.old world.new undo.new.backs queue.new left.new }
-    ensures others { OnOk result (OthersHaveNoMove world.new.world queue.new.queue.entries marks.new) }
+    ensures others { OnOk result (OthersNeedNoSearch world.new.world queue.new.queue.entries marks.new) }
 {
     mark_before(world, queue, command, marks)?;
     let reply = act(alloc, world, queue, command, undo, left, steps)?;

@@ -1,6 +1,8 @@
 pub mod IndexLemmas
 pub mod MarkLemmas
+pub mod NeedLemmas
 pub mod NextLemmas
+pub mod NoteLemmas
 pub mod OpenedLemmas
 pub mod PlacingLemmas
 pub mod QueueLemmas

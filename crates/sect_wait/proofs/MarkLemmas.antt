@@ -1,4 +1,4 @@
--- Marks: what a change may open is marked, and an entry that isn't marked has no move.
+-- Marks: what a change may open is marked, and an entry that isn't marked needs no search.
 use Rattle.std.specs.Prelude.{◌≡◌, ℕ, zero, suc, ◌<◌, Bool, true, false, not, ◌||◌, ◌&&◌, ◌==◌, cond, List, [], ◌∷◌, ◌++◌, length, filter, Option, Some, None, Result, Ok, Err, OnOk, IsTrue, refl, ◌⊎◌}
 use Rattle.std.specs.List.{list_any, list_all}
 use Rattle.std.specs.Option.{option_map_or, is_some}
@@ -16,7 +16,7 @@ use Rattle.sect_model.specs.declared.pick.Outcome.{Outcome}
 use Rattle.sect_model.specs.declared.held.Waiting.{Waiting}
 use Rattle.sect_model.specs.declared.change.Change.{Change}
 use Rattle.sect_model.specs.declared.change.Change.TheVariants.{Enrol, Leave}
-use Rattle.sect_model.specs.declared.pick.Outcome.TheVariants.{Blocked}
+use Rattle.sect_model.specs.declared.pick.Outcome.TheVariants.{Blocked, Spent}
 use Rattle.sect_model.specs.World.{World, leave, offering_of, is_of}
 use Rattle.sect_model.specs.Outcome.{outcome_of}
 use Rattle.sect_model.specs.Fits.{Fits, changed}
@@ -26,21 +26,20 @@ use Rattle.sect_model.specs.Freer.{Among, NoMove, may_open, touches, frees_some}
 use Rattle.sect_model.proofs.Members
 use Rattle.sect_model.proofs.Members.{all-at, neither-left, neither-right, none-of, not_both}
 use Rattle.sect_model.proofs.FreerLemmas.{among, member}
-use Rattle.sect_model.proofs.FreerChanges.{changes-open}
 use Rattle.sect_model.proofs.FreerIndex.{touches-listed}
-use Rattle.sect_model.proofs.FreerSettle.{blocked-no-move, no-move-unplaced}
+use Rattle.sect_model.proofs.FreerSettle.{blocked-no-move}
+use Rattle.sect_frame.specs.Frame.{touches_entry}
+use Rattle.sect_frame.proofs.NeedLemmas.{spent-needs-none}
 use Rattle.sect_model.specs.Settle.{Settled, settle, is_settled, first_entry}
 use Rattle.sect_model.proofs.SettleLemmas.{settles, settled-stays, next_entry-none}
+use Rattle.sect_wait.specs.declared.entry.Left.{Left}
 use Rattle.sect_wait.specs.declared.marks.Turn.{Turn}
 use Rattle.sect_wait.specs.Indexed.{has_ticket}
-use Rattle.sect_wait.specs.Placing.{IsBest, KeepsListed, UnlistedHaveNoMove}
+use Rattle.sect_wait.specs.Placing.{IsBest, KeepsListed, RestNeedNone}
 use Rattle.sect_wait.specs.Queued.{Queued, state_of}
 use Rattle.std.specs.Prelude.{is_err}
-use Rattle.sect_wait.specs.Marked.{Marked, no_marks, is_marked, OthersHaveNoMove, MarksKept, MarksMore, concerns, is_from, is_source, wants_one, IsSetOf, IsSetOfCourses}
-
-pub neither : (a b : Bool) → a ≡ false → b ≡ false → a || b ≡ false
-neither true b h i = h
-neither false b h i = i
+use Rattle.sect_wait.specs.Marked.{Marked, no_marks, is_marked, is_noted, is_noted_in, may_need, Needless, OthersNeedNoSearch, MarksMore, concerns, is_from, is_source, wants_one, IsSetOf, IsSetOfCourses}
+use Rattle.sect_wait.proofs.NeedLemmas.{neither, needless-stays, needless-unplaced, same-notes, both-kept}
 
 -- ---- entries
 
@@ -66,7 +65,7 @@ pub each-at : {P : Waiting → Type 0} (es : List Waiting) (i : ℕ) (e : Waitin
 each-at es i e few at each f (inl h) = each f (subst (Among es) (sym at ∙ h) (among-get es i e few))
 each-at es i e few at each f (inr h) = absurd h
 
-pub others-without : (w : World) (es : List Waiting) (m : Marked) (ticket : ℕ) → OthersHaveNoMove w es m → OthersHaveNoMove w (without es ticket) m
+pub others-without : (w : World) (es : List Waiting) (m : Marked) (ticket : ℕ) → OthersNeedNoSearch w es m → OthersNeedNoSearch w (without es ticket) m
 others-without w es m ticket others e a unmarked = others e (among-without es ticket e a) unmarked
 
 -- ---- one entry
@@ -76,7 +75,7 @@ any-more [] t ticket h = refl
 any-more (s ∷ ts) t ticket h = neither (s == ticket) (list_any (λ s. s == ticket) ts) (neither-left (s == ticket) _ h) (any-more ts t ticket (neither-right (s == ticket) _ h))
 
 -- marking a ticket takes no mark off
-pub mark-kept : (m : Marked) (ticket : ℕ) → MarksKept m (record m { tickets = m.tickets ++ ticket ∷ [] })
+pub mark-kept : (m : Marked) (ticket : ℕ) (e : Waiting) → is_marked (record m { tickets = m.tickets ++ ticket ∷ [] }) e ≡ false → is_marked m e ≡ false
 mark-kept m ticket e h =
     neither (list_any (λ s. s == e.ticket) m.tickets) (is_source m e && is_from m.from e) (any-more m.tickets ticket e.ticket (neither-left _ (is_source m e && is_from m.from e) h))
     (neither-right (list_any (λ s. s == e.ticket) (m.tickets ++ ticket ∷ [])) _ h)
@@ -117,7 +116,7 @@ off-source m e ticket source = neither (list_any (λ s. s == e.ticket) m.tickets
 
 -- a course more is marked for all
 pub course-marks : (m n : Marked) (course : CourseId) (es : List Waiting) → n ≡ record m { courses = m.courses ++ course ∷ []; from = None } → MarksMore (λ e. list_any (λ c. course.0 == c.0) e.want.courses) es m n
-course-marks m n course es is = record { kept = λ e h. (off e h).0; added = λ e a h. (off e h).1 }
+course-marks m n course es is = record { kept = record { marks = λ e h. (off e h).0; spent = ap (λ (x : Marked). x.spent) is }; added = λ e a h. (off e h).1 }
   where
     off : (e : Waiting) → is_marked n e ≡ false → (is_marked m e ≡ false) × (list_any (λ c. course.0 == c.0) e.want.courses ≡ false)
     off e h =
@@ -133,7 +132,7 @@ course-marks m n course es is = record { kept = λ e h. (off e h).0; added = λ 
 
 -- a course more is marked for those who give one up
 pub giver-marks : (m n : Marked) (course : CourseId) (es : List Waiting) → n ≡ record m { givers = m.givers ++ course ∷ []; from = None } → MarksMore (λ e. is_some e.give && list_any (λ c. course.0 == c.0) e.want.courses) es m n
-giver-marks m n course es is = record { kept = λ e h. (off e h).0; added = λ e a h. (off e h).1 }
+giver-marks m n course es is = record { kept = record { marks = λ e h. (off e h).0; spent = ap (λ (x : Marked). x.spent) is }; added = λ e a h. (off e h).1 }
   where
     off : (e : Waiting) → is_marked n e ≡ false → (is_marked m e ≡ false) × (is_some e.give && list_any (λ c. course.0 == c.0) e.want.courses ≡ false)
     off e h =
@@ -147,18 +146,31 @@ giver-marks m n course es is = record { kept = λ e h. (off e h).0; added = λ e
         )
 
 -- a blocked search tells that the entry has no move
-pub blocked-unlisted : (w : World) (e : Waiting) (ts : List ℕ) (o : Outcome) (tree : Tree) (visits : ℕ) → KeptWorld w → IsTrue (entry_fits w e)
-    → o ≡ outcome_of w (move_of w e) 2000 → o ≡ Blocked tree visits → UnlistedHaveNoMove w (e ∷ []) ts
-blocked-unlisted w e ts o tree visits k fits is blocked f (inl h) unlisted = subst (NoMove w) h (blocked-no-move w e visits tree k fits (sym is ∙ blocked))
-blocked-unlisted w e ts o tree visits k fits is blocked f (inr h) unlisted = absurd h
+pub blocked-rest : (w : World) (e : Waiting) (left : Left) (o : Outcome) (tree : Tree) (visits : ℕ) → KeptWorld w → IsTrue (entry_fits w e)
+    → o ≡ outcome_of w (move_of w e) 2000 → o ≡ Blocked tree visits → RestNeedNone w (e ∷ []) left
+blocked-rest w e left o tree visits k fits is blocked f (inl h) unlisted = inl (subst (NoMove w) h (blocked-no-move w e visits tree k fits (sym is ∙ blocked)))
+blocked-rest w e left o tree visits k fits is blocked f (inr h) unlisted = absurd h
 
--- an entry that is listed isn't one of the others
-pub listed-unlisted : (w : World) (e : Waiting) (before after : List ℕ) → after ≡ before ++ e.ticket ∷ [] → UnlistedHaveNoMove w (e ∷ []) after
-listed-unlisted w e before after is f (inl h) unlisted = absurd (any-last before e.ticket (ap (λ ts. has_ticket e.ticket ts) (sym is) ∙ ap (λ (x : Waiting). has_ticket x.ticket after) h ∙ unlisted))
-listed-unlisted w e before after is f (inr h) unlisted = absurd h
+-- a spent search tells that the entry needs no other one
+pub spent-rest : (w : World) (e : Waiting) (left : Left) (before : List ℕ) (o : Outcome) (visits : ℕ) → left.spent.items ≡ before ++ e.ticket ∷ []
+    → o ≡ outcome_of w (move_of w e) 2000 → o ≡ Spent visits → RestNeedNone w (e ∷ []) left
+spent-rest w e left before o visits noted is spent f (inl h) unlisted = subst (λ x. Needless w (is_noted left.spent.items x) x) h (inr (own (has_ticket e.ticket left.spent.items) refl, spent-needs-none w e visits (sym is ∙ spent)))
+  where
+    own : (b : Bool) → has_ticket e.ticket left.spent.items ≡ b → b ≡ true
+    own true has = refl
+    own false has = absurd (any-last before e.ticket (ap (has_ticket e.ticket) (sym noted) ∙ has))
+spent-rest w e left before o visits noted is spent f (inr h) unlisted = absurd h
+
+-- an entry that is left to be tried again isn't one of the rest
+pub again-rest : (w : World) (e : Waiting) (left : Left) (before : List ℕ) → left.again.items ≡ before ++ e.ticket ∷ [] → RestNeedNone w (e ∷ []) left
+again-rest w e left before is f (inl h) unlisted = absurd (any-last before e.ticket (ap (λ ts. has_ticket e.ticket ts) (sym is) ∙ ap (λ (x : Waiting). has_ticket x.ticket left.again.items) h ∙ unlisted))
+again-rest w e left before is f (inr h) unlisted = absurd h
 
 pub listed-keeps : (before after : List ℕ) (ticket : ℕ) → after ≡ before ++ ticket ∷ [] → KeepsListed before after
 listed-keeps before after ticket is t h = any-more before ticket t (ap (has_ticket t) (sym is) ∙ h)
+
+pub same-keeps : (before after : List ℕ) → after ≡ before → KeepsListed before after
+same-keeps before after is t h = ap (has_ticket t) (sym is) ∙ h
 
 -- ---- changes
 
@@ -211,23 +223,39 @@ leave-marks w es student course o m n r k its marks =
     on-ok r (more-test (λ e. may_open w e (Leave student course)) (concerns (Some student) (offering_of w course)) es m n (λ e h. leave-concerns w student course e k h))
     (subst (λ x. OnOk r (MarksMore (concerns (Some student) x) es m n)) its marks)
 
-pub enrol-marks : {A E : Type 0} (w : World) (es : List Waiting) (x : Enrolment) (o : Option OfferingRow) (m n : Marked) (r : Result A E) → KeptWorld w
-    → o ≡ cond (frees_some w x.choice) (offering_of w x.choice.course) None → OnOk r (MarksMore (concerns (Some x.student) o) es m n)
-    → OnOk r (MarksMore (λ e. may_open w e (Enrol x)) es m n)
-enrol-marks w es x o m n r k its marks =
-    on-ok r (more-test (λ e. may_open w e (Enrol x)) (concerns (Some x.student) (cond (frees_some w x.choice) (offering_of w x.choice.course) None)) es m n (λ e h. enrol-concerns w x e k h))
-    (subst (λ y. OnOk r (MarksMore (concerns (Some x.student) y) es m n)) its marks)
+-- whom an enrolment may give a move is marked, and of those noted as spent whom it touches
+pub enrol-marks : {A E : Type 0} (w : World) (es : List Waiting) (x : Enrolment) (o p : Option OfferingRow) (m l n : Marked) (r : Result A E) → KeptWorld w
+    → o ≡ cond (frees_some w x.choice) (offering_of w x.choice.course) None → p ≡ offering_of w x.choice.course → MarksMore (concerns (Some x.student) o) es m l → OnOk r (MarksMore (is_noted_in l.spent p) es l n)
+    → OnOk r (MarksMore (λ e. may_need w (is_noted m.spent e) e (Enrol x)) es m n)
+enrol-marks w es x o p m l n r k its all first marks = on-ok r join marks
+  where
+    touched : (e : Waiting) (b : Bool) → b && option_map_or (λ o. list_any (has_course o) e.want.courses) (offering_of w x.choice.course) false ≡ false → x.student.0 == e.student.0 ≡ false
+        → b && (x.student.0 == e.student.0 || touches w e.want x.choice.course) ≡ false
+    touched e true h unlike = neither (x.student.0 == e.student.0) (touches w e.want x.choice.course) unlike (touches-row w e.want x.choice.course (offering_of w x.choice.course) k refl ∙ h)
+    touched e false h unlike = refl
 
--- once what a change may open is marked, the others have no move after it
+    join : MarksMore (is_noted_in l.spent p) es l n → MarksMore (λ e. may_need w (is_noted m.spent e) e (Enrol x)) es m n
+    join second = record {
+      kept = both-kept m l n first.kept second.kept;
+      added = λ e a u.
+          let c : concerns (Some x.student) (cond (frees_some w x.choice) (offering_of w x.choice.course) None) e ≡ false = ap (λ y. concerns (Some x.student) y e) (sym its) ∙ first.added e a (second.kept.marks e u) in
+          neither (may_open w e (Enrol x)) (is_noted m.spent e && touches_entry w e (Enrol x)) (enrol-concerns w x e k c)
+          (touched e (is_noted m.spent e)
+          ((λ i. is_noted (sym first.kept.spent i) e && concerns None (sym all i) e) ∙ second.added e a u)
+          (neither-left (x.student.0 == e.student.0) _ c));
+    }
+
+-- once what a change may open or touches is marked, the others need no search after it
 pub changed-others : (w v : World) (es : List Waiting) (m n : Marked) (change : Change) → KeptWorld w → Fits w change → IsTrue (list_all (entry_fits w) es)
-    → v ≡ changed w change → OthersHaveNoMove w es m → MarksMore (λ e. may_open w e change) es m n → OthersHaveNoMove v es n
+    → v ≡ changed w change → OthersNeedNoSearch w es m → MarksMore (λ e. may_need w (is_noted m.spent e) e change) es m n → OthersNeedNoSearch v es n
 changed-others w v es m n change k fits fit is others marks e a unmarked =
-    subst (λ u. NoMove u e) (sym is)
-    (changes-open w e change k fits (all-at (entry_fits w) es fit e (member es e a)) (marks.added e a unmarked) (others e a (marks.kept e unmarked)))
+    subst (λ u. Needless u (is_noted n.spent e) e) (sym is)
+    (same-notes (changed w change) e m n marks.kept
+    (needless-stays w e (is_noted m.spent e) change k fits (all-at (entry_fits w) es fit e (member es e a)) (marks.added e a unmarked) (others e a (marks.kept.marks e unmarked))))
 
 pub made-others : {A E : Type 0} (w v : World) (es : List Waiting) (m n : Marked) (change : Change) (r : Result A E) → KeptWorld w → Fits w change
-    → IsTrue (list_all (entry_fits w) es) → OnOk r (v ≡ changed w change) → OthersHaveNoMove w es m → MarksMore (λ e. may_open w e change) es m n
-    → OnOk r (OthersHaveNoMove v es n)
+    → IsTrue (list_all (entry_fits w) es) → OnOk r (v ≡ changed w change) → OthersNeedNoSearch w es m → MarksMore (λ e. may_need w (is_noted m.spent e) e change) es m n
+    → OnOk r (OthersNeedNoSearch v es n)
 made-others w v es m n change (Ok x) k fits fit is others marks = changed-others w v es m n change k fits fit is others marks
 made-others w v es m n change (Err x) k fits fit is others marks = tt
 
@@ -242,19 +270,19 @@ none-marked e true = refl
 none-marked e false = refl
 
 -- where nobody is marked, nobody is placed
-pub unmarked-none : (w : World) (es : List Waiting) (m : Marked) → m ≡ no_marks → OthersHaveNoMove w es m → IsBest w es None
+pub unmarked-none : (w : World) (es : List Waiting) (m : Marked) → m ≡ no_marks m.spent → OthersNeedNoSearch w es m → IsBest w es None
 unmarked-none w es m none others =
-    ap first_entry (none-left w es (λ e a. no-move-unplaced w e (others e a (ap (λ x. is_marked x e) none ∙ none-marked e (is_some e.give)))))
+    ap first_entry (none-left w es (λ e a. needless-unplaced w e (is_noted m.spent e) (others e a (ap (λ x. is_marked x e) none ∙ none-marked e (is_some e.give)))))
 
-pub unmarked-settled : (w : World) (q : Queued) (m : Marked) → m ≡ no_marks → OthersHaveNoMove w q.entries m
+pub unmarked-settled : (w : World) (q : Queued) (m : Marked) → m ≡ no_marks m.spent → OthersNeedNoSearch w q.entries m
     → settle (state_of w q) ≡ record { state = state_of w q; placed = [] }
 unmarked-settled w q m none others = settled-stays (state_of w q) (next_entry-none (state_of w q) (unmarked-none w q.entries m none others))
 
-pub unmarked-rests : (w : World) (q : Queued) (m : Marked) → m ≡ no_marks → OthersHaveNoMove w q.entries m → IsTrue (is_settled (state_of w q))
+pub unmarked-rests : (w : World) (q : Queued) (m : Marked) → m ≡ no_marks m.spent → OthersNeedNoSearch w q.entries m → IsTrue (is_settled (state_of w q))
 unmarked-rests w q m none others = subst (λ u. IsTrue (is_settled u)) (ap (λ (x : Settled). x.state) (unmarked-settled w q m none others)) (settles (state_of w q))
 
 -- where all are marked, there are no others
-pub all-others : (w : World) (es : List Waiting) (m n : Marked) → n ≡ record m { all = true; from = None } → OthersHaveNoMove w es n
+pub all-others : (w : World) (es : List Waiting) (m n : Marked) → n ≡ record m { all = true; from = None } → OthersNeedNoSearch w es n
 all-others w es m n is e a h = absurd (not_both true refl (neither-right (list_any (λ s. s == e.ticket) m.tickets) true (ap (λ x. is_marked x e) (sym is) ∙ h)))
 
 pub ok-of : {A E P : Type 0} (r : Result A E) → is_err r ≡ false → OnOk r P → P

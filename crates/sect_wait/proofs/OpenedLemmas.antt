@@ -33,13 +33,13 @@ use Rattle.sect_model.proofs.ChangeLemmas.{changes-keep}
 use Rattle.sect_model.proofs.FreerLemmas.{among, member, filter-part}
 use Rattle.sect_model.proofs.FreerEnrol.{if-not, more-space, one-more}
 use Rattle.sect_model.proofs.FreerFrame.{member-put, plain-no-freer}
-use Rattle.sect_model.proofs.FreerChanges.{changes-open}
 use Rattle.sect_space.proofs.Bounds.{held-once}
 use Rattle.sect_wait.specs.declared.opened.Opened.{Opened}
-use Rattle.sect_wait.specs.Marked.{Marked, is_marked, wants_one, concerns, OthersHaveNoMove, MarksMore}
+use Rattle.sect_wait.specs.Marked.{Marked, Needless, is_marked, is_noted, is_noted_in, may_need, wants_one, concerns, OthersNeedNoSearch, MarksKept, MarksMore}
 use Rattle.sect_wait.specs.Opened.{OpenedSince, WasBlocked, OthersBut, Notes, NotesAll, levels_at, courses_with, gives_and_wants, is_closed_again}
 use Rattle.sect_wait.specs.Queued.{Queued, left}
-use Rattle.sect_wait.proofs.MarkLemmas.{neither, off-and, among-without, leave-concerns}
+use Rattle.sect_wait.proofs.MarkLemmas.{off-and, among-without, leave-concerns}
+use Rattle.sect_wait.proofs.NeedLemmas.{all-kept, both-kept, neither, needless-stays, plain-need, same-notes}
 
 -- ---- a level without a place has no unreserved space
 
@@ -184,16 +184,37 @@ module _ (w : World) (k : KeptWorld w) (student : StudentId) (course : CourseId)
           none-at (λ a. d.id.0 == a.0) e.want.courses
           (none-at (λ (a : CourseId). list_any (λ b. a.0 == b.0) e.want.courses) (map (λ c. c.id) r.courses) h d.id (Members.member-of_map (λ c. c.id) r.courses d n)) c m))
 
-  pub left-but : (es : List Waiting) (m n : Marked) → Fits w (Leave student course) → IsTrue (list_all (entry_fits w) es) → OthersHaveNoMove w es m → MarksMore (concerns (Some student) None) es m n
-      → OthersBut (leave w student course) es n o
-  left-but es m n fits fit others marks = record {
-    others = λ e a u none.
-        changes-open w e (Leave student course) k fits (all-at (entry_fits w) es fit e (member es e a)) (leave-concerns w student course e k (unwanted e (unlike e a u) none)) (others e a (marks.kept e u));
-    blocked = λ e a u give. inr (record { before = w; same = refl; since = leave-since e (unlike e a u); none = others e a (marks.kept e u) });
+  pub left-but : (es : List Waiting) (m l n : Marked) → Fits w (Leave student course) → IsTrue (list_all (entry_fits w) es) → OthersNeedNoSearch w es m → MarksMore (concerns (Some student) None) es m l
+      → MarksMore (is_noted_in l.spent (offering_of w course)) es l n → OthersBut (leave w student course) es n o
+  left-but es m l n fits fit others own noted = record {
+    others = λ e a u none. stays e a (unwanted e (unlike e a u) none) (old e a u);
+    blocked = λ e a u give. by_old e a u (old e a u);
   }
     where
+      kept : MarksKept m n
+      kept = both-kept m l n own.kept noted.kept
+
       unlike : (e : Waiting) → Among es e → is_marked n e ≡ false → student.0 == e.student.0 ≡ false
-      unlike e a u = neither-left (student.0 == e.student.0) false (marks.added e a u)
+      unlike e a u = neither-left (student.0 == e.student.0) false (own.added e a (noted.kept.marks e u))
+
+      old : (e : Waiting) → Among es e → is_marked n e ≡ false → Needless w (is_noted m.spent e) e
+      old e a u = others e a (kept.marks e u)
+
+      stays : (e : Waiting) → Among es e → concerns (Some student) (offering_of w course) e ≡ false → Needless w (is_noted m.spent e) e → Needless (leave w student course) (is_noted n.spent e) e
+      stays e a away h =
+          same-notes (leave w student course) e m n kept
+          (needless-stays w e (is_noted m.spent e) (Leave student course) k fits (all-at (entry_fits w) es fit e (member es e a))
+          (plain-need w e (is_noted m.spent e) (Leave student course) refl (leave-concerns w student course e k away)) h)
+
+      -- who is noted as spent and isn't marked wants no course of the offering
+      elsewhere : (e : Waiting) → Among es e → is_marked n e ≡ false → is_noted m.spent e ≡ true → concerns (Some student) (offering_of w course) e ≡ false
+      elsewhere e a u has =
+          neither (student.0 == e.student.0) _ (unlike e a u)
+          (sym (λ i. has i && concerns None (offering_of w course) e) ∙ (λ i. is_noted (sym own.kept.spent i) e && concerns None (offering_of w course) e) ∙ noted.added e a u)
+
+      by_old : (e : Waiting) → Among es e → is_marked n e ≡ false → Needless w (is_noted m.spent e) e → Needless (leave w student course) (is_noted n.spent e) e ⊎ WasBlocked (leave w student course) o e
+      by_old e a u (inl none) = inr (record { before = w; same = refl; since = leave-since e (unlike e a u); none = none })
+      by_old e a u (inr h) = inl (stays e a (elsewhere e a u h.0) (inr h))
 
 -- ---- an enrolment whose reservation lists nothing else
 
@@ -269,23 +290,24 @@ enrol-blocked w o e x k fits unlike none b = record {
 }
 
 pub enrolled-but : (w : World) (es : List Waiting) (m n : Marked) (o : Opened) (x : Enrolment) → KeptWorld w → Fits w (Enrol x) → IsTrue (list_all (entry_fits w) es) → OthersBut w es m o
-    → MarksMore (λ e. may_open w e (Enrol x)) es m n → (frees_some w x.choice ≡ true → o.courses.items ≡ []) → OthersBut (changed w (Enrol x)) es n o
+    → MarksMore (λ e. may_need w (is_noted m.spent e) e (Enrol x)) es m n → (frees_some w x.choice ≡ true → o.courses.items ≡ []) → OthersBut (changed w (Enrol x)) es n o
 enrolled-but w es m n o x k fits fit but marks freed = record {
-  others = λ e a u none. stays e a u (but.others e a (marks.kept e u) none);
-  blocked = λ e a u give. by_free e a u (decide (frees_some w x.choice)) (but.blocked e a (marks.kept e u) give);
+  others = λ e a u none. stays e a u (but.others e a (marks.kept.marks e u) none);
+  blocked = λ e a u give. by_free e a u (decide (frees_some w x.choice)) (but.blocked e a (marks.kept.marks e u) give);
 }
   where
-    stays : (e : Waiting) → Among es e → is_marked n e ≡ false → NoMove w e → NoMove (changed w (Enrol x)) e
-    stays e a u none = changes-open w e (Enrol x) k fits (all-at (entry_fits w) es fit e (member es e a)) (marks.added e a u) none
+    stays : (e : Waiting) → Among es e → is_marked n e ≡ false → Needless w (is_noted m.spent e) e → Needless (changed w (Enrol x)) (is_noted n.spent e) e
+    stays e a u none =
+        same-notes (changed w (Enrol x)) e m n marks.kept (needless-stays w e (is_noted m.spent e) (Enrol x) k fits (all-at (entry_fits w) es fit e (member es e a)) (marks.added e a u) none)
 
-    by_free : (e : Waiting) → Among es e → is_marked n e ≡ false → (frees_some w x.choice ≡ true) ⊎ (frees_some w x.choice ≡ false) → NoMove w e ⊎ WasBlocked w o e
-        → NoMove (changed w (Enrol x)) e ⊎ WasBlocked (changed w (Enrol x)) o e
+    by_free : (e : Waiting) → Among es e → is_marked n e ≡ false → (frees_some w x.choice ≡ true) ⊎ (frees_some w x.choice ≡ false) → Needless w (is_noted m.spent e) e ⊎ WasBlocked w o e
+        → Needless (changed w (Enrol x)) (is_noted n.spent e) e ⊎ WasBlocked (changed w (Enrol x)) o e
     by_free e a u free (inl none) = inl (stays e a u none)
-    by_free e a u (inl t) (inr b) = inl (stays e a u (but.others e a (marks.kept e u) (ap (λ cs. wants_one cs e) (freed t))))
-    by_free e a u (inr f) (inr b) = inr (enrol-blocked w o e x k fits (neither-left (x.student.0 == e.student.0) _ (marks.added e a u)) f b)
+    by_free e a u (inl t) (inr b) = inl (stays e a u (but.others e a (marks.kept.marks e u) (ap (λ cs. wants_one cs e) (freed t))))
+    by_free e a u (inr f) (inr b) = inr (enrol-blocked w o e x k fits (neither-left (x.student.0 == e.student.0) _ (neither-left (may_open w e (Enrol x)) _ (marks.added e a u))) f b)
 
 pub enrolled-ok : {A E : Type 0} (w v : World) (es : List Waiting) (m n : Marked) (o : Opened) (x : Enrolment) (r : Result A E) → KeptWorld w → Fits w (Enrol x) → IsTrue (list_all (entry_fits w) es)
-    → OnOk r (v ≡ changed w (Enrol x)) → OthersBut w es m o → MarksMore (λ e. may_open w e (Enrol x)) es m n → (frees_some w x.choice ≡ true → o.courses.items ≡ []) → OnOk r (OthersBut v es n o)
+    → OnOk r (v ≡ changed w (Enrol x)) → OthersBut w es m o → MarksMore (λ e. may_need w (is_noted m.spent e) e (Enrol x)) es m n → (frees_some w x.choice ≡ true → o.courses.items ≡ []) → OnOk r (OthersBut v es n o)
 enrolled-ok w v es m n o x (Ok y) k fits fit is but marks freed = subst (λ u. OthersBut u es n o) (sym is) (enrolled-but w es m n o x k fits fit but marks freed)
 enrolled-ok w v es m n o x (Err y) k fits fit is but marks freed = tt
 
@@ -349,7 +371,7 @@ gives-nothing o e wants none =
 -- where no entry gives a course up, nobody is to be marked
 pub no-givers : (es : List Waiting) (cs : List CourseId) (m : Marked) → list_any (λ e. is_some e.give) es ≡ false → MarksMore (gives_and_wants cs) es m m
 no-givers es cs m none = record {
-  kept = λ e u. u;
+  kept = all-kept m;
   added = λ e a u. none-of (λ (d : CourseId). is_some e.give && list_any (λ c. d.0 == c.0) e.want.courses) cs (λ d n.
       off-and (is_some e.give) (list_any (λ c. d.0 == c.0) e.want.courses) (none-at (λ (e : Waiting). is_some e.give) es none e (member es e a)));
 }
@@ -357,26 +379,26 @@ no-givers es cs m none = record {
 pub shut-but : (w : World) (es : List Waiting) (m n : Marked) (o p : Opened) → KeptWorld w → is_closed_again w o ≡ true → MarksMore (gives_and_wants o.courses.items) es m n → OthersBut w es m o → OthersBut w es n p
 shut-but w es m n o p k closed marks but = record { others = λ e a u none. stays e a u; blocked = λ e a u give. inl (stays e a u) }
   where
-    stays : (e : Waiting) → Among es e → is_marked n e ≡ false → NoMove w e
-    stays e a u = by_want (decide (wants_one o.courses.items e))
+    stays : (e : Waiting) → Among es e → is_marked n e ≡ false → Needless w (is_noted n.spent e) e
+    stays e a u = same-notes w e m n marks.kept (by_want (decide (wants_one o.courses.items e)))
       where
-        by_before : e.give ≡ None → NoMove w e ⊎ WasBlocked w o e → NoMove w e
+        by_before : e.give ≡ None → Needless w (is_noted m.spent e) e ⊎ WasBlocked w o e → Needless w (is_noted m.spent e) e
         by_before give (inl none) = none
-        by_before give (inr b) = closed-none w o e k closed give b
+        by_before give (inr b) = inl (closed-none w o e k closed give b)
 
-        by_want : (wants_one o.courses.items e ≡ true) ⊎ (wants_one o.courses.items e ≡ false) → NoMove w e
-        by_want (inl t) = let give = gives-nothing o e t (marks.added e a u) in by_before give (but.blocked e a (marks.kept e u) give)
-        by_want (inr f) = but.others e a (marks.kept e u) f
+        by_want : (wants_one o.courses.items e ≡ true) ⊎ (wants_one o.courses.items e ≡ false) → Needless w (is_noted m.spent e) e
+        by_want (inl t) = let give = gives-nothing o e t (marks.added e a u) in by_before give (but.blocked e a (marks.kept.marks e u) give)
+        by_want (inr f) = but.others e a (marks.kept.marks e u) f
 
 -- ---- falling back, and none opened
 
-pub all-but : (w : World) (es : List Waiting) (m : Marked) (o : Opened) → OthersHaveNoMove w es m → OthersBut w es m o
+pub all-but : (w : World) (es : List Waiting) (m : Marked) (o : Opened) → OthersNeedNoSearch w es m → OthersBut w es m o
 all-but w es m o others = record { others = λ e a u none. others e a u; blocked = λ e a u give. inl (others e a u) }
 
-pub fallen-back : (w : World) (es : List Waiting) (m n : Marked) (o : Opened) → MarksMore (wants_one o.courses.items) es m n → OthersBut w es m o → OthersHaveNoMove w es n
-fallen-back w es m n o marks but e a u = but.others e a (marks.kept e u) (marks.added e a u)
+pub fallen-back : (w : World) (es : List Waiting) (m n : Marked) (o : Opened) → MarksMore (wants_one o.courses.items) es m n → OthersBut w es m o → OthersNeedNoSearch w es n
+fallen-back w es m n o marks but e a u = same-notes w e m n marks.kept (but.others e a (marks.kept.marks e u) (marks.added e a u))
 
-pub none-but : (w : World) (es : List Waiting) (m : Marked) (o : Opened) → o.courses.items ≡ [] → OthersBut w es m o → OthersHaveNoMove w es m
+pub none-but : (w : World) (es : List Waiting) (m : Marked) (o : Opened) → o.courses.items ≡ [] → OthersBut w es m o → OthersNeedNoSearch w es m
 none-but w es m o none but e a u = but.others e a u (ap (λ cs. wants_one cs e) none)
 
 pub left-others : (w : World) (q p : Queued) (m : Marked) (o : Opened) (ticket : ℕ) → p ≡ left q ticket → OthersBut w q.entries m o → OthersBut w p.entries m o
@@ -386,9 +408,10 @@ left-others w q p m o ticket is but = subst (λ (x : Queued). OthersBut w x.entr
 })
 
 -- the notes of a student's enrolment in the course
-pub noted-all : (w : World) (k : KeptWorld w) (student : StudentId) (course : CourseId) (es : List Waiting) (m n : Marked) (o : Opened) → NotesAll w student course o → Fits w (Leave student course)
-    → IsTrue (list_all (entry_fits w) es) → OthersHaveNoMove w es m → MarksMore (concerns (Some student) None) es m n → OthersBut (leave w student course) es n o
-noted-all w k student course es m n o notes fits fit others marks = left-but w k student course notes.0 notes.1 o notes.2 es m n fits fit others marks
+pub noted-all : (w : World) (k : KeptWorld w) (student : StudentId) (course : CourseId) (es : List Waiting) (m l n : Marked) (o : Opened) → NotesAll w student course o → Fits w (Leave student course)
+    → IsTrue (list_all (entry_fits w) es) → OthersNeedNoSearch w es m → MarksMore (concerns (Some student) None) es m l → MarksMore (is_noted_in l.spent (offering_of w course)) es l n
+    → OthersBut (leave w student course) es n o
+noted-all w k student course es m l n o notes fits fit others own noted = left-but w k student course notes.0 notes.1 o notes.2 es m l n fits fit others own noted
 
 -- the one enrolment of the student in the course is found among those that it holds
 singled : (ys : List Enrolment) (x : Enrolment) → length ys ≡ 1 → Member ys x → ys ≡ x ∷ []

@@ -1,5 +1,5 @@
 -- The tickets of the entries that are sought are listed.
-use Rattle.std.specs.Prelude.{◌≡◌, ℕ, ◌+◌, ◌<◌, Bool, true, false, ◌||◌, ◌&&◌, ◌==◌, List, [], ◌∷◌, ◌++◌, length, take, Some, refl}
+use Rattle.std.specs.Prelude.{◌≡◌, ℕ, ◌+◌, ◌<◌, Bool, false, ◌||◌, ◌&&◌, ◌==◌, List, [], ◌∷◌, ◌++◌, length, take, Some, refl}
 use Rattle.std.specs.List.{list_any}
 use Rattle.std.specs.Option.{is_some}
 use Rattle.std.proofs.Common.{sym, ◌∙◌, ap, get_or}
@@ -12,7 +12,8 @@ use Rattle.sect_wait.specs.declared.opened.Opened.{Opened}
 use Rattle.sect_wait.specs.Indexed.{AreTold, has_ticket}
 use Rattle.sect_wait.specs.Marked.{Marked, is_from, is_source, wants_one}
 use Rattle.sect_wait.specs.Opened.{AreListed, ListsMore, is_sought}
-use Rattle.sect_wait.proofs.MarkLemmas.{neither, off-and}
+use Rattle.sect_wait.proofs.MarkLemmas.{off-and}
+use Rattle.sect_wait.proofs.NeedLemmas.{neither, second-off}
 
 -- these tickets more are listed
 pub lists-told : (test : Waiting → Bool) (es : List Waiting) (told before after : List ℕ) → AreTold test es (Some told) → after ≡ before ++ told → ListsMore test es before after
@@ -33,10 +34,6 @@ lists-more cs i d es before now after few at so_far one = record {
   added = λ e a h. ap (λ xs. wants_one xs e) (take_more cs i d few ∙ ap (λ x. take i cs ++ x ∷ []) (sym at)) ∙ any-append (λ (x : CourseId). list_any (λ c. x.0 == c.0) e.want.courses) (take i cs) (d ∷ [])
       ∙ neither (wants_one (take i cs) e) (list_any (λ c. d.0 == c.0) e.want.courses || false) (so_far.added e a (one.kept e.ticket h)) (neither (list_any (λ c. d.0 == c.0) e.want.courses) false (one.added e a h) refl);
 }
-
-second-off : (a b : Bool) → b ≡ false → a && b ≡ false
-second-off true b h = h
-second-off false b h = refl
 
 -- what is listed: the marked tickets, and those by the courses of three lists
 pub lists-sought : (m : Marked) (o : Opened) (es : List Waiting) (first second third all : List ℕ) → m.all ≡ false → first ≡ [] ++ m.tickets → ListsMore (wants_one m.courses) es first second

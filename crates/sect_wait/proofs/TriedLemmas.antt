@@ -7,31 +7,34 @@ use Rattle.std.proofs.lemmas.Bool.Decides.{nat_tests}
 use Rattle.sect_catalog.proofs.SearchLemmas.{any-append}
 use Rattle.sect_model.specs.declared.held.Waiting.{Waiting}
 use Rattle.sect_model.specs.World.{World, State}
-use Rattle.sect_model.specs.Freer.{Among, NoMove}
+use Rattle.sect_model.specs.Freer.{Among}
 use Rattle.sect_model.specs.Kept.{tickets_rise}
 use Rattle.sect_model.specs.Settle.{first_entry, comes_first, is_placeable}
 use Rattle.sect_model.proofs.Members.{Member, all-at, either, find-member, find-some, member-filter, not_both, not_true}
 use Rattle.sect_model.proofs.FreerLemmas.{among, member}
-use Rattle.sect_model.proofs.FreerSettle.{no-move-unplaced}
 use Rattle.sect_model.proofs.KeptMoves.{first_entry-member}
 use Rattle.sect_model.proofs.SettleLemmas.{next_entry-none}
 use Rattle.sect_model.proofs.SettleSteps.{next-is-first}
 use Rattle.sect_wait.specs.declared.next.Candidate.{Candidate}
+use Rattle.sect_wait.specs.declared.entry.Left.{Left}
 use Rattle.sect_wait.specs.Indexed.{has_ticket}
+use Rattle.sect_wait.specs.Marked.{Needless, is_noted}
 use Rattle.sect_wait.specs.Placing.{IsBest, OthersTried, Tried}
 use Rattle.sect_wait.proofs.MarkLemmas.{among-append, none-left}
+use Rattle.sect_wait.proofs.NeedLemmas.{needless-more, needless-unplaced}
+use Rattle.sect_wait.proofs.NextLemmas.{noted-left}
 use Rattle.sect_wait.proofs.QueueLemmas.{one-entry}
 
 -- no ticket was tried yet
-pub tried-none : (w : World) (es : List Waiting) (left : List ℕ) → Tried w es [] None left
-tried-none w es left = record { tried = []; within = λ e a. absurd a; all = λ e a has. absurd (not_both false has refl); first = refl; others = λ e a unlisted behind. absurd a }
+pub tried-none : (w : World) (es : List Waiting) (spent : List ℕ) (left : Left) → Tried w es [] None spent left
+tried-none w es spent left = record { tried = []; within = λ e a. absurd a; all = λ e a has. absurd (not_both false has refl); first = refl; others = λ e a unlisted behind. absurd a }
 
 -- what holds of all holds of one
 pub each-one : {P : Waiting → Type 0} (es : List Waiting) (e : Waiting) → Member es e → ((f : Waiting) → Among es f → P f) → (f : Waiting) → Among (e ∷ []) f → P f
 each-one es e is_one each f (inl is) = each f (subst (Among es) is (among es e is_one))
 each-one es e is_one each f (inr a) = absurd a
 
-module _ (w : World) (es : List Waiting) (ticket : ℕ) where
+module _ (w : World) (es : List Waiting) (ticket : ℕ) (spent : List ℕ) where
   -- who has one of the tickets, has one of those before, or the last
   one-of : (before : List ℕ) (f : Waiting) → has_ticket f.ticket (before ++ ticket ∷ []) ≡ true → (has_ticket f.ticket before ≡ true) ⊎ (f.ticket ≡ ticket)
   one-of before f has = by_place (either (has_ticket f.ticket before) ((ticket == f.ticket) || false) (sym (any-append (λ t. t == f.ticket) before (ticket ∷ [])) ∙ has))
@@ -45,7 +48,7 @@ module _ (w : World) (es : List Waiting) (ticket : ℕ) where
       by_place (inr h) = inr (by_last (ticket == f.ticket) refl h)
 
   -- no entry has the ticket
-  pub tried-unknown : (best : Option Candidate) (m : List ℕ) → None ≡ find (λ e. e.ticket == ticket) es → (before : List ℕ) → Tried w es before best m → Tried w es (before ++ ticket ∷ []) best m
+  pub tried-unknown : (best : Option Candidate) (m : Left) → None ≡ find (λ e. e.ticket == ticket) es → (before : List ℕ) → Tried w es before best spent m → Tried w es (before ++ ticket ∷ []) best spent m
   tried-unknown best m none before t = record { tried = t.tried; within = t.within; all = λ f a has. by_place f a (one-of before f has); first = t.first; others = t.others }
     where
       by_place : (f : Waiting) → Among es f → (has_ticket f.ticket before ≡ true) ⊎ (f.ticket ≡ ticket) → Among t.tried f
@@ -54,9 +57,9 @@ module _ (w : World) (es : List Waiting) (ticket : ℕ) where
           absurd (not_both (is_some (find (λ e. e.ticket == ticket) es)) (find-some (λ (e : Waiting). e.ticket == ticket) es f (member es f a) (eq-eqb f.ticket ticket same)) (ap is_some (sym none)))
 
   -- the entry of the ticket was tried
-  pub tried-more : (next : ℕ) (e : Waiting) (best new : Option Candidate) (m n : List ℕ) → tickets_rise es next ≡ true → Some e ≡ find (λ e. e.ticket == ticket) es
-      → ((before : List Waiting) → IsBest w before best → IsBest w (before ++ e ∷ []) new) → ((before : List Waiting) → OthersTried w before best m → OthersTried w (before ++ e ∷ []) new n)
-      → (before : List ℕ) → Tried w es before best m → Tried w es (before ++ ticket ∷ []) new n
+  pub tried-more : (next : ℕ) (e : Waiting) (best new : Option Candidate) (m n : Left) → tickets_rise es next ≡ true → Some e ≡ find (λ e. e.ticket == ticket) es
+      → ((before : List Waiting) → IsBest w before best → IsBest w (before ++ e ∷ []) new) → ((before : List Waiting) → OthersTried w before best spent m → OthersTried w (before ++ e ∷ []) new spent n)
+      → (before : List ℕ) → Tried w es before best spent m → Tried w es (before ++ ticket ∷ []) new spent n
   tried-more next e best new m n rise found better others before t = record {
     tried = t.tried ++ e ∷ [];
     within = λ f a. by_list f (among-append t.tried e f a);
@@ -84,23 +87,23 @@ module _ (w : World) (es : List Waiting) (ticket : ℕ) where
       by_place f a (inl h) = behind t.tried f (inl (t.all f a h))
       by_place f a (inr same) = behind t.tried f (inr (one-entry es next rise e f entry.0 (member es f a) (eqb-true e.ticket ticket entry.1 ∙ sym same)))
 
-  pub tried-better : {E : Type 0} (next : ℕ) (e : Waiting) (best : Option Candidate) (m n : List ℕ) (r : Result (Option Candidate) E) → tickets_rise es next ≡ true → Some e ≡ find (λ e. e.ticket == ticket) es
+  pub tried-better : {E : Type 0} (next : ℕ) (e : Waiting) (best : Option Candidate) (m n : Left) (r : Result (Option Candidate) E) → tickets_rise es next ≡ true → Some e ≡ find (λ e. e.ticket == ticket) es
       → IfOk r (λ new. (before : List Waiting) → IsBest w before best → IsBest w (before ++ e ∷ []) (option_or new best))
-      → IfOk r (λ new. (before : List Waiting) → OthersTried w before best m → OthersTried w (before ++ e ∷ []) (option_or new best) n)
-      → IfOk r (λ new. (before : List ℕ) → Tried w es before best m → Tried w es (before ++ ticket ∷ []) (option_or new best) n)
+      → IfOk r (λ new. (before : List Waiting) → OthersTried w before best spent m → OthersTried w (before ++ e ∷ []) (option_or new best) spent n)
+      → IfOk r (λ new. (before : List ℕ) → Tried w es before best spent m → Tried w es (before ++ ticket ∷ []) (option_or new best) spent n)
   tried-better next e best m n (Ok new) rise found better others = tried-more next e best (option_or new best) m n rise found better others
   tried-better next e best m n (Err x) rise found better others = tt
 
 -- ---- all sought tickets were tried
 
-module _ (w : World) (es : List Waiting) (next : ℕ) (tickets : List ℕ) (best : Option Candidate) (left : List ℕ) (rise : tickets_rise es next ≡ true) (t : Tried w es tickets best left)
-    (rest : (e : Waiting) → Among es e → has_ticket e.ticket tickets ≡ false → NoMove w e) where
-  pub tried-others : OthersTried w es best left
+module _ (w : World) (es : List Waiting) (next : ℕ) (tickets : List ℕ) (best : Option Candidate) (spent : List ℕ) (left : Left) (rise : tickets_rise es next ≡ true) (t : Tried w es tickets best spent left)
+    (rest : (e : Waiting) → Among es e → has_ticket e.ticket tickets ≡ false → Needless w (is_noted spent e) e) where
+  pub tried-others : OthersTried w es best spent left
   tried-others e a unlisted before = by_test (has_ticket e.ticket tickets) refl
     where
-      by_test : (b : Bool) → has_ticket e.ticket tickets ≡ b → NoMove w e
+      by_test : (b : Bool) → has_ticket e.ticket tickets ≡ b → Needless w (is_noted spent e || is_noted left.spent.items e) e
       by_test true h = t.others e (t.all e a h) unlisted before
-      by_test false h = rest e a h
+      by_test false h = needless-more w e (is_noted spent e) (is_noted spent e || is_noted left.spent.items e) (noted-left (is_noted spent e) (is_noted left.spent.items e)) (rest e a h)
 
   -- who can be placed was tried
   was-tried : (e : Waiting) → Among es e → is_placeable w e ≡ true → Among t.tried e
@@ -108,7 +111,7 @@ module _ (w : World) (es : List Waiting) (next : ℕ) (tickets : List ℕ) (best
     where
       by_test : (b : Bool) → has_ticket e.ticket tickets ≡ b → Among t.tried e
       by_test true h = t.all e a h
-      by_test false h = absurd (not_both (is_placeable w e) able (no-move-unplaced w e (rest e a h)))
+      by_test false h = absurd (not_both (is_placeable w e) able (needless-unplaced w e (is_noted spent e) (rest e a h)))
 
   abbrev state : List Waiting → State
   state fs = record { world = w; entries = fs; next = next }

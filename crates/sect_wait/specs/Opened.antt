@@ -12,7 +12,7 @@ use Rattle.sect_model.specs.Kept.{KeptWorld}
 use Rattle.sect_model.specs.Freer.{Among, NoMove, is_level, has_room}
 use Rattle.sect_wait.specs.declared.opened.Opened.{Opened}
 use Rattle.sect_wait.specs.Indexed.{has_ticket}
-use Rattle.sect_wait.specs.Marked.{Marked, is_marked, wants_one}
+use Rattle.sect_wait.specs.Marked.{Marked, Needless, is_marked, is_noted, wants_one}
 
 -- a level has a place only where it had one, or was noted as full; likewise unreserved space, and the room of a reservation
 pub record OpensNoMore (before after : World) (o : Opened) (course : CourseId) (row : OfferingRow) : Type 0 where
@@ -34,19 +34,19 @@ pub record WasBlocked (w : World) (o : Opened) (e : Waiting) : Type 0 where
   pub since : OpenedSince before w.roster o e
   pub none : NoMove before e
 
--- each entry that isn't marked and doesn't want what opened has no move, and one that gives up nothing has none or had none
--- before
+-- each entry that isn't marked and doesn't want what opened needs no search, and one that gives up nothing needs none or had
+-- no move before
 pub record OthersBut (w : World) (entries : List Waiting) (m : Marked) (o : Opened) : Type 0 where
-  pub others : (e : Waiting) → Among entries e → is_marked m e ≡ false → wants_one o.courses.items e ≡ false → NoMove w e
-  pub blocked : (e : Waiting) → Among entries e → is_marked m e ≡ false → e.give ≡ None → NoMove w e ⊎ WasBlocked w o e
+  pub others : (e : Waiting) → Among entries e → is_marked m e ≡ false → wants_one o.courses.items e ≡ false → Needless w (is_noted m.spent e) e
+  pub blocked : (e : Waiting) → Among entries e → is_marked m e ≡ false → e.give ≡ None → Needless w (is_noted m.spent e) e ⊎ WasBlocked w o e
 
 -- the entry is marked, or wants what opened
 abbrev pub is_sought : Marked → Opened → Waiting → Bool
 is_sought m o e = is_marked m e || wants_one o.courses.items e
 
--- each entry that isn't sought has no move
-abbrev pub UnsoughtHaveNoMove : World → List Waiting → Marked → Opened → Type 0
-UnsoughtHaveNoMove w entries m o = (e : Waiting) → Among entries e → is_sought m o e ≡ false → NoMove w e
+-- each entry that isn't sought needs no search
+abbrev pub UnsoughtNeedNone : World → List Waiting → Marked → Opened → Type 0
+UnsoughtNeedNone w entries m o = (e : Waiting) → Among entries e → is_sought m o e ≡ false → Needless w (is_noted m.spent e) e
 
 -- the tickets of the entries that pass the test are listed
 abbrev pub AreListed : (Waiting → Bool) → List Waiting → List ℕ → Type 0

@@ -8,12 +8,13 @@ use Rattle.sect_model.specs.declared.held.Placed.{Placed}
 use Rattle.sect_model.specs.declared.held.Enrolment.{Enrolment}
 use Rattle.sect_model.specs.World.{World, enrol, leave_all, holds}
 use Rattle.sect_model.specs.Settle.{first_entry, is_placeable, placement_of}
-use Rattle.sect_model.specs.Freer.{Among, NoMove}
+use Rattle.sect_model.specs.Freer.{Among}
 use Rattle.sect_wait.specs.declared.next.Candidate.{Candidate}
 use Rattle.sect_wait.specs.Indexed.{has_ticket}
+use Rattle.sect_wait.specs.declared.entry.Left.{Left}
 use Rattle.sect_wait.specs.declared.marks.Turn.{Turn}
 use Rattle.sect_wait.specs.declared.opened.Opened.{Opened}
-use Rattle.sect_wait.specs.Marked.{Marked, OthersHaveNoMove, no_marks}
+use Rattle.sect_wait.specs.Marked.{Marked, Needless, OthersNeedNoSearch, is_noted, no_marks}
 use Rattle.sect_wait.specs.Opened.{OthersBut}
 
 -- the candidate of an entry that a choice places
@@ -45,30 +46,38 @@ is_behind best e = option_map_or (λ c. is_before c e) best false
 abbrev pub KeepsListed : List ℕ → List ℕ → Type 0
 KeepsListed before after = (ticket : ℕ) → has_ticket ticket after ≡ false → has_ticket ticket before ≡ false
 
--- each entry whose ticket isn't listed has no move
-abbrev pub UnlistedHaveNoMove : World → List Waiting → List ℕ → Type 0
-UnlistedHaveNoMove w es tickets = (e : Waiting) → Among es e → has_ticket e.ticket tickets ≡ false → NoMove w e
+-- each ticket that was left to be tried again still is, and likewise each that was left as spent
+pub record KeepsLeft (before after : Left) : Type 0 where
+  pub again : KeepsListed before.again.items after.again.items
+  pub spent : KeepsListed before.spent.items after.spent.items
 
--- each entry before the best whose ticket isn't listed has no move
-abbrev pub OthersTried : World → List Waiting → Option Candidate → List ℕ → Type 0
-OthersTried w es best left = (e : Waiting) → Among es e → has_ticket e.ticket left ≡ false → is_behind best e ≡ false → NoMove w e
+-- each entry that isn't left to be tried again needs no search
+abbrev pub RestNeedNone : World → List Waiting → Left → Type 0
+RestNeedNone w es left = (e : Waiting) → Among es e → has_ticket e.ticket left.again.items ≡ false → Needless w (is_noted left.spent.items e) e
+
+-- each entry before the best that isn't left to be tried again needs no search, where these and those left are noted as spent
+abbrev pub OthersTried : World → List Waiting → Option Candidate → List ℕ → Left → Type 0
+OthersTried w es best spent left =
+    (e : Waiting) → Among es e → has_ticket e.ticket left.again.items ≡ false → is_behind best e ≡ false
+    → Needless w (is_noted spent e || is_noted left.spent.items e) e
 
 -- of the entries those were tried that have one of these tickets: this is the first of them that can be placed, and those of
--- them before it that aren't listed have no move
-pub record Tried (w : World) (es : List Waiting) (tickets : List ℕ) (best : Option Candidate) (left : List ℕ) : Type 0 where
+-- them before it that aren't left need no search
+pub record Tried (w : World) (es : List Waiting) (tickets : List ℕ) (best : Option Candidate) (spent : List ℕ) (left : Left) : Type 0 where
   pub tried : List Waiting
   pub within : (e : Waiting) → Among tried e → Among es e
   pub all : (e : Waiting) → Among es e → has_ticket e.ticket tickets ≡ true → Among tried e
   pub first : IsBest w tried best
-  pub others : OthersTried w tried best left
+  pub others : OthersTried w tried best spent left
 
 -- those of one ticket more were tried
-abbrev pub TriesMore : World → List Waiting → ℕ → Option Candidate → List ℕ → Option Candidate → List ℕ → Type 0
-TriesMore w es ticket best left best_now left_now = (before : List ℕ) → Tried w es before best left → Tried w es (before ++ ticket ∷ []) best_now left_now
+abbrev pub TriesMore : World → List Waiting → ℕ → List ℕ → Option Candidate → Left → Option Candidate → Left → Type 0
+TriesMore w es ticket spent best left best_now left_now =
+    (before : List ℕ) → Tried w es before best spent left → Tried w es (before ++ ticket ∷ []) best_now spent left_now
 
 -- what holds of the others once the best was found: where there is none, all were tried
 abbrev pub OthersAfter : World → List Waiting → Option Candidate → Marked → Opened → Type 0
-OthersAfter w es None m o = OthersHaveNoMove w es m
+OthersAfter w es None m o = OthersNeedNoSearch w es m
 OthersAfter w es (Some c) m o = OthersBut w es m o
 
 -- when a candidate's entry is tried
@@ -77,7 +86,7 @@ turn_of c = record { class = c.class; ticket = c.ticket }
 
 -- the marks from the turn of the best on, and none where there is no best
 abbrev pub marks_from : Option Candidate → Marked → Marked
-marks_from None m = no_marks
+marks_from None m = no_marks m.spent
 marks_from (Some c) m = record m { from = Some (turn_of c) }
 
 -- the course that is given up, where the student holds it

@@ -5,7 +5,7 @@ ghost use Rattle.std.specs.Option.{option_map, option_to_list};
 ghost use Rattle.sect_model.specs.World.{holds as is_held};
 ghost use Rattle.sect_model.specs.Kept.{entry_fits};
 ghost use Rattle.sect_model.specs.Settle.{move_of as move_of_entry, placement_of};
-ghost use Rattle.sect_wait.specs.Placing.{KeepsListed, UnlistedHaveNoMove};
+ghost use Rattle.sect_wait.specs.Placing.{KeepsLeft, RestNeedNone};
 
 use sect_base::{Budget, Choice, CourseId, Duplicate, Items, Memory, Move, StudentId};
 use sect_model::{Outcome, Waiting};
@@ -15,31 +15,51 @@ use sect_steps::Steps;
 use std::alloc::Global;
 use std::sync::ledger::Ledger;
 
-/// The choice by which the entry can be placed, None exactly where it can't be. Its ticket is listed unless its search is
-/// blocked: then it has no move.
+/// What a round leaves: the tickets of entries that must be tried again, and of those whose searches were spent.
+#[derive(Drop)]
+pub struct Left {
+    pub again: Vec<u64>,
+    pub spent: Vec<u64>,
+}
+
+impl Left {
+    /// Nothing is left. It takes no memory.
+    pub fn none(alloc: Global) -> Left
+        ensures again { result.again.items ≡ [] }
+        ensures spent { result.spent.items ≡ [] }
+    {
+        Left {
+            again: Vec::new(alloc),
+            spent: Vec::new(alloc),
+        }
+    }
+}
+
+/// The choice by which the entry can be placed, None exactly where it can't be. It is left to be tried again where it can
+/// be placed, and as spent where its search is; else it has no move.
 pub fn placement<L: Ledger>(
     alloc: Global,
     world: &World,
     entry: &Waiting,
-    left: &mut Vec<u64>,
+    left: &mut Left,
     steps: &mut Steps<L>,
 ) -> Result<Option<Choice>, Memory>
     requires { IsTrue (entry_fits world.now.world entry.now) }
     ensures choice { IfOk result (λ found. option_map (λ c. c ∷ []) found ≡ placement_of world.now.world entry.now) }
-    ensures kept { KeepsListed left.old.items left.new.items }
-    ensures others { OnOk result (UnlistedHaveNoMove world.now.world (entry.now ∷ []) left.new.items) }
+    ensures kept { KeepsLeft left.old left.new }
+    ensures others { OnOk result (RestNeedNone world.now.world (entry.now ∷ []) left.new) }
     ensures steps { steps.new ≤ steps.old + 1 }
 {
     world.is_kept();
     let mv = move_of(alloc, world, entry)?;
     match search(alloc, world, &mv, budget(), steps)? {
         Outcome::Found(choices, _) => {
-            left.push(entry.ticket)?;
+            left.again.push(entry.ticket)?;
             Ok(choices.as_slice().first().copied())
         }
         Outcome::Blocked(_, _) => Ok(None),
         Outcome::Spent(_) => {
-            left.push(entry.ticket)?;
+            left.spent.push(entry.ticket)?;
             Ok(None)
         }
     }

@@ -5,10 +5,10 @@ ghost use Rattle.std.specs.List.{list_all};
 ghost use Rattle.sect_model.specs.World.{holds as is_held, leave};
 ghost use Rattle.sect_model.specs.Kept.{entry_fits};
 ghost use Rattle.sect_space.specs.Undo.{Since, Undoable};
-ghost use Rattle.sect_wait.specs.Marked.{OthersHaveNoMove};
+ghost use Rattle.sect_wait.specs.Marked.{OthersNeedNoSearch};
 ghost use Rattle.sect_wait.specs.Opened.{NotesAll, OthersBut};
 
-use crate::marking::{mark_leaving, mark_student, offering_of};
+use crate::marking::{mark_leaving, mark_noted, mark_student, offering_of};
 use crate::marks::Marks;
 use crate::noting::note;
 use crate::opened::Opened;
@@ -20,8 +20,9 @@ use sect_model::{Change, Enrolment};
 use sect_space::{Undo, World};
 use std::alloc::Global;
 
-/// The student leaves the course. Its own entries are marked, and what opened for the others is told: settling tries those
-/// as long as that is open. Where memory runs out, world and what is recorded are as before, and some entries are marked.
+/// The student leaves the course. Its own entries are marked, and those that are noted as spent and want a course of its
+/// offering; what opened for the others is told: settling tries those as long as that is open. Where memory runs out, world
+/// and what is recorded are as before, and some entries are marked.
 pub fn leave_course(
     alloc: Global,
     world: &mut World,
@@ -33,7 +34,7 @@ pub fn leave_course(
 ) -> Result<Opened, Memory>
     requires held { IsTrue (is_held world.old.world student course) }
     requires fit { IsTrue (list_all (entry_fits world.old.world) queue.now.queue.entries) }
-    requires others { OthersHaveNoMove world.old.world queue.now.queue.entries marks.old }
+    requires others { OthersNeedNoSearch world.old.world queue.now.queue.entries marks.old }
     requires undoable { Undoable world.old undo.old.backs }
     ensures ok { OnOk result (world.new.world ≡ leave world.old.world student course) }
     ensures others { IfOk result (λ opened. OthersBut world.new.world queue.now.queue.entries marks.new opened) }
@@ -78,7 +79,7 @@ fn leave_noted(
 ) -> Result<Opened, Memory>
     requires held { IsTrue (is_held world.old.world student course) }
     requires fit { IsTrue (list_all (entry_fits world.old.world) queue.now.queue.entries) }
-    requires others { OthersHaveNoMove world.old.world queue.now.queue.entries marks.old }
+    requires others { OthersNeedNoSearch world.old.world queue.now.queue.entries marks.old }
     requires undoable { Undoable world.old undo.old.backs }
     ensures ok { OnOk result (world.new.world ≡ leave world.old.world student course) }
     ensures others { IfOk result (λ opened. OthersBut world.new.world queue.now.queue.entries marks.new opened) }
@@ -88,6 +89,7 @@ fn leave_noted(
     world.is_kept();
     let opened = noted(alloc, world, student, course)?;
     mark_student(queue, Some(student), marks)?;
+    mark_noted(queue, offering_of(world, course), marks)?;
     make(world, Change::Leave(student, course), undo)?;
     Ok(opened)
 }

@@ -21,7 +21,7 @@ mod undo;
 
 pub use back::QueueBack;
 pub use leaving::leave_course;
-pub use marking::{mark, mark_enrolment, mark_leaving, mark_ticket};
+pub use marking::{mark, mark_enrolment, mark_leaving, mark_noted, mark_ticket};
 pub use marks::Marks;
 pub use opened::Opened;
 pub use queue::Queue;

@@ -1,38 +1,41 @@
 // Which entries a change marks: those that it may give a move.
 
 ghost use Rattle.std.specs.Prelude.{◌≡◌, ◌==◌, [], ◌∷◌, List, cond, None as Nobody, Some as Told, OnErr, OnOk, option_copied};
-ghost use Rattle.std.specs.List.{list_all};
+ghost use Rattle.std.specs.List.{list_all, list_any};
 ghost use Rattle.std.specs.Option.{is_some};
-ghost use Rattle.sect_catalog.specs.Catalogue.{places as places_of};
+ghost use Rattle.sect_catalog.specs.Catalogue.{has_course as has_course_in, places as places_of};
 ghost use Rattle.sect_model.specs.declared.held.Waiting.{Waiting as Entry};
 ghost use Rattle.sect_model.specs.Choice.{lists_section as is_among};
 ghost use Rattle.sect_model.specs.World.{offering_of as row_of};
-ghost use Rattle.sect_model.specs.Freer.{frees_some, lists_only as is_listing_only, may_open};
+ghost use Rattle.sect_model.specs.Freer.{Among, frees_some, lists_only as is_listing_only, may_open};
 ghost use Rattle.sect_model.specs.declared.change.Change.TheVariants.{Enrol, Leave};
-ghost use Rattle.sect_wait.specs.Marked.{MarksMore, concerns as is_concerned, wants_some};
+ghost use Rattle.sect_wait.specs.Marked.{MarksMore, NotesMore, concerns as is_concerned, is_noted, is_noted_in, may_need, wants_some};
 ghost use Rattle.sect_wait.specs.Indexed.{MarksTold};
 
 use crate::marks::Marks;
 use crate::queue::Queue;
 use sect_base::{Choice, ConfigId, CourseId, Limit, Memory, SectionId, StudentId};
 use sect_catalog::{CourseRow, OfferingRow};
-use sect_model::Enrolment;
+use sect_model::{Enrolment, Waiting};
 use sect_reserve::{Place, Reservation, active};
 use sect_space::World;
 
 /// Marks the entries that the enrolment may give a move: those of its student, and where it frees a place by its
-/// reservation, those that want a course of its offering. Where memory runs out, some of them are marked.
+/// reservation, those that want a course of its offering; and those that are noted as spent and want one of its offering.
+/// Where memory runs out, some of them are marked.
 pub fn mark_enrolment(
     world: &World,
     queue: &Queue,
     enrolment: &Enrolment,
     marks: &mut Marks,
 ) -> Result<(), Memory>
-    ensures { OnOk result (MarksMore (λ e. may_open world.now.world e (Enrol enrolment.now)) queue.now.queue.entries marks.old marks.new) }
+    ensures { OnOk result (MarksMore (λ e. may_need world.now.world (is_noted marks.old.spent e) e (Enrol enrolment.now))
+        queue.now.queue.entries marks.old marks.new) }
 {
     world.is_kept();
     let row = freed(world, &enrolment.choice);
-    mark(queue, Some(enrolment.student), row, marks)
+    mark(queue, Some(enrolment.student), row, marks)?;
+    mark_noted(queue, offering_of(world, enrolment.choice.course), marks)
 }
 
 /// Marks the entries that the student's leaving the course may give a move: those of the student, and those that want a
@@ -95,6 +98,68 @@ fn mark_courses(courses: &[CourseRow], marks: &mut Marks) -> Result<(), Memory>
 {
     for course in courses {
         marks.mark_course(course.id)?;
+    }
+    Ok(())
+}
+
+/// Marks the entries that are noted as spent and want a course of the offering. Where memory runs out, some of them are
+/// marked.
+pub fn mark_noted(queue: &Queue, row: Option<&OfferingRow>, marks: &mut Marks) -> Result<(), Memory>
+    ensures { OnOk result (MarksMore (is_noted_in marks.old.spent (option_copied row.entry)) queue.now.queue.entries marks.old marks.new) }
+{
+    match row {
+        Some(row) => mark_noted_in(queue, row, marks),
+        None => Ok(()),
+    }
+}
+
+/// Marks the entries that are noted as spent and want a course of the offering.
+fn mark_noted_in(queue: &Queue, row: &OfferingRow, marks: &mut Marks) -> Result<(), Memory>
+    ensures { OnOk result (MarksMore (is_noted_in marks.old.spent (Told row.now)) queue.now.queue.entries marks.old marks.new) }
+{
+    for place in 0..marks.spent().len() {
+        let ticket = marks.spent()[place];
+        if is_wanting(queue, ticket, row) {
+            mark_ticket(ticket, marks)?;
+        }
+    }
+    Ok(())
+}
+
+/// Whether the entry of the ticket wants a course of the offering.
+fn is_wanting(queue: &Queue, ticket: u64, row: &OfferingRow) -> bool
+    ensures { (e : Entry) → Among queue.now.queue.entries e → e.ticket ≡ ticket → result ≡ list_any (has_course_in row.now) e.want.courses }
+{
+    queue.is_kept();
+    match queue.entry(ticket) {
+        Some(entry) => wants(entry, row),
+        None => false,
+    }
+}
+
+/// Whether the entry wants a course of the offering.
+fn wants(entry: &Waiting, row: &OfferingRow) -> bool
+    ensures { result ≡ list_any (has_course_in row.now) entry.now.want.courses }
+{
+    let courses = entry.want.courses.as_slice();
+    courses.iter().any(|course| has_course(row, *course))
+}
+
+/// Whether the offering has the course.
+fn has_course(row: &OfferingRow, course: CourseId) -> bool
+    ensures { result ≡ has_course_in row.now course }
+{
+    row.courses.as_slice().iter().any(|own| own.id == course)
+}
+
+/// Notes the tickets as spent where they aren't yet. Where memory runs out, some of them are noted.
+pub(crate) fn note_each(tickets: &[u64], marks: &mut Marks) -> Result<(), Memory>
+    ensures { OnOk result (NotesMore tickets.now marks.old marks.new) }
+{
+    for ticket in tickets {
+        if !marks.has_spent(*ticket) {
+            marks.note(*ticket)?;
+        }
     }
     Ok(())
 }

@@ -19,7 +19,8 @@ pub struct Turn {
 }
 
 /// The entries that must be tried: by their tickets, which are found by a set, by a course that they want, or all of them.
-/// Those that aren't marked by their tickets need not be tried before a turn.
+/// Those that aren't marked by their tickets need not be tried before a turn. The tickets of entries whose searches were
+/// spent are noted beside: these need no other search until a change touches them.
 #[derive(Drop)]
 pub struct Marks {
     all: bool,
@@ -28,6 +29,7 @@ pub struct Marks {
     courses: Courses,
     givers: Courses,
     from: Option<Turn>,
+    spent: Vec<u64>,
 }
 
 impl Model for Marks {
@@ -35,15 +37,15 @@ impl Model for Marks {
 
     ghost Value = { Marked };
 
-    ghost view = { λ m. record { all = m.all; tickets = m.tickets.items; courses = m.courses; givers = m.givers; from = m.from } };
+    ghost view = { λ m. record { all = m.all; tickets = m.tickets.items; courses = m.courses; givers = m.givers; from = m.from; spent = m.spent.items } };
 
     ghost invariant = { λ m. IsSetOf m.tickets.items m.set };
 }
 
 impl Marks {
-    /// Nobody is marked. It takes no memory.
+    /// Nobody is marked, and nobody is noted as spent. It takes no memory.
     pub fn none(alloc: Global) -> Marks
-        ensures { result ≡ no_marks }
+        ensures { result ≡ no_marks [] }
     {
         Marks {
             all: false,
@@ -52,13 +54,14 @@ impl Marks {
             courses: Courses::none(alloc),
             givers: Courses::none(alloc),
             from: None,
+            spent: Vec::new(alloc),
         }
     }
 
-    /// Whether nobody is marked. It takes no memory.
+    /// Whether nobody is marked, whoever is noted as spent. It takes no memory.
     pub fn is_none(&self) -> bool
-        ensures none { IsTrue result → self.now ≡ no_marks }
-        ensures only { self.now ≡ no_marks → IsTrue result }
+        ensures none { IsTrue result → self.now ≡ no_marks self.now.spent }
+        ensures only { self.now ≡ no_marks self.now.spent → IsTrue result }
     {
         !self.all
             && self.tickets.is_empty()
@@ -116,6 +119,41 @@ impl Marks {
         ensures { result.now ≡ self.now.givers }
     {
         self.givers.as_slice()
+    }
+
+    /// The tickets that are noted as spent. It takes no memory.
+    pub fn spent(&self) -> &[u64]
+        ensures { result.now ≡ self.now.spent }
+    {
+        self.spent.as_slice()
+    }
+
+    /// Whether the ticket is noted as spent. It takes no memory.
+    pub fn has_spent(&self, ticket: u64) -> bool
+        ensures { result ≡ list_any (λ t. t == ticket) self.now.spent }
+    {
+        self.spent.iter().any(|other| *other == ticket)
+    }
+
+    /// Notes a ticket as spent.
+    pub fn note(&mut self, ticket: u64) -> Result<(), Memory>
+        ensures ok { OnOk result (self.new ≡ record self.old { spent = self.old.spent ++ ticket ∷ [] }) }
+        ensures err { OnErr result (self.new ≡ self.old) }
+    {
+        self.spent.push(ticket)?;
+        Ok(())
+    }
+
+    /// Takes all marks off. What is noted as spent stays. It takes no memory.
+    pub fn clear(&mut self, alloc: Global)
+        ensures { self.new ≡ no_marks self.old.spent }
+    {
+        self.all = false;
+        self.tickets.clear();
+        self.set = BTreeSet::new(alloc);
+        self.courses = Courses::none(alloc);
+        self.givers = Courses::none(alloc);
+        self.from = None;
     }
 
     /// Marks a ticket.

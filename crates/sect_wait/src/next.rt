@@ -5,11 +5,11 @@ ghost use Rattle.std.specs.List.{list_all};
 ghost use Rattle.std.specs.Option.{option_or};
 ghost use Rattle.sect_model.specs.declared.held.Waiting.{Waiting as Entry};
 ghost use Rattle.sect_model.specs.Kept.{entry_fits};
-ghost use Rattle.sect_wait.specs.Opened.{AreListed, OthersBut, UnsoughtHaveNoMove, is_sought};
+ghost use Rattle.sect_wait.specs.Opened.{AreListed, OthersBut, UnsoughtNeedNone, is_sought};
 ghost use Rattle.sect_wait.specs.Placing.{IsBest, OthersAfter, OthersTried, TriesMore, candidate_of, is_before as comes_before, is_behind as is_best_before, marks_from, turn_of as turn_of_candidate};
 
-use crate::entry::placement;
-use crate::marking::mark_each;
+use crate::entry::{Left, placement};
+use crate::marking::{mark_each, note_each};
 use crate::marks::{Marks, Turn};
 use crate::opened::Opened;
 use crate::queue::Queue;
@@ -32,7 +32,8 @@ pub struct Candidate {
 }
 
 /// The first of the entries, by class and then by ticket, that can be placed. None exactly where none can be. Only entries
-/// are searched that are marked or want what opened; the marks of those that are blocked are taken off.
+/// are searched that are marked or want what opened; the marks of those that are blocked or spent are taken
+/// off, and these are noted as spent.
 pub fn next<L: Ledger>(
     alloc: Global,
     world: &World,
@@ -47,10 +48,11 @@ pub fn next<L: Ledger>(
     ensures others { IfOk result (λ best. OthersAfter world.now.world queue.now.queue.entries best marks.new opened.now) }
     ensures steps { steps.new ≤ steps.old + length queue.now.queue.entries }
 {
-    let mut left = Vec::new(alloc);
+    let mut left = Left::none(alloc);
     let best = first(alloc, world, queue, marks, opened, &mut left, steps)?;
     pass(alloc, &best, marks);
-    mark_each(left.as_slice(), marks)?;
+    note_each(left.spent.as_slice(), marks)?;
+    mark_each(left.again.as_slice(), marks)?;
     Ok(best)
 }
 
@@ -60,7 +62,7 @@ fn pass(alloc: Global, best: &Option<Candidate>, marks: &mut Marks)
 {
     match best {
         Some(candidate) => marks.pass(turn_of(candidate)),
-        None => *marks = Marks::none(alloc),
+        None => marks.clear(alloc),
     }
 }
 
@@ -72,14 +74,13 @@ fn first<L: Ledger>(
     queue: &Queue,
     marks: &Marks,
     opened: &Opened,
-    left: &mut Vec<u64>,
+    left: &mut Left,
     steps: &mut Steps<L>,
 ) -> Result<Option<Candidate>, Memory>
     requires fit { IsTrue (list_all (entry_fits world.now.world) queue.now.queue.entries) }
-    requires others { UnsoughtHaveNoMove world.now.world queue.now.queue.entries marks.now opened.now }
-    requires none { left.old.items ≡ [] }
+    requires others { UnsoughtNeedNone world.now.world queue.now.queue.entries marks.now opened.now }
     ensures best { IfOk result (λ best. IsBest world.now.world queue.now.queue.entries best) }
-    ensures others { IfOk result (λ best. OthersTried world.now.world queue.now.queue.entries best left.new.items) }
+    ensures others { IfOk result (λ best. OthersTried world.now.world queue.now.queue.entries best marks.now.spent left.new) }
     ensures steps { steps.new ≤ steps.old + length queue.now.queue.entries }
 {
     match sought(alloc, queue, marks, opened)? {
@@ -105,15 +106,14 @@ fn best_of_sought<L: Ledger>(
     tickets: &[u64],
     marks: &Marks,
     opened: &Opened,
-    left: &mut Vec<u64>,
+    left: &mut Left,
     steps: &mut Steps<L>,
 ) -> Result<Option<Candidate>, Memory>
     requires fit { IsTrue (list_all (entry_fits world.now.world) queue.now.queue.entries) }
-    requires others { UnsoughtHaveNoMove world.now.world queue.now.queue.entries marks.now opened.now }
+    requires others { UnsoughtNeedNone world.now.world queue.now.queue.entries marks.now opened.now }
     requires all { AreListed (is_sought marks.now opened.now) queue.now.queue.entries tickets.now }
-    requires none { left.old.items ≡ [] }
     ensures best { IfOk result (λ best. IsBest world.now.world queue.now.queue.entries best) }
-    ensures others { IfOk result (λ best. OthersTried world.now.world queue.now.queue.entries best left.new.items) }
+    ensures others { IfOk result (λ best. OthersTried world.now.world queue.now.queue.entries best marks.now.spent left.new) }
     ensures steps { steps.new ≤ steps.old + length tickets.now }
 {
     queue.is_kept();
@@ -137,13 +137,13 @@ fn better_by<L: Ledger>(
     ticket: u64,
     marks: &Marks,
     opened: &Opened,
-    left: &mut Vec<u64>,
+    left: &mut Left,
     steps: &mut Steps<L>,
 ) -> Result<Option<Candidate>, Memory>
     requires fit { IsTrue (list_all (entry_fits world.now.world) queue.now.queue.entries) }
-    requires others { UnsoughtHaveNoMove world.now.world queue.now.queue.entries marks.now opened.now }
-    ensures tried { IfOk result (λ new. TriesMore world.now.world queue.now.queue.entries ticket best.now left.old.items
-        (option_or new best.now) left.new.items) }
+    requires others { UnsoughtNeedNone world.now.world queue.now.queue.entries marks.now opened.now }
+    ensures tried { IfOk result (λ new. TriesMore world.now.world queue.now.queue.entries ticket marks.now.spent best.now left.old
+        (option_or new best.now) left.new) }
     ensures steps { steps.new ≤ steps.old + 1 }
 {
     queue.is_kept();
@@ -160,14 +160,13 @@ fn best_of<L: Ledger>(
     entries: &[Waiting],
     marks: &Marks,
     opened: &Opened,
-    left: &mut Vec<u64>,
+    left: &mut Left,
     steps: &mut Steps<L>,
 ) -> Result<Option<Candidate>, Memory>
     requires fit { IsTrue (list_all (entry_fits world.now.world) entries.now) }
-    requires others { UnsoughtHaveNoMove world.now.world entries.now marks.now opened.now }
-    requires none { left.old.items ≡ [] }
+    requires others { UnsoughtNeedNone world.now.world entries.now marks.now opened.now }
     ensures best { IfOk result (λ best. IsBest world.now.world entries.now best) }
-    ensures others { IfOk result (λ best. OthersTried world.now.world entries.now best left.new.items) }
+    ensures others { IfOk result (λ best. OthersTried world.now.world entries.now best marks.now.spent left.new) }
     ensures steps { steps.new ≤ steps.old + length entries.now }
 {
     let mut best = None;
@@ -178,7 +177,8 @@ fn best_of<L: Ledger>(
 }
 
 /// The entry with the choice that its search finds, where it comes before the best so far, and None where that stays. The
-/// entry is searched only where it would come before and is sought. It must be tried again unless its search is blocked.
+/// entry is searched only where it would come before and is sought. It must be tried again unless its search is blocked or
+/// spent.
 fn better<L: Ledger>(
     alloc: Global,
     world: &World,
@@ -186,15 +186,15 @@ fn better<L: Ledger>(
     entry: &Waiting,
     marks: &Marks,
     opened: &Opened,
-    left: &mut Vec<u64>,
+    left: &mut Left,
     steps: &mut Steps<L>,
 ) -> Result<Option<Candidate>, Memory>
     requires fits { IsTrue (entry_fits world.now.world entry.now) }
-    requires others { UnsoughtHaveNoMove world.now.world (entry.now ∷ []) marks.now opened.now }
+    requires others { UnsoughtNeedNone world.now.world (entry.now ∷ []) marks.now opened.now }
     ensures best { IfOk result (λ new. (before : List Entry) → IsBest world.now.world before best.now
         → IsBest world.now.world (before ++ entry.now ∷ []) (option_or new best.now)) }
-    ensures others { IfOk result (λ new. (before : List Entry) → OthersTried world.now.world before best.now left.old.items
-        → OthersTried world.now.world (before ++ entry.now ∷ []) (option_or new best.now) left.new.items) }
+    ensures others { IfOk result (λ new. (before : List Entry) → OthersTried world.now.world before best.now marks.now.spent left.old
+        → OthersTried world.now.world (before ++ entry.now ∷ []) (option_or new best.now) marks.now.spent left.new) }
     ensures steps { steps.new ≤ steps.old + 1 }
 {
     if is_behind(best, entry) {

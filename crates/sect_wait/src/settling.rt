@@ -5,7 +5,7 @@ ghost use Rattle.std.specs.List.{list_all};
 ghost use Rattle.sect_model.specs.Kept.{entry_fits};
 ghost use Rattle.sect_model.specs.Settle.{settle as settled, is_settled};
 ghost use Rattle.sect_space.specs.Undo.{Since, Undoable};
-ghost use Rattle.sect_wait.specs.Marked.{OthersHaveNoMove, no_marks};
+ghost use Rattle.sect_wait.specs.Marked.{OthersNeedNoSearch, no_marks};
 ghost use Rattle.sect_wait.specs.Opened.{OthersBut};
 ghost use Rattle.sect_wait.specs.Queued.{state_of};
 ghost use Rattle.sect_wait.specs.Undo.{Since as QueueSince, Undoable as QueueUndoable};
@@ -37,14 +37,14 @@ pub fn settle<L: Ledger>(
     steps: &mut Steps<L>,
 ) -> Result<Items<Placed>, Memory>
     requires fit { IsTrue (list_all (entry_fits world.old.world) queue.old.queue.entries) }
-    requires others { OthersHaveNoMove world.old.world queue.old.queue.entries marks.old }
+    requires others { OthersNeedNoSearch world.old.world queue.old.queue.entries marks.old }
     requires undoable { Undoable world.old undo.old.backs }
     requires queue_undoable { QueueUndoable queue.old left.old }
     ensures settled { IfOk result (λ placed. settled (state_of world.old.world queue.old.queue)
         ≡ record { state = state_of world.new.world queue.new.queue; placed = placed }) }
     ensures nobody_left { OnOk result (IsTrue (is_settled (state_of world.new.world queue.new.queue))) }
-    ensures others { OthersHaveNoMove world.new.world queue.new.queue.entries marks.new }
-    ensures unmarked { marks.old ≡ no_marks → steps.new ≡ steps.old }
+    ensures others { OthersNeedNoSearch world.new.world queue.new.queue.entries marks.new }
+    ensures unmarked { marks.old ≡ no_marks marks.old.spent → steps.new ≡ steps.old }
     ensures steps { IfOk result (λ placed. steps.new ≤ steps.old + (length placed + 1) * length queue.old.queue.entries) }
     ensures err { OnErr result (world.new.world ≡ world.old.world) }
     ensures queue_err { OnErr result (queue.new.queue ≡ queue.old.queue) }
@@ -79,8 +79,8 @@ pub fn settle_opened<L: Ledger>(
     ensures settled { IfOk result (λ placed. settled (state_of world.old.world queue.old.queue)
         ≡ record { state = state_of world.new.world queue.new.queue; placed = placed }) }
     ensures nobody_left { OnOk result (IsTrue (is_settled (state_of world.new.world queue.new.queue))) }
-    ensures others { OthersHaveNoMove world.new.world queue.new.queue.entries marks.new }
-    ensures unmarked { marks.old ≡ no_marks → opened.old.courses.items ≡ [] → steps.new ≡ steps.old }
+    ensures others { OthersNeedNoSearch world.new.world queue.new.queue.entries marks.new }
+    ensures unmarked { marks.old ≡ no_marks marks.old.spent → opened.old.courses.items ≡ [] → steps.new ≡ steps.old }
     ensures steps { IfOk result (λ placed. steps.new ≤ steps.old + (length placed + 1) * length queue.old.queue.entries) }
     ensures err { OnErr result (world.new.world ≡ world.old.world) }
     ensures queue_err { OnErr result (queue.new.queue ≡ queue.old.queue) }
@@ -108,9 +108,9 @@ pub fn settle_opened<L: Ledger>(
 
 /// Whether nobody must be tried.
 fn is_idle(marks: &Marks, opened: &Opened) -> bool
-    ensures none { IsTrue result → marks.now ≡ no_marks }
+    ensures none { IsTrue result → marks.now ≡ no_marks marks.now.spent }
     ensures closed { IsTrue result → opened.now.courses.items ≡ [] }
-    ensures only { marks.now ≡ no_marks → opened.now.courses.items ≡ [] → IsTrue result }
+    ensures only { marks.now ≡ no_marks marks.now.spent → opened.now.courses.items ≡ [] → IsTrue result }
 {
     marks.is_none() && opened.courses.is_empty()
 }
@@ -132,7 +132,7 @@ fn place_all<L: Ledger>(
     requires queue_undoable { QueueUndoable queue.old left.old }
     ensures settled { IfOk result (λ placed. settled (state_of world.old.world queue.old.queue)
         ≡ record { state = state_of world.new.world queue.new.queue; placed = placed }) }
-    ensures others { OnOk result (OthersHaveNoMove world.new.world queue.new.queue.entries marks.new) }
+    ensures others { OnOk result (OthersNeedNoSearch world.new.world queue.new.queue.entries marks.new) }
     ensures steps { IfOk result (λ placed. steps.new ≤ steps.old + (length placed + 1) * length queue.old.queue.entries) }
     ensures since { Since world.old.world undo.old.backs world.new.world undo.new.backs }
     ensures queue_since { QueueSince queue.old.queue left.old queue.new.queue left.new }

@@ -13,5 +13,5 @@ returns-in-Waiting c =
     let m = c.args.marks.now in
     let n = c.mark_ticket.new.marks in
     let r = c.mark_ticket.result in
-    subst (λ (x : LineResult). OnOk r (MarksMore (result_opens c.args.world.now.world c.args.line.now.student x) es m n)) (sym c.in-Waiting.is)
+    subst (λ (x : LineResult). OnOk r (MarksMore (result_opens c.args.world.now.world c.args.marks.now.spent c.args.line.now.student x) es m n)) (sym c.in-Waiting.is)
     (on-ok r (ticket-marks c.in-Waiting.ticket es m n) c.mark_ticket.ensures.told)

@@ -13,5 +13,6 @@ loop-line-preserved c =
     let es = c.args.queue.now.queue.entries in
     let k = c.loop-line.marks in
     let n = c.mark_line.new.marks in
-    each-marked (λ (d : Line) (e : Waiting). result_opens w d.student d.result e) c.args.lines.now c.loop-line.line-index c.line-item.result es c.args.marks.now k n
-    c.loop-line-test.true c.loop-line.invariant (subst (λ (d : Line). MarksMore (result_opens w d.student d.result) es k n) c.line-item.is c.in_ok-mark_line.ensures)
+    each-marked (λ (d : Line) (e : Waiting). result_opens w c.args.marks.now.spent d.student d.result e) c.args.lines.now c.loop-line.line-index c.line-item.result es c.args.marks.now k n
+    c.loop-line-test.true c.loop-line.invariant (subst (λ (d : Line). MarksMore (result_opens w c.args.marks.now.spent d.student d.result) es k n) c.line-item.is
+    (subst (λ ts. MarksMore (result_opens w ts c.line-item.result.student c.line-item.result.result) es k n) c.loop-line.invariant.kept.spent c.in_ok-mark_line.ensures))

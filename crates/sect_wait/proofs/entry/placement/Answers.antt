@@ -5,7 +5,7 @@ use Rattle.std.specs.Option.{option_map}
 use Rattle.sect_base.specs.declared.choice.Choice.{Choice}
 use Rattle.sect_model.specs.Outcome.{outcome_of}
 use Rattle.sect_model.specs.Settle.{move_of}
-use Rattle.sect_wait.proofs.MarkLemmas.{blocked-unlisted}
+use Rattle.sect_wait.proofs.MarkLemmas.{blocked-rest, spent-rest}
 use Rattle.sect_wait.proofs.NextLemmas.{found-choice}
 use Rattle.sect_wait.proofs.entry.placement.Goals as goal
 
@@ -22,4 +22,11 @@ returns-in-Blocked-clause-others g c =
     let w = c.args.world.now.world in
     let e = c.args.entry.now in
     let outcome : c.in_ok-choices.field-0 ≡ outcome_of w (move_of w e) 2000 = c.in_ok-choices.ensures.outcome ∙ (λ i. outcome_of w (c.in_ok-mv.ensures i) (c.budget.ensures i)) in
-    blocked-unlisted w e c.args.left.now.items c.in_ok-choices.field-0 c.in-Blocked.field-0 c.in-Blocked.field-1 c.is_kept.ensures c.requires outcome c.in-Blocked.is
+    blocked-rest w e c.args.left.now c.in_ok-choices.field-0 c.in-Blocked.field-0 c.in-Blocked.field-1 c.is_kept.ensures c.requires outcome c.in-Blocked.is
+
+pub returns-clause-others : goal.returns-clause-others
+returns-clause-others g c =
+    let w = c.args.world.now.world in
+    let e = c.args.entry.now in
+    let outcome : c.in_ok-choices.field-0 ≡ outcome_of w (move_of w e) 2000 = c.in_ok-choices.ensures.outcome ∙ (λ i. outcome_of w (c.in_ok-mv.ensures i) (c.budget.ensures i)) in
+    spent-rest w e (record { again = c.args.left.now.again; spent = c.push-in-Spent.new.self }) c.args.left.now.spent.items c.in_ok-choices.field-0 c.in-Spent.field-0 c.in_ok-push-in-Spent.ensures.items outcome c.in-Spent.is

@@ -1,6 +1,8 @@
 -- Where nobody waits for the offering, what the leaving may open is marked.
 use Rattle.sect_model.specs.declared.change.Change.TheVariants.{Leave}
 use Rattle.sect_wait.proofs.MarkLemmas.{changed-others}
+use Rattle.std.proofs.Common.{refl}
+use Rattle.sect_wait.proofs.NeedLemmas.{plain-marks}
 use Rattle.sect_wait.proofs.OpenedLemmas.{all-but}
 use Rattle.sect_wait.proofs.leaving.leave_course.Goals as goal
 
@@ -11,4 +13,4 @@ returns-in_ok-make-clause-others c =
     let es = c.args.queue.now.queue.entries in
     all-but v es c.mark_leaving.new.marks c.none.result
     (changed-others w v es c.args.marks.now c.mark_leaving.new.marks (Leave c.args.student c.args.course) c.is_kept.ensures c.requires.held c.requires.fit c.in_ok-make.ensures.ok c.requires.others
-    c.in_ok-mark_leaving.ensures)
+    (plain-marks w es c.args.marks.now c.mark_leaving.new.marks (Leave c.args.student c.args.course) (λ e. refl) c.in_ok-mark_leaving.ensures))

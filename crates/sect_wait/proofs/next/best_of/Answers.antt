@@ -18,8 +18,8 @@ loop-entry-preserved g c =
     let more = take_more es i c.entry-item.result c.loop-entry-test.true ∙ ap (λ e. before ++ e ∷ []) (sym c.entry-item.is) in
     let new = option_or c.in_ok-better.field-0 c.loop-entry.best in
     let best : IsBest w (before ++ c.entry-item.result ∷ []) new = c.in_ok-better.ensures.best before c.loop-entry.invariant.0 in
-    let others : OthersTried w (before ++ c.entry-item.result ∷ []) new c.better.new.left.items = c.in_ok-better.ensures.others before c.loop-entry.invariant.1 in (
+    let others : OthersTried w (before ++ c.entry-item.result ∷ []) new c.args.marks.now.spent c.better.new.left = c.in_ok-better.ensures.others before c.loop-entry.invariant.1 in (
       subst (λ o. IsBest w (take (i + 1) es) o) (sym c.or-best.ensures) (subst (λ fs. IsBest w fs new) (sym more) best),
-      subst (λ o. OthersTried w (take (i + 1) es) o c.better.new.left.items) (sym c.or-best.ensures) (subst (λ fs. OthersTried w fs new c.better.new.left.items) (sym more) others),
+      subst (λ o. OthersTried w (take (i + 1) es) o c.args.marks.now.spent c.better.new.left) (sym c.or-best.ensures) (subst (λ fs. OthersTried w fs new c.args.marks.now.spent c.better.new.left) (sym more) others),
       omega (arith, c.better.ensures.steps, c.loop-entry.invariant.2),
     )

@@ -6,5 +6,5 @@ use Rattle.sect_wait.proofs.next.best_of.Given as goal
 abbrev pub invariant-loop-entry : goal.invariant-loop-entry
 invariant-loop-entry g l =
     IsBest l.world.world (take l.entry-index l.entries) l.best
-    × OthersTried l.world.world (take l.entry-index l.entries) l.best l.left.items
+    × OthersTried l.world.world (take l.entry-index l.entries) l.best l.marks.spent l.left
     × (l.steps ≤ l.initial.steps + l.entry-index)

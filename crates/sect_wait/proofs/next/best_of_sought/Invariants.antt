@@ -5,5 +5,5 @@ use Rattle.sect_wait.proofs.next.best_of_sought.Given as goal
 
 abbrev pub invariant-loop-ticket : goal.invariant-loop-ticket
 invariant-loop-ticket g l =
-    Tried l.world.world l.queue.queue.entries (take l.ticket-index l.tickets) l.best l.left.items
+    Tried l.world.world l.queue.queue.entries (take l.ticket-index l.tickets) l.best l.marks.spent l.left
     × (l.steps ≤ l.initial.steps + l.ticket-index)

@@ -1,9 +1,9 @@
 -- The entry is compared with the best so far before it is searched.
-use Rattle.std.proofs.Common.{◌∙◌, [], ◌∷◌, ◌++◌, Some, ap, sym, subst}
+use Rattle.std.proofs.Common.{◌∙◌, [], ◌∷◌, ◌++◌, Some, ap, inl, refl, sym, subst}
 use Rattle.std.specs.Option.{option_map}
 use Rattle.sect_base.specs.declared.choice.Choice.{Choice}
 use Rattle.sect_wait.specs.Placing.{IsBest, OthersTried}
-use Rattle.sect_wait.proofs.NextLemmas.{best-stays, best-found, best-unplaced, tried-behind, tried-found, tried-unplaced, unsought-unlisted, unsought-unplaced}
+use Rattle.sect_wait.proofs.NextLemmas.{best-stays, best-found, best-unplaced, tried-behind, tried-found, tried-unplaced, tried-unsought, unsought-unplaced}
 use Rattle.sect_wait.proofs.next.better.Goals as goal
 
 pub returns-then-is_behind-clause-best : goal.returns-then-is_behind-clause-best
@@ -12,7 +12,7 @@ returns-then-is_behind-clause-best g c = λ before b.
 
 pub returns-then-is_behind-clause-others : goal.returns-then-is_behind-clause-others
 returns-then-is_behind-clause-others g c = λ before b.
-    tried-behind c.args.world.now.world before c.args.entry.now c.args.best.now c.args.left.now.items (sym c.if-is_behind.true ∙ c.is_behind.ensures) b
+    tried-behind c.args.world.now.world before c.args.entry.now c.args.marks.now.spent c.args.best.now c.args.left.now (sym c.if-is_behind.true ∙ c.is_behind.ensures) b
 
 pub returns-then-not-seeks-clause-best : goal.returns-then-not-seeks-clause-best
 returns-then-not-seeks-clause-best g c = λ before b.
@@ -21,10 +21,8 @@ returns-then-not-seeks-clause-best g c = λ before b.
 
 pub returns-then-not-seeks-clause-others : goal.returns-then-not-seeks-clause-others
 returns-then-not-seeks-clause-others g c = λ before b.
-    let w = c.args.world.now.world in
-    let ts = c.args.left.now.items in
-    tried-unplaced w before c.args.entry.now c.args.best.now ts ts (λ t h. h)
-    (unsought-unlisted w c.args.entry.now c.args.marks.now c.args.opened.now ts (sym c.seeks.ensures ∙ c.if-not-seeks.true) c.requires.others) b
+    tried-unsought c.args.world.now.world before c.args.entry.now c.args.marks.now.spent c.args.best.now c.args.left.now
+    (c.requires.others c.args.entry.now (inl refl) (sym c.seeks.ensures ∙ c.if-not-seeks.true)) b
 
 pub returns-in-Some-clause-best : goal.returns-in-Some-clause-best
 returns-in-Some-clause-best g c = λ before b.
@@ -38,9 +36,9 @@ pub returns-in-Some-clause-others : goal.returns-in-Some-clause-others
 returns-in-Some-clause-others g c = λ before b.
     let w = c.args.world.now.world in
     let e = c.args.entry.now in
-    subst (λ x. OthersTried w (before ++ e ∷ []) (Some x) c.placement.new.left.items) (sym c.chosen.ensures)
-    (tried-found w before e c.args.best.now c.in-Some.choice c.args.left.now.items c.placement.new.left.items (sym c.if-is_behind.false ∙ c.is_behind.ensures) c.placement.ensures.kept b)
+    subst (λ x. OthersTried w (before ++ e ∷ []) (Some x) c.args.marks.now.spent c.placement.new.left) (sym c.chosen.ensures)
+    (tried-found w before e c.args.marks.now.spent c.args.best.now c.in-Some.choice c.args.left.now c.placement.new.left (sym c.if-is_behind.false ∙ c.is_behind.ensures) c.placement.ensures.kept b)
 
 pub returns-in-None-clause-others : goal.returns-in-None-clause-others
 returns-in-None-clause-others g c = λ before b.
-    tried-unplaced c.args.world.now.world before c.args.entry.now c.args.best.now c.args.left.now.items c.placement.new.left.items c.placement.ensures.kept c.in_ok-choice.ensures.others b
+    tried-unplaced c.args.world.now.world before c.args.entry.now c.args.marks.now.spent c.args.best.now c.args.left.now c.placement.new.left c.placement.ensures.kept c.in_ok-choice.ensures.others b

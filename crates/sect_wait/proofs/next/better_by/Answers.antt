@@ -21,10 +21,10 @@ better-requires-clause-others g c =
 pub returns-in-Some-clause-tried : goal.returns-in-Some-clause-tried
 returns-in-Some-clause-tried g c =
     let q = c.args.queue.now.queue in
-    tried-better c.args.world.now.world q.entries c.args.ticket q.next c.in-Some.entry.now c.args.best.now c.args.left.now.items c.better.new.left.items c.better.result c.is_kept.ensures.kept.in_order
+    tried-better c.args.world.now.world q.entries c.args.ticket c.args.marks.now.spent q.next c.in-Some.entry.now c.args.best.now c.args.left.now c.better.new.left c.better.result c.is_kept.ensures.kept.in_order
     (sym (ap option_copied c.in-Some.is) ∙ c.entry.ensures) c.better.ensures.best c.better.ensures.others
 
 pub returns-in-None-clause-tried : goal.returns-in-None-clause-tried
 returns-in-None-clause-tried g c =
     let q = c.args.queue.now.queue in
-    tried-unknown c.args.world.now.world q.entries c.args.ticket c.args.best.now c.args.left.now.items (sym (ap option_copied c.in-None.is) ∙ c.entry.ensures)
+    tried-unknown c.args.world.now.world q.entries c.args.ticket c.args.marks.now.spent c.args.best.now c.args.left.now (sym (ap option_copied c.in-None.is) ∙ c.entry.ensures)

@@ -1,6 +1,7 @@
 -- What holds of the others once the best was found.
 use Rattle.std.proofs.Common.{Some, subst}
 use Rattle.sect_wait.specs.Indexed.{MarksTold}
+use Rattle.sect_wait.specs.Marked.{NotesMore}
 use Rattle.sect_wait.proofs.NextLemmas.{after-others, unsought}
 use Rattle.sect_wait.proofs.next.next.Goals as goal
 
@@ -11,6 +12,6 @@ pub returns-clause-others : goal.returns-clause-others
 returns-clause-others g c =
     let w = c.args.world.now.world in
     let es = c.args.queue.now.queue.entries in
-    after-others w es c.args.marks.now c.mark_each.new.marks c.args.opened.now c.first.new.left.items c.in_ok-best.best c.requires.others c.in_ok-best.ensures.others
-    (subst (λ m. MarksTold (Some c.first.new.left.items) m c.mark_each.new.marks) c.pass.ensures
-    (subst (λ ts. MarksTold (Some ts) c.pass.new.marks c.mark_each.new.marks) c.as_slice.ensures.value c.in_ok-mark_each.ensures))
+    after-others w es c.args.marks.now c.pass.new.marks c.note_each.new.marks c.mark_each.new.marks c.args.opened.now c.first.new.left c.in_ok-best.best c.requires.others c.in_ok-best.ensures.others c.pass.ensures
+    (subst (λ ts. NotesMore ts c.pass.new.marks c.note_each.new.marks) c.as_slice.ensures.value c.in_ok-note_each.ensures)
+    (subst (λ ts. MarksTold (Some ts) c.note_each.new.marks c.mark_each.new.marks) c.as_slice-2.ensures.value c.in_ok-mark_each.ensures)

@@ -1,5 +1,5 @@
 -- Where nobody gives a course up, nobody is marked.
-use Rattle.std.proofs.Common.{◌∙◌, List, sym}
+use Rattle.std.proofs.Common.{◌∙◌, sym}
 use Rattle.sect_wait.proofs.MarkLemmas.{on-ok}
 use Rattle.sect_wait.proofs.OpenedLemmas.{no-givers}
 use Rattle.sect_wait.proofs.opened.mark_givers_among.Goals as goal

@@ -1,7 +1,8 @@
 -- What the leaving may open is marked.
-use Rattle.std.proofs.Common.{◌∙◌, sym}
+use Rattle.std.proofs.Common.{◌∙◌, refl, sym}
 use Rattle.sect_model.specs.declared.change.Change.TheVariants.{Leave}
 use Rattle.sect_wait.proofs.MarkLemmas.{made-others, left-fit, on-ok}
+use Rattle.sect_wait.proofs.NeedLemmas.{plain-marks}
 use Rattle.sect_wait.proofs.OpenedLemmas.{all-but, fallen-back}
 use Rattle.sect_wait.proofs.place.leave.Goals as goal
 
@@ -17,4 +18,5 @@ returns-in_ok-mark_leaving-clause-others c =
     on-ok c.make.result (all-but v es c.mark_leaving.new.marks c.fall_back.new.opened)
     (made-others w v es c.fall_back.new.marks c.mark_leaving.new.marks (Leave c.args.student c.args.course) c.make.result c.is_kept.ensures
     (sym c.holds.ensures ∙ c.if-holds.true) c.requires.fit c.make.ensures.ok
-    (fallen-back w es c.args.marks.now c.fall_back.new.marks c.args.opened.now (c.in_ok-fall_back.ensures.more es) c.requires.others) c.in_ok-mark_leaving.ensures)
+    (fallen-back w es c.args.marks.now c.fall_back.new.marks c.args.opened.now (c.in_ok-fall_back.ensures.more es) c.requires.others)
+    (plain-marks w es c.fall_back.new.marks c.mark_leaving.new.marks (Leave c.args.student c.args.course) (λ e. refl) c.in_ok-mark_leaving.ensures))

@@ -1,5 +1,5 @@
 -- The courses of the want are gone through first.
-use Rattle.std.proofs.Common.{◌≡◌, ◌∙◌, ap}
+use Rattle.std.proofs.Common.{◌∙◌, ap}
 use Rattle.std.specs.Prelude.{◌==◌}
 use Rattle.std.specs.List.{list_any}
 use Rattle.sect_base.specs.declared.ids.CourseId.{CourseId}

@@ -1,5 +1,5 @@
 -- The course stands behind the others, and the set has it.
-use Rattle.std.proofs.Common.{◌≡◌, ◌∙◌, ◌++◌, ◌∷◌, [], ap, sym, subst}
+use Rattle.std.proofs.Common.{◌∙◌, ◌++◌, ◌∷◌, [], ap, sym, subst}
 use Rattle.sect_wait.specs.Marked.{IsSetOfCourses}
 use Rattle.sect_wait.proofs.MarkLemmas.{courses-more}
 use Rattle.sect_wait.proofs.courses.Courses.push.Goals as goal

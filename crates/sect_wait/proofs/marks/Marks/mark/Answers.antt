@@ -1,5 +1,5 @@
 -- The ticket stands behind the others, and the set has it.
-use Rattle.std.proofs.Common.{◌≡◌, ◌∙◌, ◌++◌, ◌∷◌, [], ap, sym, subst}
+use Rattle.std.proofs.Common.{◌∙◌, ◌++◌, ◌∷◌, [], ap, sym, subst}
 use Rattle.sect_wait.specs.Marked.{IsSetOf}
 use Rattle.sect_wait.proofs.MarkLemmas.{set-more}
 use Rattle.sect_wait.proofs.marks.Marks.mark.Goals as goal
