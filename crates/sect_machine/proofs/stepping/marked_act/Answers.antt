@@ -1,1 +1,0 @@
--- What a drop opened is told, and what any other command opens is marked.
