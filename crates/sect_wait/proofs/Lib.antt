@@ -1,3 +1,4 @@
+pub mod FreedLemmas
 pub mod IndexLemmas
 pub mod MarkLemmas
 pub mod NeedLemmas

@@ -38,6 +38,7 @@ use Rattle.sect_wait.specs.declared.opened.Opened.{Opened}
 use Rattle.sect_wait.specs.Marked.{Marked, Needless, is_marked, is_noted, is_noted_in, may_need, wants_one, concerns, OthersNeedNoSearch, MarksKept, MarksMore}
 use Rattle.sect_wait.specs.Opened.{OpenedSince, WasBlocked, OthersBut, Notes, NotesAll, levels_at, courses_with, gives_and_wants, is_closed_again}
 use Rattle.sect_wait.specs.Queued.{Queued, left}
+use Rattle.sect_wait.proofs.FreedLemmas.{frees-none}
 use Rattle.sect_wait.proofs.MarkLemmas.{off-and, among-without, leave-concerns}
 use Rattle.sect_wait.proofs.NeedLemmas.{all-kept, both-kept, neither, needless-stays, plain-need, same-notes}
 
@@ -215,41 +216,6 @@ module _ (w : World) (k : KeptWorld w) (student : StudentId) (course : CourseId)
       by_old : (e : Waiting) → Among es e → is_marked n e ≡ false → Needless w (is_noted m.spent e) e → Needless (leave w student course) (is_noted n.spent e) e ⊎ WasBlocked (leave w student course) o e
       by_old e a u (inl none) = inr (record { before = w; same = refl; since = leave-since e (unlike e a u); none = none })
       by_old e a u (inr h) = inl (stays e a (elsewhere e a u h.0) (inr h))
-
--- ---- an enrolment whose reservation lists nothing else
-
-module _ (w : World) (x : Enrolment) (fits : reservation_fits w x ≡ true) where
-  of-its : (r : Reservation) (named : Option ReservationId) → option_map_or (λ id. option_map_or (λ r. is_of w r.offering x.choice.course) (reservation_of w id) false) named true ≡ true
-      → option_and_then (reservation_of w) named ≡ Some r → is_of w r.offering x.choice.course ≡ true
-  of-its r None h e = cc
-  of-its r (Some id) h e = ap (λ p. option_map_or (λ r. is_of w r.offering x.choice.course) p false) (sym e) ∙ h
-
-  names-at : (r : Reservation) → is_of w r.offering x.choice.course ≡ true → lists_only x.choice r ≡ true → (level : Level) → names r level ≡ true → is_at w level x ≡ true
-  names-at r its only (Course id) n = absurd (not_both false n refl)
-  names-at r its only (Offering id) n = ap (λ m. option_map_or (λ p. p.id.0 == m) (offering_of w x.choice.course) false) (sym (eqb-true r.offering.0 id.0 n)) ∙ its
-  names-at r its only (Config id) n =
-      let c = Members.any-at (λ c. c.0 == id.0) r.includes.configs n in
-      eq-eqb x.choice.config.0 id.0 (sym (eqb-true c.0.0 x.choice.config.0 (all-at (λ c. c.0 == x.choice.config.0) r.includes.configs (both-left _ _ only) c.0 c.1)) ∙ eqb-true c.0.0 id.0 c.2)
-  names-at r its only (Section id) n =
-      let p = Members.any-at (λ p. p.section.0 == id.0) r.includes.sections n in
-      ap (λ m. list_any (λ s. s.0 == m) x.choice.sections) (sym (eqb-true p.0.section.0 id.0 p.2))
-      ∙ all-at (λ p. lists_section x.choice.sections p.section) r.includes.sections (both-right (list_all (λ c. c.0 == x.choice.config.0) r.includes.configs) _ only) p.0 p.1
-
-  third : (a b c : Bool) → a && b && not c ≡ false → a ≡ true → b ≡ true → c ≡ true
-  third a b true h p q = refl
-  third a b false h p q = absurd (not_both (a && b && true) (both (a && b) true (both a b p q) refl) h)
-
-  frees-none : frees_some w x.choice ≡ false → (level : Level) → frees w x level ≡ false
-  frees-none none level = if-not (frees w x level) (λ t.
-      let r = known-test (λ r. active r w.day && is_some (places r.limit) && names r level && not (is_at w level x)) (used_by w x.choice) t in
-      let n = both-left _ (not (is_at w level x)) r.2 in
-      let a = both-left _ (names r.0 level) n in
-      let only = third (active r.0 w.day) (is_some (places r.0.limit)) (lists_only x.choice r.0)
-      (sym (ap (λ p. option_map_or (λ r. active r w.day && is_some (places r.limit) && not (lists_only x.choice r)) p false) r.1) ∙ none)
-      (both-left _ _ a) (both-right (active r.0 w.day) _ a) in
-      not_both (is_at w level x)
-      (names-at r.0 (of-its r.0 x.choice.reservation fits r.1) only level (both-right (active r.0 w.day && is_some (places r.0.limit)) _ n))
-      (not_true _ (both-right (active r.0 w.day && is_some (places r.0.limit) && names r.0 level) _ r.2)))
 
 -- ---- an enrolment of another student since the leaving
 
