@@ -9,19 +9,17 @@ use Rattle.std.proofs.lemmas.Int.{ints}
 use Rattle.std.proofs.lemmas.List.Sums.{sum_by-cons}
 use Rattle.sect_base.specs.declared.limit.Level.TheVariants.{Course, Offering, Config, Section}
 use Rattle.sect_catalog.specs.Catalogue.{places, has_course}
-use Rattle.sect_reserve.specs.Audience.{active}
 use Rattle.sect_model.specs.declared.change.Change.TheVariants.{Leave, Enrol}
 use Rattle.sect_model.specs.Data.{StudentId, CourseId, OfferingId, ReservationId, OfferingRow, Level, Reservation}
 use Rattle.sect_model.specs.declared.held.Enrolment.{Enrolment}
 use Rattle.sect_model.specs.declared.held.Waiting.{Waiting}
-use Rattle.sect_model.specs.World.{World, offering_of, is_of, is_in, reservation_of, used_by, held_by, holds, leave, enrol, insert_enrolment}
-use Rattle.sect_model.specs.Choice.{lists_section}
+use Rattle.sect_model.specs.World.{World, offering_of, is_in, reservation_of, used_by, held_by, holds, leave, enrol, insert_enrolment}
 use Rattle.sect_model.specs.Counts.{is_at, count_of, used_of}
-use Rattle.sect_model.specs.Space.{places_at, names, active_at, remaining, has_unlimited, has_place, has_unreserved}
+use Rattle.sect_model.specs.Space.{places_at, active_at, remaining, has_unlimited, has_place, has_unreserved}
 use Rattle.sect_model.specs.GoodWorld.{reservation_fits}
 use Rattle.sect_model.specs.Fits.{Fits, changed}
 use Rattle.sect_model.specs.Kept.{KeptWorld, entry_fits}
-use Rattle.sect_model.specs.Freer.{Among, NoMove, has_room, frees, frees_some, lists_only, may_open, touches, NoFreer}
+use Rattle.sect_model.specs.Freer.{Among, NoMove, has_room, frees_some, may_open, touches, NoFreer}
 use Rattle.sect_model.proofs.Members
 use Rattle.sect_model.proofs.Members.{Member, all-at, both, both-left, both-right, neither-left, neither-right, not_both, not_true, decide, known-test, none-at, none-of}
 use Rattle.sect_model.proofs.Limits.{same-course, same-config, same-section}
