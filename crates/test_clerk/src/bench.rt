@@ -72,14 +72,7 @@ fn helped<R: AllocGlobal + Threads + Sync>(
     let alloc = rt.alloc();
     let mut source = MemSource::new(input, 4_096, Vec::new(alloc));
     let mut sink = MemSink::new(alloc, ROOM, 512, Vec::new(alloc))?;
-    let (status, keeper) = clerk(
-        rt,
-        words,
-        &mut source,
-        &mut sink,
-        keeper,
-        clock(alloc)?,
-    );
+    let (status, keeper) = clerk(rt, words, &mut source, &mut sink, keeper, clock(alloc)?);
     Ok((status, keeper, sink))
 }
 
