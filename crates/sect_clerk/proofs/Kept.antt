@@ -1,5 +1,5 @@
 -- The keeper comes back with the rows that it had.
-use Rattle.std.proofs.Common.{◌≡◌, ◌⊎◌, ℕ, List, refl, sym, ap, subst, inl, inr, Option, None, Some}
+use Rattle.std.proofs.Common.{ℕ, List, refl, sym, subst, inl, inr, Option, None, Some}
 use Rattle.sect_command.specs.declared.command.Command.{Command}
 use Rattle.sect_command.specs.declared.reply.Reply.{Reply}
 use Rattle.sect_edge.specs.Keeper.{KeepsRows}

@@ -1,6 +1,6 @@
 -- Which lines are refused.
-use Rattle.std.proofs.Common.{◌≡◌, ◌⊎◌, ◌↔◌, ◌≤◌, ℕ, ◌+◌, Bool, true, false, List, [], ◌∷◌, ◌++◌, length, length-append, append_assoc, Option, None, Some, refl, ap, sym, ◌∙◌, arith, inl, inr}
-use Rattle.std.specs.Prelude.{if◌then◌else◌, IfSome, ⊤}
+use Rattle.std.proofs.Common.{◌≡◌, ◌↔◌, ◌≤◌, ℕ, ◌+◌, Bool, true, false, List, [], ◌∷◌, ◌++◌, length, length-append, append_assoc, Option, None, Some, refl, ap, sym, ◌∙◌, arith, inl, inr}
+use Rattle.std.specs.Prelude.{if◌then◌else◌}
 use Rattle.std.specs.List.{AllByRecursion}
 use Rattle.sect_asking.specs.Asks.{IsAsking, IsKnown, is_passed_over}
 use Rattle.sect_check.proofs.Said.{names_others}
@@ -8,9 +8,9 @@ use Rattle.sect_check.specs.Complaints.{complaint_of}
 use Rattle.sect_script.specs.declared.script.RunEnd.{RunEnd}
 use Rattle.sect_script.specs.declared.script.RunEnd.TheVariants as ends
 use Rattle.sect_script.specs.declared.status.Status.TheVariants as statuses
-use Rattle.sect_script.specs.Lines.{Line, bytes_of, lines_of, text_of}
+use Rattle.sect_script.specs.Lines.{Line, bytes_of, text_of}
 use Rattle.sect_script.specs.Reading.{LINE_LIMIT}
-use Rattle.sect_script.specs.Run.{Ahead, HasNumber, IsBad, IsRest, LINES_LIMIT, NextIsBad}
+use Rattle.sect_script.specs.Run.{Ahead, HasNumber, IsRest, LINES_LIMIT, NextIsBad}
 use Rattle.sect_clerk.specs.Checked.{AnyText, IsTaken, NamesTheRefused, RunWould, check_status, first_after, refused_first, said_of}
 
 names_by : (passed : Bool) (number : ℕ) (line : List ℕ) → ((if passed then [] else complaint_of number line) ≡ []) ↔ IsAsking passed line

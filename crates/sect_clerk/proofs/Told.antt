@@ -1,8 +1,7 @@
 -- What is said of the lines that were checked.
-use Rattle.std.proofs.Common.{◌≡◌, ◌≤◌, ℕ, ◌+◌, List, [], ◌∷◌, ◌++◌, length, Option, None, Some, refl, ap, sym, ◌∙◌, subst}
+use Rattle.std.proofs.Common.{◌≡◌, ℕ, ◌+◌, List, [], ◌∷◌, ◌++◌, Option, None, ap, sym, ◌∙◌, subst}
 use Rattle.std.specs.List.{AllByRecursion}
 use Rattle.sect_script.specs.declared.script.RunEnd.{RunEnd}
-use Rattle.sect_script.specs.declared.status.Status.{Status}
 use Rattle.sect_script.specs.Lines.{Line, text_of}
 use Rattle.sect_script.specs.Run.{Answers, Ran, Writes}
 use Rattle.sect_clerk.specs.declared.checker.Checker.{Checker}

@@ -8,7 +8,6 @@ use Rattle.sect_script.specs.declared.status.Status.TheVariants as statuses
 use Rattle.sect_script.specs.Lines.{Line, bytes_of, text_of}
 use Rattle.sect_script.specs.Reading.{LINE_LIMIT}
 use Rattle.sect_script.specs.Run.{LINES_LIMIT, Ahead, AreWhole, HasNumber, IsRest, NextIsBad, Writes}
-use Rattle.sect_script.specs.Statuses.{status_of}
 use Rattle.sect_asking.specs.Asks.{IsKnown, is_passed_over}
 use Rattle.sect_clerk.specs.declared.checker.Checker.{Checker}
 use Rattle.sect_check.specs.Complaints.{complaint_of}

@@ -3,7 +3,6 @@ use Rattle.std.specs.Prelude.{◌≡◌, ◌⊎◌, ℕ, Bool, true, false, List
 use Rattle.std.specs.Option.{option_map_or}
 use Rattle.sect_command.specs.declared.command.Command.{Command}
 use Rattle.sect_command.specs.declared.reply.Reply.{Reply}
-use Rattle.sect_edge.specs.Causes.{Rose}
 use Rattle.sect_history.specs.Step.{stepped}
 use Rattle.sect_model.specs.World.{empty_state}
 use Rattle.sect_once.specs.declared.entry.Entry.{Entry}

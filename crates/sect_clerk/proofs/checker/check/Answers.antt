@@ -1,6 +1,4 @@
 -- A check is a run that says what is to be said of the lines.
-use Rattle.std.proofs.Common.{sym, subst}
-use Rattle.sect_clerk.specs.Checked.{Checks, RunWould}
 use Rattle.sect_clerk.proofs.Told.{checked, checked_as_run}
 use Rattle.sect_clerk.proofs.checker.check.Goals as goal
 
