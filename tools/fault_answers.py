@@ -1,5 +1,6 @@
 #!/usr/bin/env python3
-"""What a second computation of the desk in Python answers to the input of test_faults, where one call after another fails.
+"""What a second computation of the desk in Python answers to the desk's part of the input of test_commands, where one call
+after another fails.
 
   fault_answers.py --oracle FOLDER           compares the stored answers with the second computation's
   fault_answers.py --oracle FOLDER --write   writes them
@@ -12,7 +13,7 @@ import argparse
 import os
 import sys
 
-CRATE = os.path.join(os.path.dirname(os.path.abspath(__file__)), '..', 'crates', 'test_faults')
+CRATE = os.path.join(os.path.dirname(os.path.abspath(__file__)), '..', 'crates', 'test_commands')
 USAGE = 'usage: desk run|serve|make|audit|report|import|export|plan|survey'
 TEXTS = {0: '', 4: 'read fault', 5: 'write fault', 6: 'keeper fault', 8: 'link fault'}
 VERSION = 'desk 0.1.0\n'
@@ -131,10 +132,10 @@ def one_run(desk, call, piece, number, words, rows, data):
     return first + ' then ' + desk.run(words, keeper, data)
 
 
-def answers(desk, text):
-    """The lines that answer the input."""
+def answers(desk, lines):
+    """The lines that answer the desk's part of the input."""
     words, rows, data, kept = [], [], b'', None
-    for line in text.split('\n')[:-1]:
+    for line in lines:
         if line[:1] in ('#', '$', '?'):
             yield line
         if line.startswith('#'):
@@ -155,6 +156,13 @@ def answers(desk, text):
             data += line.encode() + b'\n'
 
 
+def part_of(lines):
+    """Where the lines of the desk's part stand: behind `== desk`, before the next such line."""
+    first = lines.index('== desk') + 1
+    ends = [at for at in range(first, len(lines)) if lines[at].startswith('== ')]
+    return slice(first, ends[0] if ends else len(lines))
+
+
 def main():
     parser = argparse.ArgumentParser()
     parser.add_argument('--oracle', required=True)
@@ -168,14 +176,17 @@ def main():
     import httpd
     import journal
     with open(os.path.join(CRATE, 'stdin')) as file:
-        wanted = list(answers(Desk(app, csvio, httpd, journal), file.read()))
+        lines = file.read().split('\n')[:-1]
+    wanted = list(answers(Desk(app, csvio, httpd, journal), lines[part_of(lines)]))
     stored = os.path.join(CRATE, 'stdout')
-    if given.write:
-        with open(stored, 'w') as file:
-            file.write('\n'.join(wanted) + '\n')
-        return 0
     with open(stored) as file:
-        found = file.read().split('\n')[:-1]
+        lines = file.read().split('\n')[:-1]
+    if given.write:
+        lines[part_of(lines)] = wanted
+        with open(stored, 'w') as file:
+            file.write('\n'.join(lines) + '\n')
+        return 0
+    found = lines[part_of(lines)]
     differing = [at for at in range(max(len(found), len(wanted))) if found[at:at + 1] != wanted[at:at + 1]]
     for at in differing[:20]:
         print('line', at + 1, 'stored', found[at:at + 1], 'wanted', wanted[at:at + 1])

@@ -16,7 +16,7 @@ INTRODUCTION = (
 RULES = 'sect_model/specs/Rules.antt: '
 WHY = 'Why there is no place'
 MACHINE = 'test_machine/stdin: '
-IMPORTS = 'test_tables/stdin: '
+IMPORTS = 'test_machine/stdin: '
 REFUSALS = 'sect_model/specs/Refusals.antt: '
 REFUSED = 'Refusals'
 OFFERING = 'sect_catalog/specs/Fault.antt: '
@@ -24,9 +24,9 @@ REQUEST = 'sect_people/specs/Fault.antt: '
 STEP = 'sect_model/specs/Step.antt: '
 REGISTRARS = 'What registrars send'
 STUDENTS = 'What students send'
-FAULTS = 'test_faults/stdin: '
-CLERKS = 'test_clerk/stdin: '
-BODIES = 'test_bodies/stdin: '
+FAULTS = 'test_commands/stdin: '
+CLERKS = 'test_commands/stdin: '
+BODIES = 'test_machine/stdin: '
 DATA = 'test_data/src/tests/'
 TABLES = 'Tables: `import` and `export`'
 OVER_HTTP = 'Answers over HTTP'
@@ -184,7 +184,7 @@ GROUPS = [
          MACHINE + '# One drop places two who wait, one after the other; and a place at once.'),
         ('Classes and tickets', STUDENTS, ['sect_model/specs/Settle.antt: comes_first'], ['sect_wait/src/next.rt: is_behind'],
          MACHINE + '# The smaller class before the smaller ticket.'),
-        ('Which entries a command marks', STUDENTS, ['sect_model/specs/Freer.antt: may_open', 'sect_wait/specs/Marked.antt: Marked'],
+        ('Which entries a command marks', STUDENTS, ['sect_model/specs/Freer.antt: may_open', 'sect_wait/specs/Marked.antt: Marked', 'sect_wait/specs/Touched.antt: count_touched'],
          ['sect_machine/src/marking.rt: mark_before', 'sect_machine/src/marking.rt: mark_after'],
          MACHINE + '# Nobody who waits is placed in a full section; the place that is left goes to the smaller ticket.'),
         ('What a drop opens for those who wait', STUDENTS, ['sect_wait/specs/Opened.antt: OthersBut', 'sect_wait/specs/Opened.antt: is_closed_again'],

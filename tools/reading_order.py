@@ -130,10 +130,11 @@ CHAPTERS = [
      + ['sect_slots/specs/' + n + '.antt' for n in ('Rostered', 'Slots')]),
     ('Numbers beside the enrolments',
      'Counts by id, the numbers of a world, and what one enrolment more, one less and each other change do to them.',
-     ['sect_numbers/specs/' + n + '.antt' for n in ('Tally', 'Numbers', 'OneMore', 'Laws', 'Quiet', 'Own', 'Held')]),
+     ['sect_table/specs/' + n + '.antt' for n in ('Slots', 'Table')]
+     + ['sect_numbers/specs/' + n + '.antt' for n in ('Tally', 'Numbers', 'OneMore', 'Laws', 'Quiet', 'Own', 'Held')]),
     ('Calendars of students',
      'When a student is in class, the calendars that tell it, and what one enrolment more, one less and each other change do to them.',
-     ['sect_weeks/specs/' + n + '.antt' for n in ('Taken', 'Rows', 'Busy', 'Enrolled', 'Quiet', 'Laws')]),
+     ['sect_weeks/specs/' + n + '.antt' for n in ('Taken', 'Credits', 'Rows', 'Busy', 'Enrolled', 'Quiet', 'Laws')]),
     ('The world with its room, and undoing',
      'A world beside the room that its lists have; what is kept of a change; and when recorded changes can be taken back.',
      ['sect_space/specs/' + n + '.antt' for n in ('Roomed', 'Room', 'Counting', 'Back', 'Recorded', 'Undo')]),
@@ -142,7 +143,7 @@ CHAPTERS = [
      ['sect_search/specs/' + n + '.antt' for n in ('Nodes', 'Refutes', 'Texts')]),
     ('The waiting list',
      'The entries with the next ticket, what taking changes of it back asks and gives, and which entries must be tried.',
-     ['sect_wait/specs/' + n + '.antt' for n in ('Queued', 'Undo', 'Marked')]),
+     ['sect_wait/specs/' + n + '.antt' for n in ('Queued', 'Undo', 'Marked', 'Touched')]),
     ('Words',
      'Ids, lists, limits, days and what rows are made of, as words of lines, rows, tables and reports.',
      ['sect_words/specs/' + n + '.antt' for n in ('Parts', 'Days', 'Words')]),
@@ -206,7 +207,7 @@ CHAPTERS = [
      + ['sect_view/specs/' + n + '.antt' for n in ('Found', 'Unmet')]),
     ('The words of the command line',
      'Words cut into options and words that stand alone, what they ask for, and the laws of it.',
-     ['sect_usage/specs/' + n + '.antt' for n in ('Items', 'Grammar', 'Needs', 'Help', 'Laws', 'Spelling')]),
+     ['sect_usage/specs/' + n + '.antt' for n in ('Items', 'Options', 'Programs', 'Grammar', 'Needs', 'Help', 'Laws', 'Spelling')]),
     ('The program',
      'The lines of an input, how the desk answers them, the audit, and the import of a table.',
      ['sect_object/specs/Objects.antt']
@@ -259,7 +260,7 @@ CHAPTERS = [
 ]
 
 # what private functions' contracts cite: a body's own words, which no public contract has
-INSIDE = ['sect_time/specs/WeekScan.antt', 'sect_catalog/specs/Place.antt', 'sect_catalog/specs/Rising.antt',
+INSIDE = ['sect_time/specs/WeekScan.antt', 'sect_catalog/specs/Place.antt', 'sect_catalog/specs/Rising.antt', 'sect_catalog/specs/Apart.antt',
           'sect_catalog/specs/Search.antt', 'sect_people/specs/Index.antt', 'sect_roster/specs/Filed.antt', 'sect_intake/specs/Underway.antt',
           'sect_journal/specs/Windows.antt']
 

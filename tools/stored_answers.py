@@ -1,20 +1,21 @@
 #!/usr/bin/env python3
-"""What a second computation of the desk in Python answers to the input of test_machine, test_tables, test_usage and
-test_bodies.
+"""What a second computation of the desk in Python answers to the input of test_machine and test_usage.
 
   stored_answers.py --oracle FOLDER                      compares the stored answers with the second computation's
   stored_answers.py --oracle FOLDER --write              writes them
-  stored_answers.py --oracle FOLDER --add CRATE A..B     adds inputs of the oracle's fuzzer with these seeds to the crate's
+  stored_answers.py --oracle FOLDER --add PART A..B      adds inputs of the oracle's fuzzer with these seeds to machine, tables
+                                                         or usage
 
-test_machine: in a line `{ITEM*COUNT}` is the item so many times. A line that begins with `#` begins a new machine, one with
+test_machine: a line `== machine`, `== tables` or `== bodies` tells what the lines behind it are.
+machine: in a line `{ITEM*COUNT}` is the item so many times. A line that begins with `#` begins a new machine, one with
 `+ FIRST..END ` is asked with each of these numbers in place of `#`, one with `= ` asks for a report, `plan STUDENT BUDGET`,
 `survey`, or `made N` for the lines of the survey of what `make N` makes; one with `? ` has a tree that is held against the
 request before it; each other line is a request.
-test_tables: a line `# NAME` begins a new machine and a new keeper, `< TABLE` and `< TABLE FIRST PIECE READ WRITE` begin a
+tables: a line `# NAME` begins a new machine and a new keeper, `< TABLE` and `< TABLE FIRST PIECE READ WRITE` begin a
 text of that table, whose lines follow, `> TABLE` asks for an export.
 test_usage: each line is a list of words with bars between them, and `(none)` is the list without words; its answer ends
 with what `clap` finds.
-test_bodies: `< TEXT`, `x HEX` and `* N TEXT` make up bytes, which `body` reads as a body and `head` as a head of HTTP;
+bodies: `< TEXT`, `x HEX` and `* N TEXT` make up bytes, which `body` reads as a body and `head` as a head of HTTP;
 other lines print an answer.
 """
 import argparse
@@ -270,23 +271,40 @@ def body_answers(lines):
             yield answer_told(line) + "\n"
 
 
-ANSWERS = {"test_machine": machine_answers, "test_tables": table_answers.answers, "test_usage": usage_answers,
-           "test_bodies": body_answers}
+PARTS = {"machine": machine_answers, "tables": table_answers.answers, "bodies": body_answers}
+
+
+def program_answers(lines):
+    """The answers to parts, each behind a line with its name; the first one is the machine's."""
+    part, held = "machine", []
+    for line in [*lines, None]:
+        name = line[3:] if line and line.startswith("== ") else None
+        if line is not None and name not in PARTS:
+            held.append(line)
+            continue
+        yield from PARTS[part](held)
+        if line is not None:
+            yield line + "\n"
+        part, held = name, []
+
+
+ANSWERS = {"test_machine": program_answers, "test_usage": usage_answers}
 
 
 def main():
     parser = argparse.ArgumentParser()
     parser.add_argument("--oracle", required=True)
     parser.add_argument("--write", action="store_true")
-    parser.add_argument("--add", nargs=2, metavar=("CRATE", "SEEDS"))
+    parser.add_argument("--add", nargs=2, metavar=("PART", "SEEDS"))
     given = parser.parse_args()
     sys.path.insert(0, given.oracle)
     if given.add:
-        crate, seeds = given.add
+        part, seeds = given.add
         low, high = map(int, seeds.split(".."))
-        fuzzed = {"test_machine": lambda seed: fuzzed_script(given.oracle, seed), "test_tables": table_answers.fuzzed,
-                  "test_usage": fuzzed_words}[crate]
-        more = [fuzzed(seed) for seed in range(low, high + 1)]
+        fuzzed = {"machine": lambda seed: fuzzed_script(given.oracle, seed), "tables": table_answers.fuzzed,
+                  "usage": fuzzed_words}[part]
+        crate = "test_machine" if part in PARTS else "test_usage"
+        more = [f"== {part}\n"] * (part in PARTS) + [fuzzed(seed) for seed in range(low, high + 1)]
         write(crate, "stdin", read(crate, "stdin") + "".join(more))
     status = 0
     for crate, answers in ANSWERS.items():

@@ -1,4 +1,4 @@
-"""What a second computation of the desk in Python answers to the input of test_tables: to tables whose commands are asked of
+"""What a second computation of the desk in Python answers to the tables of test_machine: to tables whose commands are asked of
 a machine, and to tables that are imported over a keeper, with faults."""
 
 TABLES = ("offerings", "students", "requests", "reservations")

@@ -7,7 +7,6 @@ ghost use Rattle.sect_model.specs.World.{empty_state};
 ghost use Rattle.sect_wire.specs.Laws.{IsRow};
 ghost use Rattle.sect_script.specs.declared.status.Status.{Status};
 ghost use Rattle.sect_usage.specs.declared.words.Words.{Words};
-ghost use Rattle.sect_script.specs.Statuses.{Says};
 ghost use Rattle.sect_asking.specs.Desk.{StaysShut};
 ghost use Rattle.sect_tell.specs.Told.{TellsHistory};
 ghost use Rattle.sect_app.specs.Returns.{ComesBack};
@@ -18,13 +17,13 @@ ghost use Rattle.sect_usage.specs.Laws.{IsInRange};
 
 use sect_asking::run;
 use sect_command::Table;
-use sect_edge::{Clock, Failed, Keeper, Sink, Source};
+use sect_edge::{Clock, Keeper, Sink, Source};
 use sect_history::laws::replays_are_good;
 use sect_intake::import_table;
 use sect_machine::Machine;
 use sect_making::make;
 use sect_return::{a_state_reads_back, tables_return};
-use sect_script::{Status, write_all};
+use sect_script::{Status, say};
 use sect_tell::{Export, Plan, Report, Survey, audit, tell};
 use sect_usage::{Words, help_of, version};
 use std::alloc::Global;
@@ -138,15 +137,4 @@ pub(crate) fn first_of<C: Clock + Drop>(clocks: Vec<C>) -> C
 {
     let mut clocks = clocks;
     clocks.swap_remove(0)
-}
-
-/// Writes a text.
-fn say<T: Sink>(text: &[u8], sink: &mut T) -> Status
-    ensures says { Says text.now (T.taken sink.old) (T.taken sink.new) result }
-    ensures write_fault { result ≡ Status.WriteFault → Rose (T.faults sink.old) (T.faults sink.new) }
-{
-    match write_all(sink, text) {
-        Ok(()) => Status::Done,
-        Err(Failed) => Status::WriteFault,
-    }
 }

@@ -16,11 +16,11 @@ ghost use Rattle.sect_model.specs.Batch.{
 ghost use Rattle.sect_batch.specs.Lines.{Tells, MetFits, answer_by, unmet_of, met_of};
 
 use crate::lines::{Answer, Lines};
-use sect_base::{Budget, CourseId, Duplicate, Items, Memory, Move, StudentId, Want};
+use sect_base::{CourseId, Duplicate, Items, Memory, Move, StudentId, Want};
 use sect_command::LineResult;
 use sect_model::Outcome;
 use sect_people::CourseAsk;
-use sect_search::search;
+use sect_search::{search, usual_budget};
 use sect_space::World;
 use sect_steps::Steps;
 use std::alloc::Global;
@@ -110,7 +110,7 @@ fn search_for<L: Ledger>(
     ensures met { IfOk result (λ line. MetFits world.now.world student line) }
 {
     let mv = request_move(alloc, student, rank, ask)?;
-    let outcome = search(alloc, world, &mv, budget(), steps)?;
+    let outcome = search(alloc, world, &mv, usual_budget(), steps)?;
     Ok(result_of(outcome))
 }
 
@@ -147,15 +147,5 @@ fn result_of(outcome: Outcome) -> LineResult
         },
         Outcome::Blocked(tree, visits) => LineResult::Blocked(visits, tree),
         Outcome::Spent(_) => LineResult::Spent,
-    }
-}
-
-/// The budget of the search for a request.
-fn budget() -> Budget
-    ensures { result ≡ 2000 }
-{
-    match Budget::new(2_000) {
-        Some(budget) => budget,
-        None => unreachable!(),
     }
 }

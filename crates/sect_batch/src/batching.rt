@@ -135,7 +135,7 @@ fn student_lines<L: Ledger>(
     ensures since { Since world.old.world undo.old.backs world.new.world undo.new.backs }
     ensures undoable { Undoable world.new undo.new.backs }
 {
-    let count = asks_of(world, student).len();
+    let count = world.asks(student).len();
     for place in 0..count {
         ask_line(alloc, world, student, place, lines, undo, steps)?;
     }
@@ -186,7 +186,7 @@ fn answer_at<L: Ledger>(
     ensures met { IfOk result (λ answer. IfSome answer (λ a. MetFits world.now.world student a.result)) }
 {
     world.is_kept();
-    match asks_of(world, student).get(place) {
+    match world.asks(student).get(place) {
         Some(ask) => answer_ask(alloc, world, student, place, ask, lines, steps),
         None => Ok(None),
     }
@@ -214,16 +214,6 @@ fn answer_ask<L: Ledger>(
             Ok(Some(answer))
         }
         Ask::Free(_) => Ok(None),
-    }
-}
-
-/// The student's requests, none where the student is unknown.
-fn asks_of(world: &World, student: StudentId) -> &[Ask]
-    ensures { result.now ≡ requests_of world.now.world student }
-{
-    match world.people().asks(student) {
-        Some(asks) => asks,
-        None => &[],
     }
 }
 

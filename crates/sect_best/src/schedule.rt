@@ -5,7 +5,6 @@ ghost use Rattle.std.specs.Prelude.{◌≡◌, ◌≤◌, ◌<◌, ◌+◌, ◌+
 ghost use Rattle.std.specs.List.{list_all};
 ghost use Rattle.std.specs.Option.{is_some};
 ghost use Rattle.sect_people.specs.Student.{find_student};
-ghost use Rattle.sect_model.specs.Batch.{asks_of as requests_of};
 ghost use Rattle.sect_model.specs.Premises.{want_fits};
 ghost use Rattle.sect_best.specs.Told.{AreTold, LinesAreTold};
 ghost use Rattle.sect_best.specs.Plan.{plan_move as move_of_plan, plan_ask, plan_asks, nothing_planned, planned as planned_of, plan_lines};
@@ -15,7 +14,6 @@ use crate::planned::Planned;
 use crate::wants::wants_of;
 use sect_base::{Budget, CourseId, Duplicate, Items, Memory, Move, StudentId, Want};
 use sect_model::Enrolment;
-use sect_people::Ask;
 use sect_search::search_in;
 use sect_space::World;
 use sect_steps::Steps;
@@ -87,18 +85,8 @@ fn plan<L: Ledger>(
     ensures told { IfOk result (λ planned. AreTold planned.verdicts) }
 {
     world.is_kept();
-    let wants = wants_of(alloc, asks_of(world, student))?;
+    let wants = wants_of(alloc, world.asks(student))?;
     plan_wants(alloc, world, student, budget, wants, steps)
-}
-
-/// The student's requests, none where the student is unknown.
-fn asks_of(world: &World, student: StudentId) -> &[Ask]
-    ensures { result.now ≡ requests_of world.now.world student }
-{
-    match world.people().asks(student) {
-        Some(asks) => asks,
-        None => &[],
-    }
 }
 
 /// What is planned of the wants, one after the other.

@@ -1,6 +1,7 @@
 pub mod PlacedLemmas
 pub mod TimesLemmas
 pub mod SearchLemmas
+pub mod ApartLemmas
 pub mod CountLemmas
 pub mod IndexLemmas
 pub mod RisingLemmas
@@ -10,6 +11,7 @@ pub mod AppendLemmas
 pub mod Outcomes
 pub mod LookupLemmas
 pub mod LookupMore
+pub mod LookupOfferings
 pub mod RemoveLemmas
 pub mod ChangeLemmas
 pub mod LimitLemmas

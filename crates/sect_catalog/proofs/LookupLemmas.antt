@@ -171,7 +171,7 @@ module _ (id : ℕ) where
       place-append (placed (course_entry (at_row n)) 0 o.courses) (placed (config_entries (at_row n)) 0 o.configs) key
       ∙ ap (λ p. option_or p (place_in (placed (config_entries (at_row n)) 0 o.configs) key)) (none-placed key (course_entry (at_row n)) (λ n c. refl) 0 o.courses)
 
-  row-known : (n : ℕ) (o : OfferingRow) → is_some (place_in (row_entries n o) key) ≡ is_some (find test (flat_map (λ g. sections_in g.subparts) o.configs))
+  pub row-known : (n : ℕ) (o : OfferingRow) → is_some (place_in (row_entries n o) key) ≡ is_some (find test (flat_map (λ g. sections_in g.subparts) o.configs))
   row-known n o = ap is_some (row-place n o) ∙ known-level key test (config_entries (at_row n)) (λ g. sections_in g.subparts) (config-known (at_row n)) 0 o.configs
 
   row-inside : (n : ℕ) (o : OfferingRow)

@@ -55,7 +55,7 @@ module _ (id : ℕ) where
       place-append (placed (course_entry (at_row n)) 0 o.courses) (placed (config_entries (at_row n)) 0 o.configs) config_key
       ∙ ap (λ p. option_or p (place_in (placed (config_entries (at_row n)) 0 o.configs) config_key)) (none-placed config_key (course_entry (at_row n)) (λ n c. refl) 0 o.courses)
 
-  row-config-known : (n : ℕ) (o : OfferingRow) → is_some (place_in (row_entries n o) config_key) ≡ is_some (find is_config o.configs)
+  pub row-config-known : (n : ℕ) (o : OfferingRow) → is_some (place_in (row_entries n o) config_key) ≡ is_some (find is_config o.configs)
   row-config-known n o =
       ap is_some (config-place n o) ∙ known-level config_key is_config (config_entries (at_row n)) (λ g. g ∷ []) (config-known (at_row n)) 0 o.configs
       ∙ ap (λ gs. is_some (find is_config gs)) (flat-self o.configs)
@@ -128,7 +128,7 @@ module _ (id : ℕ) where
       (λ j c. own-inside id c.id.0 (record (at_row n) { config = j }) None c refl) (λ j c. both (j == j) true (same j) refl) o.courses
       ∙ ap (find is_course) (flat-self o.courses)
 
-  stands-in-row : (n : ℕ) (o : OfferingRow) → list_all (λ (e : Entry). e.1.row == n) (row_entries n o) ≡ true
+  pub stands-in-row : (n : ℕ) (o : OfferingRow) → list_all (λ (e : Entry). e.1.row == n) (row_entries n o) ≡ true
   stands-in-row n o = all-row (λ at. at.row == n) n o (λ at e. ap (λ k. k == n) e ∙ same n)
 
   second-of : (rows : List OfferingRow) (at : Place) → option_map (λ found. found.1) (course_at rows at) ≡ option_and_then (λ o. slice_get o.courses at.config) (slice_get rows at.row)
@@ -174,7 +174,7 @@ module _ (id : ℕ) where
       by_test ih true = refl
       by_test ih false = ih
 
-  is-among : {X Y : Type 0} (test : X → Bool) (xs : List X) (y : Y) → is_some (find test xs) ≡ is_some (cond (list_any test xs) (Some y) None)
+  pub is-among : {X Y : Type 0} (test : X → Bool) (xs : List X) (y : Y) → is_some (find test xs) ≡ is_some (cond (list_any test xs) (Some y) None)
   is-among test [] y = refl
   is-among {Y = Y} test (x ∷ xs) y = by_test (is-among test xs y) (test x)
     where

@@ -3,7 +3,7 @@
 ghost use Rattle.std.specs.Prelude.{◌≡◌, ℕ, ◌-◌, ◌<◌, false, IsTrue, [], ◌++◌, ◌∷◌, length, map, take, Some, None, IfOk, OnOk, OnErr, option_copied};
 ghost use Rattle.std.specs.Option.{option_map, is_some};
 ghost use Rattle.std.specs.Result.{result_err};
-ghost use Rattle.sect_catalog.specs.Catalogue.{find_offering, find_course, find_config, find_section, offering_of_course, is_cancelled as cancelled_in};
+ghost use Rattle.sect_catalog.specs.Catalogue.{find_offering, find_course, find_config, find_section, offering_of_course, offering_of_config, offering_of_section, is_cancelled as cancelled_in};
 ghost use Rattle.sect_catalog.specs.Fault.{known_id as first_known, fault_of};
 ghost use Rattle.sect_catalog.specs.Place.{row_entries};
 ghost use Rattle.sect_catalog.specs.Limits.{limit_in, with_limit};
@@ -142,6 +142,26 @@ impl Catalogue {
         course_at(
             &self.rows,
             index::place(&self.places, key(Kind::Course, id.0)),
+        )
+    }
+
+    /// The offering that has a configuration. It takes no memory.
+    pub fn offering_of_config(&self, id: ConfigId) -> Option<&OfferingRow>
+        ensures { option_copied result ≡ offering_of_config self.now.rows id }
+    {
+        offering_at(
+            &self.rows,
+            index::place(&self.places, key(Kind::Config, id.0)),
+        )
+    }
+
+    /// The offering in which a section stands. It takes no memory.
+    pub fn offering_of_section(&self, id: SectionId) -> Option<&OfferingRow>
+        ensures { option_copied result ≡ offering_of_section self.now.rows id }
+    {
+        offering_at(
+            &self.rows,
+            index::place(&self.places, key(Kind::Section, id.0)),
         )
     }
 

@@ -1,10 +1,12 @@
 // The first id of a row that is known already, or stands twice in the row.
 
-ghost use Rattle.std.specs.Prelude.{◌≡◌, find, map, flat_map};
+ghost use Rattle.std.specs.Prelude.{◌≡◌, true, find, map, flat_map};
 ghost use Rattle.std.specs.Option.{option_map};
 ghost use Rattle.sect_catalog.specs.Fault.{subpart_ids, config_ids, row_ids};
+ghost use Rattle.sect_catalog.specs.Apart.{AreApart};
 ghost use Rattle.sect_catalog.specs.Place.{is_taken as taken_of};
 
+use crate::apart::ids_rise;
 use crate::index::{Index, has};
 use crate::place::Key;
 use crate::row::{ConfigRow, CourseRow, OfferingRow, SectionRow, SubpartRow};
@@ -14,77 +16,106 @@ use crate::times::times_in_row;
 pub fn known_id(index: &Index, row: &OfferingRow) -> Option<u32>
     ensures { result ≡ option_map (λ id. id.1) (find (taken_of index.now row.now) (row_ids row.now)) }
 {
-    if is_taken(index, row, (0, row.id.0)) {
+    let apart = ids_rise(row);
+    if is_taken(index, row, apart, (0, row.id.0)) {
         return Some(row.id.0);
     }
-    if let Some(id) = known_course(index, row, row.courses.as_slice()) {
+    if let Some(id) = known_course(index, row, apart, row.courses.as_slice()) {
         return Some(id);
     }
-    known_in_configs(index, row, row.configs.as_slice())
+    known_in_configs(index, row, apart, row.configs.as_slice())
 }
 
-fn is_taken(index: &Index, row: &OfferingRow, id: Key) -> bool
+/// Whether the index has the id, or the row has it twice, which isn't asked where its ids are known to be apart.
+fn is_taken(index: &Index, row: &OfferingRow, apart: bool, id: Key) -> bool
+    requires { apart ≡ true → AreApart row.now }
     ensures { result ≡ taken_of index.now row.now id }
 {
-    has(index, id) || times_in_row(row, id) > 1
+    has(index, id) || !apart && times_in_row(row, id) > 1
 }
 
-fn known_course(index: &Index, row: &OfferingRow, courses: &[CourseRow]) -> Option<u32>
+fn known_course(index: &Index, row: &OfferingRow, apart: bool, courses: &[CourseRow]) -> Option<u32>
+    requires { apart ≡ true → AreApart row.now }
     ensures { result ≡ option_map (λ id. id.1) (find (taken_of index.now row.now) (map (λ c. (1, c.id.0)) courses.now)) }
 {
     for course in courses {
-        if is_taken(index, row, (1, course.id.0)) {
+        if is_taken(index, row, apart, (1, course.id.0)) {
             return Some(course.id.0);
         }
     }
     None
 }
 
-fn known_in_configs(index: &Index, row: &OfferingRow, configs: &[ConfigRow]) -> Option<u32>
+fn known_in_configs(
+    index: &Index,
+    row: &OfferingRow,
+    apart: bool,
+    configs: &[ConfigRow],
+) -> Option<u32>
+    requires { apart ≡ true → AreApart row.now }
     ensures { result ≡ option_map (λ id. id.1) (find (taken_of index.now row.now) (flat_map config_ids configs.now)) }
 {
     for config in configs {
-        if let Some(id) = known_in_config(index, row, config) {
+        if let Some(id) = known_in_config(index, row, apart, config) {
             return Some(id);
         }
     }
     None
 }
 
-fn known_in_config(index: &Index, row: &OfferingRow, config: &ConfigRow) -> Option<u32>
+fn known_in_config(index: &Index, row: &OfferingRow, apart: bool, config: &ConfigRow) -> Option<u32>
+    requires { apart ≡ true → AreApart row.now }
     ensures { result ≡ option_map (λ id. id.1) (find (taken_of index.now row.now) (config_ids config.now)) }
 {
-    if is_taken(index, row, (2, config.id.0)) {
+    if is_taken(index, row, apart, (2, config.id.0)) {
         return Some(config.id.0);
     }
-    known_in_subparts(index, row, config.subparts.as_slice())
+    known_in_subparts(index, row, apart, config.subparts.as_slice())
 }
 
-fn known_in_subparts(index: &Index, row: &OfferingRow, subparts: &[SubpartRow]) -> Option<u32>
+fn known_in_subparts(
+    index: &Index,
+    row: &OfferingRow,
+    apart: bool,
+    subparts: &[SubpartRow],
+) -> Option<u32>
+    requires { apart ≡ true → AreApart row.now }
     ensures { result ≡ option_map (λ id. id.1) (find (taken_of index.now row.now) (flat_map subpart_ids subparts.now)) }
 {
     for subpart in subparts {
-        if let Some(id) = known_in_subpart(index, row, subpart) {
+        if let Some(id) = known_in_subpart(index, row, apart, subpart) {
             return Some(id);
         }
     }
     None
 }
 
-fn known_in_subpart(index: &Index, row: &OfferingRow, subpart: &SubpartRow) -> Option<u32>
+fn known_in_subpart(
+    index: &Index,
+    row: &OfferingRow,
+    apart: bool,
+    subpart: &SubpartRow,
+) -> Option<u32>
+    requires { apart ≡ true → AreApart row.now }
     ensures { result ≡ option_map (λ id. id.1) (find (taken_of index.now row.now) (subpart_ids subpart.now)) }
 {
-    if is_taken(index, row, (3, subpart.id.0)) {
+    if is_taken(index, row, apart, (3, subpart.id.0)) {
         return Some(subpart.id.0);
     }
-    known_section(index, row, subpart.sections.as_slice())
+    known_section(index, row, apart, subpart.sections.as_slice())
 }
 
-fn known_section(index: &Index, row: &OfferingRow, sections: &[SectionRow]) -> Option<u32>
+fn known_section(
+    index: &Index,
+    row: &OfferingRow,
+    apart: bool,
+    sections: &[SectionRow],
+) -> Option<u32>
+    requires { apart ≡ true → AreApart row.now }
     ensures { result ≡ option_map (λ id. id.1) (find (taken_of index.now row.now) (map (λ s. (4, s.id.0)) sections.now)) }
 {
     for section in sections {
-        if is_taken(index, row, (4, section.id.0)) {
+        if is_taken(index, row, apart, (4, section.id.0)) {
             return Some(section.id.0);
         }
     }

@@ -15,9 +15,10 @@ use Rattle.sect_words.specs.Parts.{pieces}
 use Rattle.sect_words.specs.Reading.{◌>>=◌, later_parts, whole}
 use Rattle.sect_words.specs.ReadingWords.{day_of}
 use Rattle.sect_check.specs.declared.form.Form.TheVariants as forms
-use Rattle.sect_check.specs.declared.form.Kind.{Kind}
-use Rattle.sect_check.specs.Fits.{fits, kind_of}
-use Rattle.sect_check.specs.Walks.{Walk, arguments_walk, day_by, day_walk, end_walk, front_walk, kind_at, kind_walk, line_walk, passed, PassesRequests, request_walk, stopped, walk_on, word_walk}
+use Rattle.sect_read.specs.declared.verb.Verb.{Verb}
+use Rattle.sect_read.specs.declared.verb.Verb.TheVariants as verbs
+use Rattle.sect_check.specs.Fits.{fits}
+use Rattle.sect_check.specs.Walks.{Walk, arguments_walk, day_by, day_walk, end_walk, front_walk, verb_at, verb_walk, line_walk, passed, PassesRequests, request_walk, stopped, walk_on, word_walk}
 use Rattle.sect_check.proofs.Agree.{Agree, agree_then, agree_made, agree_number, agree_caller}
 use Rattle.sect_check.proofs.OfCommands.{agree_offering, agree_student, agree_requests, agree_reserve, agree_expire, agree_restrict, agree_limit_command, agree_enrol, agree_drop, agree_swap, agree_wait, agree_unwait, agree_unreserve, agree_unrestrict, agree_cancel, agree_batch}
 
@@ -54,50 +55,45 @@ Ends (passed rest) (Err fault) = ⊥
 Ends (stopped rest form) (Ok ask) = ⊥
 Ends (stopped rest form) (Err fault) = ⊤
 
-pub ends_command : (front : Option ℕ × Id) (kind : Kind) (w : Walk) (r : Option (Command × List (List ℕ))) → Agree w r
-    → Ends (walk_on w (λ rest. end_walk kind rest)) (asked front (whole r))
-ends_command front kind (passed rest) (Some (command, [])) same =
-    subst (λ (l : List (List ℕ)). Ends (end_walk kind l) (asked front (whole (Some (command, []))))) (sym same) refl
-ends_command front kind (passed rest) (Some (command, part ∷ parts)) same =
-    subst (λ (l : List (List ℕ)). Ends (end_walk kind l) (asked front (whole (Some (command, part ∷ parts))))) (sym same) tt
-ends_command front kind (passed rest) None same = absurd same
-ends_command front kind (stopped rest form) None same = tt
-ends_command front kind (stopped rest form) (Some (command, left)) same = absurd same
+pub ends_command : (front : Option ℕ × Id) (verb : Verb) (w : Walk) (r : Option (Command × List (List ℕ))) → Agree w r
+    → Ends (walk_on w (λ rest. end_walk verb rest)) (asked front (whole r))
+ends_command front verb (passed rest) (Some (command, [])) same =
+    subst (λ (l : List (List ℕ)). Ends (end_walk verb l) (asked front (whole (Some (command, []))))) (sym same) refl
+ends_command front verb (passed rest) (Some (command, part ∷ parts)) same =
+    subst (λ (l : List (List ℕ)). Ends (end_walk verb l) (asked front (whole (Some (command, part ∷ parts))))) (sym same) tt
+ends_command front verb (passed rest) None same = absurd same
+ends_command front verb (stopped rest form) None same = tt
+ends_command front verb (stopped rest form) (Some (command, left)) same = absurd same
 
-pub both_if : {A B : Type 0} (P : A → B → Type 0) (b : Bool) (x y : A) (v w : B) → P x v → P y w → P (if b then x else y) (if b then v else w)
-both_if P true x y v w p q = p
-both_if P false x y v w p q = q
+pub ends_verb : (front : Option ℕ × Id) (verb : Option Verb) (word : List ℕ) (words : List (List ℕ))
+    → Ends (verb_walk verb (word ∷ words)) (asked_by front verb words)
+unfolding arguments_walk
+ends_verb front None word words = tt
+ends_verb front (Some verbs.Offering) word words = ends_command front _ _ _ (agree_offering words)
+ends_verb front (Some verbs.Student) word words = ends_command front _ _ _ (agree_student words)
+ends_verb front (Some verbs.Requests) word words = ends_command front _ _ _ (agree_requests words)
+ends_verb front (Some verbs.Reserve) word words = ends_command front _ _ _ (agree_reserve words)
+ends_verb front (Some verbs.Unreserve) word words = ends_command front _ _ _ (agree_unreserve words)
+ends_verb front (Some verbs.Expire) word words = ends_command front _ _ _ (agree_expire words)
+ends_verb front (Some verbs.Restrict) word words = ends_command front _ _ _ (agree_restrict words)
+ends_verb front (Some verbs.Unrestrict) word words = ends_command front _ _ _ (agree_unrestrict words)
+ends_verb front (Some verbs.Limit) word words = ends_command front _ _ _ (agree_limit_command words)
+ends_verb front (Some verbs.Cancel) word words = ends_command front _ _ _ (agree_cancel words)
+ends_verb front (Some verbs.Enrol) word words = ends_command front _ _ _ (agree_enrol words)
+ends_verb front (Some verbs.Drop) word words = ends_command front _ _ _ (agree_drop words)
+ends_verb front (Some verbs.Swap) word words = ends_command front _ _ _ (agree_swap words)
+ends_verb front (Some verbs.Wait) word words = ends_command front _ _ _ (agree_wait words)
+ends_verb front (Some verbs.Unwait) word words = ends_command front _ _ _ (agree_unwait words)
+ends_verb front (Some verbs.Batch) word words = ends_command front _ _ _ (agree_batch words)
 
-pub ends_verb : (front : Option ℕ × Id) (word : List ℕ) (words : List (List ℕ))
-    → Ends (kind_walk (kind_of word) (word ∷ words)) (asked_by front (verb_of word) words)
-unfolding kind_of verb_of arguments_walk
-ends_verb front word words =
-    let step = both_if (λ o k. Ends (kind_walk k (word ∷ words)) (asked_by front o words)) in
-    step (bytes_eq word (codes "offering")) _ _ _ _ (ends_command front _ _ _ (agree_offering words))
-    (step (bytes_eq word (codes "student")) _ _ _ _ (ends_command front _ _ _ (agree_student words))
-    (step (bytes_eq word (codes "requests")) _ _ _ _ (ends_command front _ _ _ (agree_requests words))
-    (step (bytes_eq word (codes "reserve")) _ _ _ _ (ends_command front _ _ _ (agree_reserve words))
-    (step (bytes_eq word (codes "unreserve")) _ _ _ _ (ends_command front _ _ _ (agree_unreserve words))
-    (step (bytes_eq word (codes "expire")) _ _ _ _ (ends_command front _ _ _ (agree_expire words))
-    (step (bytes_eq word (codes "restrict")) _ _ _ _ (ends_command front _ _ _ (agree_restrict words))
-    (step (bytes_eq word (codes "unrestrict")) _ _ _ _ (ends_command front _ _ _ (agree_unrestrict words))
-    (step (bytes_eq word (codes "limit")) _ _ _ _ (ends_command front _ _ _ (agree_limit_command words))
-    (step (bytes_eq word (codes "cancel")) _ _ _ _ (ends_command front _ _ _ (agree_cancel words))
-    (step (bytes_eq word (codes "enrol")) _ _ _ _ (ends_command front _ _ _ (agree_enrol words))
-    (step (bytes_eq word (codes "drop")) _ _ _ _ (ends_command front _ _ _ (agree_drop words))
-    (step (bytes_eq word (codes "swap")) _ _ _ _ (ends_command front _ _ _ (agree_swap words))
-    (step (bytes_eq word (codes "wait")) _ _ _ _ (ends_command front _ _ _ (agree_wait words))
-    (step (bytes_eq word (codes "unwait")) _ _ _ _ (ends_command front _ _ _ (agree_unwait words))
-    (step (bytes_eq word (codes "batch")) _ _ _ _ (ends_command front _ _ _ (agree_batch words)) tt)))))))))))))))
-
-pub ends_behind : (front : Option ℕ × Id) (words : List (List ℕ)) → Ends (kind_walk (kind_at words) words) (asked_behind front words)
+pub ends_behind : (front : Option ℕ × Id) (words : List (List ℕ)) → Ends (verb_walk (verb_at words) words) (asked_behind front words)
 ends_behind front [] = tt
-ends_behind front (word ∷ words) = ends_verb front word words
+ends_behind front (word ∷ words) = ends_verb front (verb_of word) word words
 
 pub ends_front : (w : Walk) (r : Option ((Option ℕ × Id) × List (List ℕ))) → Agree w r
-    → Ends (walk_on w (λ front. kind_walk (kind_at front) front)) (line_at r)
+    → Ends (walk_on w (λ front. verb_walk (verb_at front) front)) (line_at r)
 ends_front (passed rest) (Some (front, left)) same =
-    subst (λ (l : List (List ℕ)). Ends (kind_walk (kind_at l) l) (asked_behind front left)) (sym same) (ends_behind front left)
+    subst (λ (l : List (List ℕ)). Ends (verb_walk (verb_at l) l) (asked_behind front left)) (sym same) (ends_behind front left)
 ends_front (passed rest) None same = absurd same
 ends_front (stopped rest form) None same = tt
 ends_front (stopped rest form) (Some (front, left)) same = absurd same

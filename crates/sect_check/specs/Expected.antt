@@ -2,27 +2,27 @@
 use Rattle.std.specs.Prelude.{ℕ, List, ◌++◌, codes, decimal}
 use Rattle.sect_check.specs.declared.form.Form.{Form}
 use Rattle.sect_check.specs.declared.form.Form.TheVariants as forms
-use Rattle.sect_check.specs.declared.form.Kind.{Kind}
-use Rattle.sect_check.specs.declared.form.Kind.TheVariants as kinds
+use Rattle.sect_read.specs.declared.verb.Verb.{Verb}
+use Rattle.sect_read.specs.declared.verb.Verb.TheVariants as verbs
 
--- the words of a command of this kind, in their order
-unfoldable pub kind_text : Kind → List ℕ
-kind_text kinds.Offering = codes "offering ID course ID LIMIT CREDITS .. config ID LIMIT subpart ID section ID LIMIT PARENT MEETINGS .."
-kind_text kinds.Student = codes "student ID max N [group ID ..] [curriculum AREA:CLASS:MAJORS ..]"
-kind_text kinds.Requests = codes "requests STUDENT [course IDS [wait] [substitute] | free MEETING ..]"
-kind_text kinds.Reserve = codes "reserve ID OFFERING AUDIENCE LIMIT EXPIRY [from DAY] [config ID ..] [section ID ..] [over] [overlap] [must]"
-kind_text kinds.Unreserve = codes "unreserve ID"
-kind_text kinds.Expire = codes "expire ID EXPIRY"
-kind_text kinds.Restrict = codes "restrict ID OFFERING AUDIENCE [config ID ..] [section ID ..]"
-kind_text kinds.Unrestrict = codes "unrestrict ID"
-kind_text kinds.Limit = codes "limit course|config|section ID LIMIT"
-kind_text kinds.Cancel = codes "cancel SECTION"
-kind_text kinds.Enrol = codes "enrol STUDENT IDS [only IDS] [rank N] [budget N]"
-kind_text kinds.Drop = codes "drop STUDENT COURSE"
-kind_text kinds.Swap = codes "swap STUDENT [give COURSE ..] [take IDS [only IDS] [rank N] ..] [budget N]"
-kind_text kinds.Wait = codes "wait STUDENT IDS [only IDS] [rank N] [give COURSE] [class N]"
-kind_text kinds.Unwait = codes "unwait STUDENT TICKET"
-kind_text kinds.Batch = codes "batch IDS"
+-- the words of this command, in their order
+unfoldable pub command_shape : Verb → List ℕ
+command_shape verbs.Offering = codes "offering ID course ID LIMIT CREDITS .. config ID LIMIT subpart ID section ID LIMIT PARENT MEETINGS .."
+command_shape verbs.Student = codes "student ID max N [group ID ..] [curriculum AREA:CLASS:MAJORS ..]"
+command_shape verbs.Requests = codes "requests STUDENT [course IDS [wait] [substitute] | free MEETING ..]"
+command_shape verbs.Reserve = codes "reserve ID OFFERING AUDIENCE LIMIT EXPIRY [from DAY] [config ID ..] [section ID ..] [over] [overlap] [must]"
+command_shape verbs.Unreserve = codes "unreserve ID"
+command_shape verbs.Expire = codes "expire ID EXPIRY"
+command_shape verbs.Restrict = codes "restrict ID OFFERING AUDIENCE [config ID ..] [section ID ..]"
+command_shape verbs.Unrestrict = codes "unrestrict ID"
+command_shape verbs.Limit = codes "limit course|config|section ID LIMIT"
+command_shape verbs.Cancel = codes "cancel SECTION"
+command_shape verbs.Enrol = codes "enrol STUDENT IDS [only IDS] [rank N] [budget N]"
+command_shape verbs.Drop = codes "drop STUDENT COURSE"
+command_shape verbs.Swap = codes "swap STUDENT [give COURSE ..] [take IDS [only IDS] [rank N] ..] [budget N]"
+command_shape verbs.Wait = codes "wait STUDENT IDS [only IDS] [rank N] [give COURSE] [class N]"
+command_shape verbs.Unwait = codes "unwait STUDENT TICKET"
+command_shape verbs.Batch = codes "batch IDS"
 
 -- the form in words
 unfoldable pub form_text : Form → List ℕ
@@ -46,4 +46,4 @@ form_text forms.Curriculum = codes "a curriculum: AREA:CLASS:MAJORS"
 form_text (forms.UpTo most) = codes "a number from 1 to " ++ decimal most
 form_text forms.Max = codes "max"
 form_text forms.Level = codes "course, config or section"
-form_text (forms.End kind) = codes "the end of the line, or a word in this order: " ++ kind_text kind
+form_text (forms.End verb) = codes "the end of the line, or a word in this order: " ++ command_shape verb

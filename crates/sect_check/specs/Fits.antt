@@ -5,8 +5,6 @@ use Rattle.std.specs.Str.{bytes_eq}
 use Rattle.sect_words.specs.ReadingWords.{audience_of, between_of, caller_of, curriculum_of, day_of, limit_of, list_of, meeting_of, optional_of, u16_of, u32_of, u64_of}
 use Rattle.sect_check.specs.declared.form.Form.{Form}
 use Rattle.sect_check.specs.declared.form.Form.TheVariants as forms
-use Rattle.sect_check.specs.declared.form.Kind.{Kind}
-use Rattle.sect_check.specs.declared.form.Kind.TheVariants as kinds
 
 -- the word has the form; what stands for a word of the command or the end is no form of one word
 unfoldable pub fits : Form → List ℕ → Bool
@@ -29,24 +27,4 @@ fits forms.DayMark word = false
 fits forms.Command word = false
 fits forms.Max word = false
 fits forms.Level word = false
-fits (forms.End kind) word = false
-
--- the kind of the command that a word names
-unfoldable pub kind_of : List ℕ → Option Kind
-kind_of word =
-    if bytes_eq word (codes "offering") then Some kinds.Offering else
-    (if bytes_eq word (codes "student") then Some kinds.Student else
-    (if bytes_eq word (codes "requests") then Some kinds.Requests else
-    (if bytes_eq word (codes "reserve") then Some kinds.Reserve else
-    (if bytes_eq word (codes "unreserve") then Some kinds.Unreserve else
-    (if bytes_eq word (codes "expire") then Some kinds.Expire else
-    (if bytes_eq word (codes "restrict") then Some kinds.Restrict else
-    (if bytes_eq word (codes "unrestrict") then Some kinds.Unrestrict else
-    (if bytes_eq word (codes "limit") then Some kinds.Limit else
-    (if bytes_eq word (codes "cancel") then Some kinds.Cancel else
-    (if bytes_eq word (codes "enrol") then Some kinds.Enrol else
-    (if bytes_eq word (codes "drop") then Some kinds.Drop else
-    (if bytes_eq word (codes "swap") then Some kinds.Swap else
-    (if bytes_eq word (codes "wait") then Some kinds.Wait else
-    (if bytes_eq word (codes "unwait") then Some kinds.Unwait else
-    (if bytes_eq word (codes "batch") then Some kinds.Batch else None)))))))))))))))
+fits (forms.End verb) word = false

@@ -11,9 +11,10 @@ use Rattle.sect_check.specs.declared.form.Form.{Form}
 use Rattle.sect_check.specs.declared.form.Form.TheVariants as forms
 use Rattle.sect_check.specs.declared.form.Halt.{Halt}
 use Rattle.sect_check.specs.declared.form.Halt.TheVariants as halts
-use Rattle.sect_check.specs.declared.form.Kind.{Kind}
-use Rattle.sect_check.specs.declared.form.Kind.TheVariants as kinds
-use Rattle.sect_check.specs.Fits.{fits, kind_of}
+use Rattle.sect_read.specs.declared.verb.Verb.{Verb}
+use Rattle.sect_read.specs.declared.verb.Verb.TheVariants as verbs
+use Rattle.sect_read.specs.ReadingCommands.{verb_of}
+use Rattle.sect_check.specs.Fits.{fits}
 
 -- the words behind those that were passed, or those from the first that has not the form that is expected there
 pub data Walk : Type 0 where
@@ -217,29 +218,29 @@ unwait_walk words = do
   student ← word_walk forms.Id words
   word_walk forms.Number student
 
--- what stands behind the word of a command of this kind
-unfoldable pub arguments_walk : Kind → List (List ℕ) → Walk
-arguments_walk kinds.Offering words = offering_walk words
-arguments_walk kinds.Student words = student_walk words
-arguments_walk kinds.Requests words = requests_walk words
-arguments_walk kinds.Reserve words = reserve_walk words
-arguments_walk kinds.Unreserve words = word_walk forms.Id words
-arguments_walk kinds.Expire words = expire_walk words
-arguments_walk kinds.Restrict words = restrict_walk words
-arguments_walk kinds.Unrestrict words = word_walk forms.Id words
-arguments_walk kinds.Limit words = limit_walk words
-arguments_walk kinds.Cancel words = word_walk forms.Id words
-arguments_walk kinds.Enrol words = enrol_walk words
-arguments_walk kinds.Drop words = drop_walk words
-arguments_walk kinds.Swap words = swap_walk words
-arguments_walk kinds.Wait words = wait_walk words
-arguments_walk kinds.Unwait words = unwait_walk words
-arguments_walk kinds.Batch words = word_walk forms.Ids words
+-- what stands behind the word of this command
+unfoldable pub arguments_walk : Verb → List (List ℕ) → Walk
+arguments_walk verbs.Offering words = offering_walk words
+arguments_walk verbs.Student words = student_walk words
+arguments_walk verbs.Requests words = requests_walk words
+arguments_walk verbs.Reserve words = reserve_walk words
+arguments_walk verbs.Unreserve words = word_walk forms.Id words
+arguments_walk verbs.Expire words = expire_walk words
+arguments_walk verbs.Restrict words = restrict_walk words
+arguments_walk verbs.Unrestrict words = word_walk forms.Id words
+arguments_walk verbs.Limit words = limit_walk words
+arguments_walk verbs.Cancel words = word_walk forms.Id words
+arguments_walk verbs.Enrol words = enrol_walk words
+arguments_walk verbs.Drop words = drop_walk words
+arguments_walk verbs.Swap words = swap_walk words
+arguments_walk verbs.Wait words = wait_walk words
+arguments_walk verbs.Unwait words = unwait_walk words
+arguments_walk verbs.Batch words = word_walk forms.Ids words
 
--- nothing stands behind a command of this kind
-abbrev pub end_walk : Kind → List (List ℕ) → Walk
-end_walk kind [] = passed []
-end_walk kind (word ∷ words) = stopped (word ∷ words) (forms.End kind)
+-- nothing stands behind this command
+abbrev pub end_walk : Verb → List (List ℕ) → Walk
+end_walk verb [] = passed []
+end_walk verb (word ∷ words) = stopped (word ∷ words) (forms.End verb)
 
 -- `@` and a day, where the first word begins with `@`
 abbrev pub day_by : Option (List ℕ) → List (List ℕ) → Walk
@@ -257,21 +258,21 @@ front_walk words = do
   caller ← word_walk forms.Caller day
   word_walk forms.Number caller
 
--- a command of this kind, whose word comes first
-abbrev pub kind_walk : Option Kind → List (List ℕ) → Walk
-kind_walk None words = stopped words forms.Command
-kind_walk (Some kind) words = arguments_walk kind (later_parts words) >>= end_walk kind
+-- a command, whose word comes first
+abbrev pub verb_walk : Option Verb → List (List ℕ) → Walk
+verb_walk None words = stopped words forms.Command
+verb_walk (Some verb) words = arguments_walk verb (later_parts words) >>= end_walk verb
 
--- the kind of the command that the first of these words names
-abbrev pub kind_at : List (List ℕ) → Option Kind
-kind_at [] = None
-kind_at (word ∷ words) = kind_of word
+-- the command that the first of these words names
+abbrev pub verb_at : List (List ℕ) → Option Verb
+verb_at [] = None
+verb_at (word ∷ words) = verb_of word
 
 -- the words of a request
 unfoldable pub request_walk : List (List ℕ) → Walk
 request_walk words = do
   front ← front_walk words
-  kind_walk (kind_at front) front
+  verb_walk (verb_at front) front
 
 -- the words of a line
 abbrev pub line_walk : List ℕ → Walk

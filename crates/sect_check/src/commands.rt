@@ -18,11 +18,12 @@ ghost use Rattle.sect_check.specs.Walks.{
   wait_walk,
 };
 
-use crate::form::{Form, Halt, Kind};
+use crate::form::{Form, Halt};
 use crate::groups::{
     Ask, ConfigName, ConfigRow, CourseRow, CurriculumName, Give, GroupName, SectionName, Take, want,
 };
 use crate::walk::{each, key, level, mark, option, word};
+use sect_read::Verb;
 use sect_words::Parts;
 use std::alloc::Global;
 
@@ -145,27 +146,27 @@ fn unwait(alloc: Global, words: &mut Parts) -> Result<(), Halt>
     word(alloc, Form::Number, words)
 }
 
-/// Passes what stands behind the word of a command of this kind.
+/// Passes what stands behind the word of this command.
 #[tactic(auto, unfolding(crate::specs::Walks::arguments_walk))]
-pub(crate) fn arguments(alloc: Global, kind: Kind, words: &mut Parts) -> Result<(), Halt>
-    ensures { Walks result words.new (arguments_walk kind words.old) }
+pub(crate) fn arguments(alloc: Global, verb: Verb, words: &mut Parts) -> Result<(), Halt>
+    ensures { Walks result words.new (arguments_walk verb words.old) }
 {
-    match kind {
-        Kind::Offering => offering(alloc, words),
-        Kind::Student => student(alloc, words),
-        Kind::Requests => requests(alloc, words),
-        Kind::Reserve => reserve(alloc, words),
-        Kind::Unreserve => word(alloc, Form::Id, words),
-        Kind::Expire => expire(alloc, words),
-        Kind::Restrict => restrict(alloc, words),
-        Kind::Unrestrict => word(alloc, Form::Id, words),
-        Kind::Limit => limit(alloc, words),
-        Kind::Cancel => word(alloc, Form::Id, words),
-        Kind::Enrol => enrol(alloc, words),
-        Kind::Drop => give_up(alloc, words),
-        Kind::Swap => swap(alloc, words),
-        Kind::Wait => wait(alloc, words),
-        Kind::Unwait => unwait(alloc, words),
-        Kind::Batch => word(alloc, Form::Ids, words),
+    match verb {
+        Verb::Offering => offering(alloc, words),
+        Verb::Student => student(alloc, words),
+        Verb::Requests => requests(alloc, words),
+        Verb::Reserve => reserve(alloc, words),
+        Verb::Unreserve => word(alloc, Form::Id, words),
+        Verb::Expire => expire(alloc, words),
+        Verb::Restrict => restrict(alloc, words),
+        Verb::Unrestrict => word(alloc, Form::Id, words),
+        Verb::Limit => limit(alloc, words),
+        Verb::Cancel => word(alloc, Form::Id, words),
+        Verb::Enrol => enrol(alloc, words),
+        Verb::Drop => give_up(alloc, words),
+        Verb::Swap => swap(alloc, words),
+        Verb::Wait => wait(alloc, words),
+        Verb::Unwait => unwait(alloc, words),
+        Verb::Batch => word(alloc, Form::Ids, words),
     }
 }

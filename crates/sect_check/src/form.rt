@@ -1,4 +1,6 @@
-// The forms of words, and the kinds of commands.
+// The forms of words.
+
+use sect_read::Verb;
 
 /// What is expected where a word of a line stands.
 #[derive(Clone, Copy, Debug, PartialEq, Eq)]
@@ -31,29 +33,8 @@ pub enum Form {
     Max,
     /// `course`, `config` or `section`.
     Level,
-    /// The end of a command of this kind, or a word that may stand before it.
-    End(Kind),
-}
-
-/// The kinds of commands.
-#[derive(Clone, Copy, Debug, PartialEq, Eq)]
-pub enum Kind {
-    Offering,
-    Student,
-    Requests,
-    Reserve,
-    Unreserve,
-    Expire,
-    Restrict,
-    Unrestrict,
-    Limit,
-    Cancel,
-    Enrol,
-    Drop,
-    Swap,
-    Wait,
-    Unwait,
-    Batch,
+    /// The end of this command, or a word that may stand before it.
+    End(Verb),
 }
 
 /// Why the words of a line don't go on.

@@ -1,25 +1,14 @@
 // The words of a line, from its day to its end.
 
-ghost use Rattle.std.specs.Prelude.{◌≡◌, ◌==◌, Some, codes};
-ghost use Rattle.std.specs.Option.{option_map};
-ghost use Rattle.sect_read.specs.ReadingLines.{at_of};
-ghost use Rattle.sect_check.specs.Walks.{Walks, day_walk, end_walk, front_walk, kind_walk, kind_at, request_walk};
+ghost use Rattle.std.specs.Prelude.{◌≡◌};
+ghost use Rattle.sect_check.specs.Walks.{Walks, day_walk, end_walk, front_walk, verb_walk, verb_at, request_walk};
 
 use crate::commands::arguments;
-use crate::form::{Form, Halt, Kind};
-use crate::walk::{fits, kind, word};
+use crate::form::{Form, Halt};
+use crate::walk::{fits, word};
+use sect_read::{Verb, behind_at, verb_of};
 use sect_words::Parts;
 use std::alloc::Global;
-
-/// What stands behind `@` in the next word.
-fn behind_at<'a>(words: &Parts<'a>) -> Option<&'a [u8]>
-    ensures { option_map (λ text. text.now) result ≡ at_of words.now }
-{
-    match words.first()? {
-        [b'@', text @ ..] => Some(text),
-        _ => None,
-    }
-}
 
 /// Passes the day, where the line names one.
 #[tactic(auto, unfolding(crate::specs::Walks::day_walk))]
@@ -46,37 +35,37 @@ fn front(alloc: Global, words: &mut Parts) -> Result<(), Halt>
     word(alloc, Form::Number, words)
 }
 
-/// The kind of the command that the next word names.
-fn next_kind(words: &Parts) -> Option<Kind>
-    ensures { result ≡ kind_at words.now }
+/// The command that the next word names.
+fn next_verb(words: &Parts) -> Option<Verb>
+    ensures { result ≡ verb_at words.now }
 {
     match words.first() {
-        Some(word) => kind(word),
+        Some(word) => verb_of(word),
         None => None,
     }
 }
 
-/// Passes the end of a command of this kind.
-fn end(kind: Kind, words: &mut Parts) -> Result<(), Halt>
-    ensures { Walks result words.new (end_walk kind words.old) }
+/// Passes the end of this command.
+fn end(verb: Verb, words: &mut Parts) -> Result<(), Halt>
+    ensures { Walks result words.new (end_walk verb words.old) }
 {
     if words.is_empty() {
         Ok(())
     } else {
-        Err(Halt::Bad(Form::End(kind)))
+        Err(Halt::Bad(Form::End(verb)))
     }
 }
 
-/// Passes a command of this kind, whose word comes first.
-fn command(alloc: Global, kind: Option<Kind>, words: &mut Parts) -> Result<(), Halt>
-    ensures { Walks result words.new (kind_walk kind words.old) }
+/// Passes a command, whose word comes first.
+fn command(alloc: Global, verb: Option<Verb>, words: &mut Parts) -> Result<(), Halt>
+    ensures { Walks result words.new (verb_walk verb words.old) }
 {
-    let Some(kind) = kind else {
+    let Some(verb) = verb else {
         return Err(Halt::Bad(Form::Command));
     };
     words.take();
-    arguments(alloc, kind, words)?;
-    end(kind, words)
+    arguments(alloc, verb, words)?;
+    end(verb, words)
 }
 
 /// Passes the words of a request.
@@ -85,6 +74,6 @@ pub(crate) fn request(alloc: Global, words: &mut Parts) -> Result<(), Halt>
     ensures { Walks result words.new (request_walk words.old) }
 {
     front(alloc, words)?;
-    let kind = next_kind(words);
-    command(alloc, kind, words)
+    let verb = next_verb(words);
+    command(alloc, verb, words)
 }

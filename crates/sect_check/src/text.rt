@@ -1,55 +1,56 @@
 // Prints forms.
 
 ghost use Rattle.std.specs.Prelude.{◌≡◌, ◌++◌, OnOk, codes, decimal};
-ghost use Rattle.sect_check.specs.Expected.{form_text, kind_text};
+ghost use Rattle.sect_check.specs.Expected.{form_text, command_shape};
 
-use crate::form::{Form, Kind};
+use crate::form::Form;
 use sect_base::Memory;
+use sect_read::Verb;
 use sect_words::{print_number, print_text};
 
-/// Appends the words of a command of this kind.
-#[tactic(auto, unfolding(crate::specs::Expected::kind_text))]
-fn print_kind(kind: Kind, into: &mut Vec<u8>) -> Result<(), Memory>
-    ensures { OnOk result (into.new.items ≡ into.old.items ++ kind_text kind) }
+/// Appends the words of this command.
+#[tactic(auto, unfolding(crate::specs::Expected::command_shape))]
+fn print_shape(verb: Verb, into: &mut Vec<u8>) -> Result<(), Memory>
+    ensures { OnOk result (into.new.items ≡ into.old.items ++ command_shape verb) }
 {
-    match kind {
-        Kind::Offering => print_text(
+    match verb {
+        Verb::Offering => print_text(
             "offering ID course ID LIMIT CREDITS .. config ID LIMIT subpart ID section ID LIMIT PARENT MEETINGS ..",
             into,
         ),
-        Kind::Student => print_text(
+        Verb::Student => print_text(
             "student ID max N [group ID ..] [curriculum AREA:CLASS:MAJORS ..]",
             into,
         ),
-        Kind::Requests => print_text(
+        Verb::Requests => print_text(
             "requests STUDENT [course IDS [wait] [substitute] | free MEETING ..]",
             into,
         ),
-        Kind::Reserve => print_text(
+        Verb::Reserve => print_text(
             "reserve ID OFFERING AUDIENCE LIMIT EXPIRY [from DAY] [config ID ..] [section ID ..] [over] [overlap] [must]",
             into,
         ),
-        Kind::Unreserve => print_text("unreserve ID", into),
-        Kind::Expire => print_text("expire ID EXPIRY", into),
-        Kind::Restrict => print_text(
+        Verb::Unreserve => print_text("unreserve ID", into),
+        Verb::Expire => print_text("expire ID EXPIRY", into),
+        Verb::Restrict => print_text(
             "restrict ID OFFERING AUDIENCE [config ID ..] [section ID ..]",
             into,
         ),
-        Kind::Unrestrict => print_text("unrestrict ID", into),
-        Kind::Limit => print_text("limit course|config|section ID LIMIT", into),
-        Kind::Cancel => print_text("cancel SECTION", into),
-        Kind::Enrol => print_text("enrol STUDENT IDS [only IDS] [rank N] [budget N]", into),
-        Kind::Drop => print_text("drop STUDENT COURSE", into),
-        Kind::Swap => print_text(
+        Verb::Unrestrict => print_text("unrestrict ID", into),
+        Verb::Limit => print_text("limit course|config|section ID LIMIT", into),
+        Verb::Cancel => print_text("cancel SECTION", into),
+        Verb::Enrol => print_text("enrol STUDENT IDS [only IDS] [rank N] [budget N]", into),
+        Verb::Drop => print_text("drop STUDENT COURSE", into),
+        Verb::Swap => print_text(
             "swap STUDENT [give COURSE ..] [take IDS [only IDS] [rank N] ..] [budget N]",
             into,
         ),
-        Kind::Wait => print_text(
+        Verb::Wait => print_text(
             "wait STUDENT IDS [only IDS] [rank N] [give COURSE] [class N]",
             into,
         ),
-        Kind::Unwait => print_text("unwait STUDENT TICKET", into),
-        Kind::Batch => print_text("batch IDS", into),
+        Verb::Unwait => print_text("unwait STUDENT TICKET", into),
+        Verb::Batch => print_text("batch IDS", into),
     }
 }
 
@@ -61,12 +62,12 @@ fn print_most(most: u32, into: &mut Vec<u8>) -> Result<(), Memory>
     print_number(most, into)
 }
 
-/// Appends the end of a command of this kind, in words.
-fn print_end(kind: Kind, into: &mut Vec<u8>) -> Result<(), Memory>
-    ensures { OnOk result (into.new.items ≡ into.old.items ++ (codes "the end of the line, or a word in this order: " ++ kind_text kind)) }
+/// Appends the end of this command, in words.
+fn print_end(verb: Verb, into: &mut Vec<u8>) -> Result<(), Memory>
+    ensures { OnOk result (into.new.items ≡ into.old.items ++ (codes "the end of the line, or a word in this order: " ++ command_shape verb)) }
 {
     print_text("the end of the line, or a word in this order: ", into)?;
-    print_kind(kind, into)
+    print_shape(verb, into)
 }
 
 /// Appends the form in words. After `Memory` a part of it may stand at the end.
@@ -112,6 +113,6 @@ pub(crate) fn print_form(form: Form, into: &mut Vec<u8>) -> Result<(), Memory>
         Form::UpTo(most) => print_most(most, into),
         Form::Max => print_text("max", into),
         Form::Level => print_text("course, config or section", into),
-        Form::End(kind) => print_end(kind, into),
+        Form::End(verb) => print_end(verb, into),
     }
 }

@@ -4,14 +4,14 @@ ghost use Rattle.std.specs.Prelude.{◌≡◌, ◌<◌, ◌≤◌, ◌||◌, ℕ
 ghost use Rattle.std.specs.Option.{is_some};
 ghost use Rattle.sect_words.specs.Reading.{Means, later_parts};
 ghost use Rattle.sect_check.specs.declared.form.Halt.TheVariants as halts;
-ghost use Rattle.sect_check.specs.Fits.{fits as fits_form, kind_of};
+ghost use Rattle.sect_check.specs.Fits.{fits as fits_form};
 ghost use Rattle.sect_check.specs.Walks.{Walk, Walks, behind_mark, each_walk, key_walk, level_walk, option_walk, pair_walk, word_walk};
 
-use crate::form::{Form, Halt, Kind};
+use crate::form::{Form, Halt};
 use sect_base::{Caller, Curriculum, Items, Limit, Memory};
 use sect_reserve::Audience;
 use sect_time::{Day, Meeting};
-use sect_words::{Fault, Parts, Readable, read_between, same_bytes};
+use sect_words::{Fault, Parts, Readable, read_between};
 use std::alloc::Global;
 
 /// Whether a value was read.
@@ -155,60 +155,4 @@ impl From<Memory> for Halt {
     fn from(_: Memory) -> Self {
         Halt::Memory
     }
-}
-
-/// The kind of the command that a word names.
-#[tactic(auto, unfolding(crate::specs::Fits::kind_of))]
-pub(crate) fn kind(word: &[u8]) -> Option<Kind>
-    ensures { result ≡ kind_of word.now }
-{
-    if same_bytes(word, b"offering") {
-        return Some(Kind::Offering);
-    }
-    if same_bytes(word, b"student") {
-        return Some(Kind::Student);
-    }
-    if same_bytes(word, b"requests") {
-        return Some(Kind::Requests);
-    }
-    if same_bytes(word, b"reserve") {
-        return Some(Kind::Reserve);
-    }
-    if same_bytes(word, b"unreserve") {
-        return Some(Kind::Unreserve);
-    }
-    if same_bytes(word, b"expire") {
-        return Some(Kind::Expire);
-    }
-    if same_bytes(word, b"restrict") {
-        return Some(Kind::Restrict);
-    }
-    if same_bytes(word, b"unrestrict") {
-        return Some(Kind::Unrestrict);
-    }
-    if same_bytes(word, b"limit") {
-        return Some(Kind::Limit);
-    }
-    if same_bytes(word, b"cancel") {
-        return Some(Kind::Cancel);
-    }
-    if same_bytes(word, b"enrol") {
-        return Some(Kind::Enrol);
-    }
-    if same_bytes(word, b"drop") {
-        return Some(Kind::Drop);
-    }
-    if same_bytes(word, b"swap") {
-        return Some(Kind::Swap);
-    }
-    if same_bytes(word, b"wait") {
-        return Some(Kind::Wait);
-    }
-    if same_bytes(word, b"unwait") {
-        return Some(Kind::Unwait);
-    }
-    if same_bytes(word, b"batch") {
-        return Some(Kind::Batch);
-    }
-    None
 }

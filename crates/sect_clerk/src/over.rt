@@ -10,18 +10,17 @@ ghost use Rattle.sect_model.specs.World.{empty_state};
 ghost use Rattle.sect_once.specs.declared.entry.Entry.{Entry};
 ghost use Rattle.sect_wire.specs.Laws.{IsRow};
 ghost use Rattle.sect_script.specs.declared.status.Status.{Status};
-ghost use Rattle.sect_script.specs.Statuses.{Says};
 ghost use Rattle.sect_try.specs.Tried.{Tries};
 ghost use Rattle.sect_clerk.specs.Clerk.{ClerkDoes, TellsOf, reads as reads_source};
 
 use crate::checker::check;
 use crate::showing::{Demand, Timetable};
 use sect_clerk_words::{Words, help_of, version};
-use sect_edge::{Clock, Failed, Keeper, Sink, Source};
+use sect_edge::{Clock, Keeper, Sink, Source};
 use sect_explaining::Explanation;
 use sect_log::Log;
 use sect_machine::Machine;
-use sect_script::{Status, write_all};
+use sect_script::{Status, say};
 use sect_tell::{Teller, tell};
 use sect_try::try_lines;
 use std::alloc::Global;
@@ -116,15 +115,4 @@ fn try_over<S: Source, T: Sink, K: Keeper, C: Clock + Drop>(
     ensures others { (result.0 ≢ Status.BadWords) × (result.0 ≢ Status.LinkFault) }
 {
     try_lines::<Machine, S, T, K, C>(alloc, source, sink, keeper, clock)
-}
-
-/// Writes a text.
-fn say<T: Sink>(text: &[u8], sink: &mut T) -> Status
-    ensures says { Says text.now (T.taken sink.old) (T.taken sink.new) result }
-    ensures write_fault { result ≡ Status.WriteFault → Rose (T.faults sink.old) (T.faults sink.new) }
-{
-    match write_all(sink, text) {
-        Ok(()) => Status::Done,
-        Err(Failed) => Status::WriteFault,
-    }
 }

@@ -2,17 +2,16 @@
 use Rattle.std.proofs.Common.{◌≡◌, ◌==◌, ◌<◌, ◌^◌, ℕ, Bool, true, false, List, [], ◌∷◌, Option, None, Some, codes, decimal, refl, arith}
 use Rattle.sect_base.specs.declared.ids.SectionId.{SectionId}
 use Rattle.sect_base.specs.declared.ids.StudentId.{StudentId}
-use Rattle.sect_usage.proofs.SpellingLaws.{no_help, number_plain, positional_word, read_id}
+use Rattle.sect_usage.proofs.SpellingLaws.{no_help, number_plain, positional_word, read_id, value_word}
 use Rattle.sect_usage.specs.Items.{option, option_by}
-use Rattle.sect_usage.specs.Laws.{is_plain}
 use Rattle.sect_clerk_words.specs.declared.verb.Topic.TheVariants as topics
 use Rattle.sect_clerk_words.specs.declared.verb.Verb.TheVariants as verbs
 use Rattle.sect_clerk_words.specs.declared.words.Words.TheVariants as asked
-use Rattle.sect_clerk_words.specs.Grammar.{asked_by, asked_for, lone_of, takes, verb_of, words_of}
+use Rattle.sect_clerk_words.specs.Grammar.{asked_for, takes, verb_of, words_of}
 use Rattle.sect_clerk_words.specs.Laws.{MayBeAsked, PlainWords, Worked, word_list}
 
 pub worked : Worked
-unfolding words_of verb_of lone_of asked_by asked_for takes
+unfolding words_of verb_of asked_for takes
 worked = record {
   check = refl;
   demand = refl;
@@ -35,22 +34,13 @@ worked = record {
   none = refl;
 }
 
--- a plain word is a value
-value_word : (name word : List ℕ) → is_plain word ≡ true → option_by name word ≡ option name word
-value_word name [] plain = absurd (cc)
-value_word name (b ∷ bs) plain = by (b == 45) refl
-  where
-    by : (test : Bool) → (b == 45) ≡ test → option_by name (b ∷ bs) ≡ option name (b ∷ bs)
-    by true e = absurd (let no : false ≡ true = rw e at plain in cc)
-    by false e = rw e refl
-
 -- the option of a number of 32 bits is read
 number_value : (name : List ℕ) (n : ℕ) → n < 2 ^ 32 → option_by name (decimal n) ≡ option name (decimal n)
 number_value name n fits = value_word name (decimal n) (number_plain n (omega (arith, fits)))
 
 log_words : (student : Option StudentId) (section : Option SectionId) (from : ℕ) → MayBeAsked (asked.Log student section from)
     → words_of (word_list (asked.Log student section from)) ≡ Some (asked.Log student section from)
-unfolding words_of verb_of asked_by asked_for takes
+unfolding words_of verb_of asked_for takes
 log_words None None from may = rw (number_value (codes "from") from may.2, read_id from may.2) refl
 log_words (Some student) None from may =
     rw (number_value (codes "student") student.0 may.0, read_id student.0 may.0, number_value (codes "from") from may.2, read_id from may.2) refl
@@ -67,7 +57,7 @@ log_words (Some student) (Some section) from may =
     ) refl
 
 pub plain_words : PlainWords
-unfolding words_of verb_of lone_of asked_by asked_for takes
+unfolding words_of verb_of asked_for takes
 plain_words asked.Check may = refl
 plain_words asked.Demand may = refl
 plain_words (asked.Explain place) may =

@@ -1,9 +1,10 @@
 -- What the words of the clerk's command line ask for.
-use Rattle.std.specs.Prelude.{ℕ, ◌&&◌, ◌||◌, Bool, false, List, [], ◌∷◌, if◌then◌else◌, Option, None, Some, codes, option_map}
+use Rattle.std.specs.Prelude.{ℕ, ◌||◌, Bool, false, List, if◌then◌else◌, Option, None, Some, codes, option_map}
 use Rattle.std.specs.Str.{bytes_eq}
-use Rattle.sect_usage.specs.Grammar.{allows, is_help, is_keeper, one_keeper, the_one, where_none}
-use Rattle.sect_usage.specs.Items.{Item, items_of, positionals, value_of}
+use Rattle.sect_usage.specs.Items.{Item, positionals, value_of}
 use Rattle.sect_usage.specs.Needs.{Named, items_behind, named_by}
+use Rattle.sect_usage.specs.Options.{is_keeper, the_one, where_none}
+use Rattle.sect_usage.specs.Programs.{Program, words_in}
 use Rattle.sect_words.specs.Reading.{◌>>=◌}
 use Rattle.sect_words.specs.ReadingWords.{section_of, student_of, u32_of}
 use Rattle.sect_base.specs.declared.ids.SectionId.{SectionId}
@@ -77,25 +78,20 @@ asked_for verbs.Log items = where_none (log_of items) (positionals items)
 asked_for verbs.Timetable items = timetable_of items
 asked_for verbs.Try items = where_none (Some asked.Try) (positionals items)
 
--- what a command asks for by these items
-unfoldable pub asked_by : Verb → List Item → Option Words
-asked_by verb items = if allows (takes verb) items && one_keeper items then asked_for verb items else None
-
--- a word that stands in place of a command
-unfoldable pub lone_of : List ℕ → Option Words
-lone_of word =
-    if bytes_eq word (codes "--help") then Some (asked.Help topics.Clerk) else
-    (if bytes_eq word (codes "--version") then Some asked.Version else None)
-
--- what the words ask for, by the command that the first is, where it is one
-abbrev pub words_by : Option Verb → List ℕ → List (List ℕ) → Option Words
-words_by None word words = where_none (lone_of word) words
-words_by (Some verb) word words = if is_help words then Some (asked.Help (topics.Command verb)) else asked_by verb (items_of words)
+-- the words of the clerk
+abbrev pub clerk_words : Program Verb Words
+clerk_words = record {
+  verb_of = verb_of;
+  takes = takes;
+  asked_for = asked_for;
+  help_on = λ verb. asked.Help (topics.Command verb);
+  help = asked.Help topics.Clerk;
+  version = asked.Version;
+}
 
 -- what the words ask for
 unfoldable pub words_of : List (List ℕ) → Option Words
-words_of [] = None
-words_of (word ∷ words) = words_by (verb_of word) word words
+words_of words = words_in clerk_words words
 
 -- the files of the keepers that the words name, where they are in the grammar
 abbrev pub files_of : List (List ℕ) → Option Named

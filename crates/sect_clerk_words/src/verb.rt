@@ -3,7 +3,7 @@
 ghost use Rattle.std.specs.Prelude.{◌≡◌};
 ghost use Rattle.sect_clerk_words.specs.Grammar.{is_of_log as is_of_log_name, takes as takes_name, verb_of};
 
-use sect_usage::{Options, is_keeper};
+use sect_usage::is_keeper;
 use sect_words::same_bytes;
 
 /// A command.
@@ -47,17 +47,9 @@ pub(crate) fn read_verb(word: &[u8]) -> Option<Verb>
     }
 }
 
-impl Options for Verb {
-    ghost known = { takes_name };
-
-    fn has(&self, name: &[u8]) -> bool {
-        takes(*self, name)
-    }
-}
-
 /// Whether the command has the option.
 #[tactic(auto, unfolding(crate::specs::Grammar::takes))]
-fn takes(verb: Verb, name: &[u8]) -> bool
+pub(crate) fn takes(verb: Verb, name: &[u8]) -> bool
     ensures { result ≡ takes_name verb name.now }
 {
     match verb {

@@ -2,14 +2,13 @@
 
 ghost use Rattle.std.specs.Prelude.{◌≡◌, map, option_map};
 ghost use Rattle.std.specs.String.{string_bytes};
-ghost use Rattle.sect_usage.specs.Grammar.{where_none};
 ghost use Rattle.sect_usage.specs.Items.{items_of, positionals};
+ghost use Rattle.sect_usage.specs.Options.{where_none};
 ghost use Rattle.sect_clerk_words.specs.Grammar.{
-  asked_by,
   asked_for,
+  clerk_words,
   explain_of,
   log_of,
-  lone_of,
   place_or_first as place_or_first_of,
   section_named as section_named_by,
   student_named as student_named_by,
@@ -17,10 +16,9 @@ ghost use Rattle.sect_clerk_words.specs.Grammar.{
   words_of,
 };
 
-use crate::verb::{Topic, Verb, read_verb};
+use crate::verb::{Topic, Verb, read_verb, takes};
 use sect_base::{SectionId, StudentId};
-use sect_usage::{alone, helps, id, only, option_value, takes_words};
-use sect_words::same_bytes;
+use sect_usage::{Commands, alone, id, only, option_value, read_program};
 
 /// What the words ask for.
 #[derive(Clone, Copy, Debug, PartialEq, Eq)]
@@ -50,40 +48,36 @@ pub enum Words {
 pub fn read_words(words: &[String]) -> Option<Words>
     ensures { result ≡ words_of (map string_bytes words.now) }
 {
-    match words {
-        [] => None,
-        [word, others @ ..] => match read_verb(word.as_bytes()) {
-            Some(verb) if helps(others) => Some(Words::Help(Topic::Command(verb))),
-            Some(verb) => asked(verb, others),
-            None if others.is_empty() => read_lone(word.as_bytes()),
-            None => None,
-        },
-    }
+    read_program::<Verb>(words)
 }
 
-/// What a word in place of a command asks for.
-#[tactic(auto, unfolding(crate::specs::Grammar::lone_of))]
-fn read_lone(word: &[u8]) -> Option<Words>
-    ensures { result ≡ lone_of word.now }
-{
-    if same_bytes(word, b"--help") {
-        Some(Words::Help(Topic::Clerk))
-    } else if same_bytes(word, b"--version") {
-        Some(Words::Version)
-    } else {
-        None
-    }
-}
+impl Commands for Verb {
+    type Asked = Words;
 
-/// What a command with these words behind it asks for.
-#[tactic(auto, unfolding(crate::specs::Grammar::asked_by))]
-fn asked(verb: Verb, words: &[String]) -> Option<Words>
-    ensures { result ≡ asked_by verb (items_of (map string_bytes words.now)) }
-{
-    if takes_words(&verb, words) {
-        asked_of(verb, words)
-    } else {
-        None
+    ghost program = { clerk_words };
+
+    fn named(word: &[u8]) -> Option<Verb> {
+        read_verb(word)
+    }
+
+    fn takes(self, name: &[u8]) -> bool {
+        takes(self, name)
+    }
+
+    fn asked(self, words: &[String]) -> Option<Words> {
+        asked_of(self, words)
+    }
+
+    fn help_on(self) -> Words {
+        Words::Help(Topic::Command(self))
+    }
+
+    fn help() -> Words {
+        Words::Help(Topic::Clerk)
+    }
+
+    fn version() -> Words {
+        Words::Version
     }
 }
 

@@ -80,6 +80,7 @@ impl Import {
             self.fault = Some(CsvFault::Memory);
             return self.answer();
         }
+        self.records.reuse(rows);
         self.rows = self.reading.rows();
         self.open_row = self.reading.open_row();
         self.fault = self.reading.fault();

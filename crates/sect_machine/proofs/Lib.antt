@@ -1,5 +1,4 @@
 pub mod AnsweredLemmas
-pub mod AnswerLemmas
 pub mod DoneLemmas
 pub mod LimitLemmas
 pub mod MoveLemmas

@@ -16,41 +16,7 @@ use Rattle.sect_model.proofs.Members.{Member, all-at, both, both-left, both-righ
 use Rattle.sect_model.proofs.DifferLemmas.{keys_differ, differ-right, differ-across}
 use Rattle.sect_model.proofs.CheckedLemmas.{sections-differ}
 use Rattle.sect_machine.specs.Placed.{has_section, subparts_of, subpart_in, place_in, own_places}
-
--- where keys differ over all pieces, two pieces with elements of one key are one
-one-piece : {X Y : Type 0} (key : Y → ℕ) (f : X → List Y) (xs : List X) → keys_differ key (flat_map f xs) ≡ true → (p q : X) → Member xs p → Member xs q
-    → (a b : Y) → Member (f p) a → Member (f q) b → key a ≡ key b → p ≡ q
-one-piece key f [] h p q m n a b ma mb e = absurd m
-one-piece key f (x ∷ xs) h p q (inl d) (inl c) a b ma mb e = sym d ∙ c
-one-piece key f (x ∷ xs) h p q (inl d) (inr n) a b ma mb e =
-    absurd (not_both (list_any (λ z. key z == key b) (f x))
-    (Members.any-of (λ z. key z == key b) (f x) a (subst (λ v. Member (f v) a) (sym d) ma) (eq-eqb (key a) (key b) e))
-    (not_true _ (all-at (λ y. not (list_any (λ z. key z == key y) (f x))) (flat_map f xs) (differ-across key (f x) (flat_map f xs) h) b (Members.member-of_flat_map f xs q b n mb))))
-one-piece key f (x ∷ xs) h p q (inr m) (inl c) a b ma mb e =
-    absurd (not_both (list_any (λ z. key z == key a) (f x))
-    (Members.any-of (λ z. key z == key a) (f x) b (subst (λ v. Member (f v) b) (sym c) mb) (eq-eqb (key b) (key a) (sym e)))
-    (not_true _ (all-at (λ y. not (list_any (λ z. key z == key y) (f x))) (flat_map f xs) (differ-across key (f x) (flat_map f xs) h) a (Members.member-of_flat_map f xs p a m ma))))
-one-piece key f (x ∷ xs) h p q (inr m) (inr n) a b ma mb e = one-piece key f xs (differ-right key (f x) (flat_map f xs) h) p q m n a b ma mb e
-
-same-id : (m n k : ℕ) → m == k ≡ true → n == k ≡ true → m ≡ n
-same-id m n k h i = eqb-true m k h ∙ sym (eqb-true n k i)
-
--- the subpart that has the section is the one that is found
-found-subpart : (rows : List OfferingRow) → are_checked rows ≡ true → (s : SectionId) (p : SubpartRow) → Member (all_subparts rows) p
-    → (a : SectionRow) → Member p.sections a → a.id.0 == s.0 ≡ true → subpart_of_section rows s ≡ Some p
-found-subpart rows checked s p in_all a in_p is_it =
-    let has : SubpartRow → Bool = λ p. list_any (λ r. r.id.0 == s.0) p.sections in
-    by_found (subpart_of_section rows s) refl (Members.known (subpart_of_section rows s) (Members.find-some has (all_subparts rows) p in_all (Members.any-of (λ r. r.id.0 == s.0) p.sections a in_p is_it)))
-  where
-    one : (q : SubpartRow) → subpart_of_section rows s ≡ Some q → q ≡ p
-    one q e =
-        let f = Members.find-member (λ p. list_any (λ r. r.id.0 == s.0) p.sections) (all_subparts rows) q e in
-        let b = Members.any-at (λ r. r.id.0 == s.0) q.sections f.1 in
-        one-piece (λ r. r.id.0) (λ p. p.sections) (all_subparts rows) (sections-differ rows checked) q p f.0 in_all b.0 a b.1 in_p
-        (same-id b.0.id.0 a.id.0 s.0 b.2 is_it)
-
-    by_found : (o : Option SubpartRow) → subpart_of_section rows s ≡ o → Members.Known o → o ≡ Some p
-    by_found o e k = k.1 ∙ ap Some (one k.0 (e ∙ k.1))
+use Rattle.sect_model.proofs.PlaceLemmas.{found-subpart, one-piece, same-id}
 
 -- a subpart of the offering is one of the catalogue
 in-all : (rows : List OfferingRow) (o : OfferingRow) → Member rows o → (p : SubpartRow) → Member (subparts_of o) p → Member (all_subparts rows) p

@@ -24,12 +24,11 @@ use Rattle.sect_model.specs.Refusals.{refusal_of}
 use Rattle.sect_model.specs.Step.{Acted, act, answered, enrol_move, on_day, refused_or, reply_after, settled_after, step}
 use Rattle.sect_model.proofs.Accepted.{accepted-fits}
 use Rattle.sect_model.proofs.RefutedLemmas.{step-refutes}
-use Rattle.sect_model.proofs.StepLemmas.{day-state, step-keeps, step-settles}
+use Rattle.sect_model.proofs.StepLemmas.{answered-keeps, day-state, step-keeps, step-settles}
 use Rattle.sect_wait.specs.Queued.{Queued, state_of}
 use Rattle.sect_machine.specs.declared.told.ToldStep.{ToldStep}
 use Rattle.sect_machine.specs.Settling.{placements}
 use Rattle.sect_machine.specs.Standing.{IsResting}
-use Rattle.sect_machine.proofs.AnswerLemmas.{answered-keeps}
 
 -- a refused command
 pub refused-is : (s : State) (caller : Caller) (command : Command) (refusal : Refusal) → refusal_of s caller command ≡ Some refusal → answered s caller command ≡ record { state = s; reply = Refused refusal }

@@ -9,7 +9,6 @@ ghost use Rattle.sect_command.specs.declared.reply.LineResult.TheVariants.{Waiti
 ghost use Rattle.sect_command.specs.declared.reply.Reply.TheVariants.{Batched};
 ghost use Rattle.sect_people.specs.Student.{find_student};
 ghost use Rattle.sect_model.specs.Batch.{
-  asks_of as requests_of,
   join_by as waits_by,
   join_line as joined_by,
   join_lines as joined_by_all,
@@ -111,19 +110,9 @@ fn join_line(
     ensures since { QueueSince queue.old.queue left.old queue.new.queue left.new }
     ensures undoable { QueueUndoable queue.new left.new }
 {
-    match asks_of(world, line.student).get(place(line.rank)) {
+    match world.asks(line.student).get(place(line.rank)) {
         Some(ask) => join_ask(alloc, queue, line, ask, left),
         None => Ok(None),
-    }
-}
-
-/// The student's requests, none where the student is unknown.
-fn asks_of(world: &World, student: StudentId) -> &[Ask]
-    ensures { result.now ≡ requests_of world.now.world student }
-{
-    match world.people().asks(student) {
-        Some(asks) => asks,
-        None => &[],
     }
 }
 

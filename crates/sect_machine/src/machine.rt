@@ -1,6 +1,6 @@
 // The machine: a world, and who waits.
 
-ghost use Rattle.std.specs.Prelude.{◌≡◌, IfOk, OnErr, IsTrue};
+ghost use Rattle.std.specs.Prelude.{◌≡◌, ◌<◌, IfOk, OnErr, IsTrue};
 ghost use Rattle.sect_model.specs.Kept.{KeptState};
 ghost use Rattle.sect_model.specs.Look.{look as looked_at};
 ghost use Rattle.sect_model.specs.Settle.{is_settled};
@@ -15,11 +15,13 @@ use crate::undo::MachineUndo;
 use sect_base::{Caller, Memory};
 use sect_command::{Command, Query, Reply, View};
 use sect_space::World;
+use sect_steps::Steps;
 use sect_time::Day;
 use sect_view::view;
 use sect_wait::{Marks, Queue};
 use std::alloc::Global;
-use std::marker::Model;
+use std::marker::{Brand, Model};
+use std::sync::ledger::{Blank, Ledger};
 
 /// The world and those who wait, none of whom can be placed, and which of them must be tried again: the others have no
 /// move. No limit is passed, and no student holds what may not be held
@@ -42,6 +44,27 @@ impl Model for Machine {
     ghost view = { λ m. record { world = m.world; queue = m.queue } };
 
     ghost invariant = { λ m. IsResting (state_of m.world.world m.queue.queue) × OthersNeedNoSearch m.world.world m.queue.queue.entries m.marks };
+}
+
+/// A step whose searches are counted in a ledger of its own.
+fn counted<L: Ledger>(
+    machine: &mut Machine,
+    day: Day,
+    caller: Caller,
+    command: &Command,
+    blank: Blank,
+) -> Result<ToldStep, Memory>
+    requires name { blank.name ≡ L.name }
+    requires parts { blank.parts ≡ L.parts }
+    requires some { 0 < blank.parts }
+    ensures state { IfOk result (λ r. state_in machine.new ≡ (step_of (state_in machine.old) day caller command.now).state) }
+    ensures reply { IfOk result (λ r. r.reply ≡ (step_of (state_in machine.old) day caller command.now).reply) }
+    ensures placed { IfOk result (λ r. r.placed ≡ placements (state_in machine.old) day caller command.now) }
+    ensures undo { IfOk result (λ r. Restores r.undo machine.new (state_in machine.old)) }
+    ensures err { OnErr result (state_in machine.new ≡ state_in machine.old) }
+{
+    let mut steps: Steps<L> = Steps::new(blank);
+    machine.step_counted(day, caller, command, &mut steps)
 }
 
 impl Machine {
@@ -75,6 +98,23 @@ impl Machine {
         ensures undo { IfOk result (λ r. Restores r.undo self.new (state_in self.old)) }
         ensures err { OnErr result (state_in self.new ≡ state_in self.old) }
     {
+        counted::<Brand>(self, day, caller, command, Blank::new(1))
+    }
+
+    /// The same, where each search that the step takes is counted: those of the command itself and those of settling.
+    pub fn step_counted<L: Ledger>(
+        &mut self,
+        day: Day,
+        caller: Caller,
+        command: &Command,
+        steps: &mut Steps<L>,
+    ) -> Result<ToldStep, Memory>
+        ensures state { IfOk result (λ r. state_in self.new ≡ (step_of (state_in self.old) day caller command.now).state) }
+        ensures reply { IfOk result (λ r. r.reply ≡ (step_of (state_in self.old) day caller command.now).reply) }
+        ensures placed { IfOk result (λ r. r.placed ≡ placements (state_in self.old) day caller command.now) }
+        ensures undo { IfOk result (λ r. Restores r.undo self.new (state_in self.old)) }
+        ensures err { OnErr result (state_in self.new ≡ state_in self.old) }
+    {
         self.is_kept();
         step(
             self.alloc,
@@ -84,6 +124,7 @@ impl Machine {
             day,
             caller,
             command,
+            steps,
         )
     }
 

@@ -1,9 +1,7 @@
 // Which entries a command marks: those that it may give a move, and those whose spent searches it touches.
 
-ghost use Rattle.std.specs.Prelude.{◌≡◌, ◌==◌, List, OnOk, option_copied};
-ghost use Rattle.std.specs.List.{list_any};
+ghost use Rattle.std.specs.Prelude.{◌≡◌, List, OnOk, option_copied};
 ghost use Rattle.sect_model.specs.declared.held.Waiting.{Waiting as Entry};
-ghost use Rattle.sect_space.specs.Back.{has_section as section_is_in};
 ghost use Rattle.sect_wait.specs.Marked.{MarksMore};
 ghost use Rattle.sect_machine.specs.Opening.{
   enrolled_opens,
@@ -18,7 +16,7 @@ ghost use Rattle.sect_machine.specs.Opening.{
 
 use crate::opened::{mark_batched, mark_choice, mark_swapped};
 use sect_base::{Memory, ReservationId, RestrictionId, SectionId, StudentId};
-use sect_catalog::{ConfigRow, OfferingRow, SubpartRow};
+use sect_catalog::OfferingRow;
 use sect_command::{Command, Reply};
 use sect_space::{Undo, World};
 use sect_wait::{Marks, Queue, mark, mark_leaving, mark_noted, mark_ticket};
@@ -68,7 +66,8 @@ pub fn mark_after(
     undo: &Undo,
     marks: &mut Marks,
 ) -> Result<(), Memory>
-    ensures { OnOk result (MarksMore (opened world.now.world marks.old.spent undo.now.backs command.now reply.now) queue.now.queue.entries marks.old marks.new) }
+    ensures { OnOk result (MarksMore (opened world.now.world marks.old.spent undo.now.backs command.now reply.now)
+        queue.now.queue.entries marks.old marks.new) }
 {
     match command {
         Command::SetLimit { cap: _, limit: _ } => {
@@ -142,32 +141,7 @@ fn restricted_in(world: &World, id: RestrictionId) -> Option<&OfferingRow>
 fn sectioned_in(world: &World, id: SectionId) -> Option<&OfferingRow>
     ensures { option_copied result ≡ sectioned_offering world.now.world id }
 {
-    let rows = world.catalogue().rows();
-    rows.iter().find(|row| has_section(row, id))
-}
-
-/// Whether the section stands in the offering.
-fn has_section(row: &OfferingRow, id: SectionId) -> bool
-    ensures { result ≡ section_is_in id row.now }
-{
-    let configs = row.configs.as_slice();
-    configs.iter().any(|config| config_has(config, id))
-}
-
-/// Whether the section stands in the configuration.
-fn config_has(config: &ConfigRow, id: SectionId) -> bool
-    ensures { result ≡ list_any (λ p. list_any (λ s. s.id.0 == id.0) p.sections) config.now.subparts }
-{
-    let subparts = config.subparts.as_slice();
-    subparts.iter().any(|subpart| subpart_has(subpart, id))
-}
-
-/// Whether the section stands in the subpart.
-fn subpart_has(subpart: &SubpartRow, id: SectionId) -> bool
-    ensures { result ≡ list_any (λ s. s.id.0 == id.0) subpart.now.sections }
-{
-    let sections = subpart.sections.as_slice();
-    sections.iter().any(|section| section.id == id)
+    world.catalogue().offering_of_section(id)
 }
 
 /// The offering that the change recorded last concerns.

@@ -122,7 +122,8 @@ fn mark_lines(world: &World, queue: &Queue, lines: &[Line], marks: &mut Marks) -
 
 /// Marks what the enrolment of a line that is met may have opened, and the entry of one that waits.
 fn mark_line(world: &World, queue: &Queue, line: &Line, marks: &mut Marks) -> Result<(), Memory>
-    ensures { OnOk result (MarksMore (result_opens world.now.world marks.old.spent line.now.student line.now.result) queue.now.queue.entries marks.old marks.new) }
+    ensures { OnOk result (MarksMore (result_opens world.now.world marks.old.spent line.now.student line.now.result)
+        queue.now.queue.entries marks.old marks.new) }
 {
     match &line.result {
         LineResult::Met(choice) => mark_choice(world, queue, line.student, choice, marks),

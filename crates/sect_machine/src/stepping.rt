@@ -32,71 +32,11 @@ use sect_steps::Steps;
 use sect_time::Day;
 use sect_wait::{Marks, Opened, Queue, QueueUndo, leave_course, settle_opened};
 use std::alloc::Global;
-use std::marker::Brand;
-use std::sync::ledger::{Blank, Ledger};
+use std::sync::ledger::Ledger;
 
-/// Acts a command of a caller on a day, and settles, and tells whom settling placed. Where memory runs out, world and queue are as before.
-pub fn step(
-    alloc: Global,
-    world: &mut World,
-    queue: &mut Queue,
-    marks: &mut Marks,
-    day: Day,
-    caller: Caller,
-    command: &Command,
-) -> Result<ToldStep, Memory>
-    requires resting { IsResting (state_of world.old.world queue.old.queue) }
-    requires others { OthersNeedNoSearch world.old.world queue.old.queue.entries marks.old }
-    ensures acted { IfOk result (λ r. step_of (state_of world.old.world queue.old.queue) day caller command.now
-        ≡ record { state = state_of world.new.world queue.new.queue; reply = r.reply }) }
-    ensures placed { IfOk result (λ r. r.placed ≡ placements (state_of world.old.world queue.old.queue) day caller command.now) }
-    ensures undo { IfOk result (λ r. Restores r.undo (record { world = world.new; queue = queue.new }) (state_of world.old.world queue.old.queue)) }
-    ensures world_err { OnErr result (world.new.world ≡ world.old.world) }
-    ensures queue_err { OnErr result (queue.new.queue ≡ queue.old.queue) }
-    ensures others { OthersNeedNoSearch world.new.world queue.new.queue.entries marks.new }
-{
-    counted::<Brand>(
-        alloc,
-        world,
-        queue,
-        marks,
-        day,
-        caller,
-        command,
-        Blank::new(1),
-    )
-}
-
-/// A step whose searches are counted in a ledger of its own.
-fn counted<L: Ledger>(
-    alloc: Global,
-    world: &mut World,
-    queue: &mut Queue,
-    marks: &mut Marks,
-    day: Day,
-    caller: Caller,
-    command: &Command,
-    blank: Blank,
-) -> Result<ToldStep, Memory>
-    requires name { blank.name ≡ L.name }
-    requires parts { blank.parts ≡ L.parts }
-    requires some { 0 < blank.parts }
-    requires resting { IsResting (state_of world.old.world queue.old.queue) }
-    requires others { OthersNeedNoSearch world.old.world queue.old.queue.entries marks.old }
-    ensures acted { IfOk result (λ r. step_of (state_of world.old.world queue.old.queue) day caller command.now
-        ≡ record { state = state_of world.new.world queue.new.queue; reply = r.reply }) }
-    ensures placed { IfOk result (λ r. r.placed ≡ placements (state_of world.old.world queue.old.queue) day caller command.now) }
-    ensures undo { IfOk result (λ r. Restores r.undo (record { world = world.new; queue = queue.new }) (state_of world.old.world queue.old.queue)) }
-    ensures world_err { OnErr result (world.new.world ≡ world.old.world) }
-    ensures queue_err { OnErr result (queue.new.queue ≡ queue.old.queue) }
-    ensures others { OthersNeedNoSearch world.new.world queue.new.queue.entries marks.new }
-{
-    let mut steps: Steps<L> = Steps::new(blank);
-    all_or_none(alloc, world, queue, marks, day, caller, command, &mut steps)
-}
-
-/// A step. Where memory runs out, what was changed is taken back.
-fn all_or_none<L: Ledger>(
+/// Acts a command of a caller on a day, and settles, and tells whom settling placed; each search counts one step. Where memory
+/// runs out, what was changed is taken back: world and queue are as before.
+pub fn step<L: Ledger>(
     alloc: Global,
     world: &mut World,
     queue: &mut Queue,

@@ -34,6 +34,8 @@ use Rattle.sect_model.specs.Laws.{AcceptedFits}
 use Rattle.sect_model.proofs.Members
 use Rattle.sect_model.proofs.Members.{Member, all-of, both, both-left, both-right, not_both, not_true, if_false, neither-left, neither-right}
 use Rattle.sect_model.proofs.PlaceLemmas.{places-listed}
+use Rattle.sect_catalog.proofs.RemoveLemmas.{map-none}
+use Rattle.std.proofs.lemmas.Bool.{ltb-false, not-false}
 
 -- ---- what is said by no refusal
 
@@ -45,24 +47,16 @@ unsaid : {X : Type 0} (b : Bool) (x : X) → then_some b x ≡ None → b ≡ fa
 unsaid true x h = cc
 unsaid false x h = refl
 
-map-unsaid : {X Y : Type 0} (f : X → Y) (o : Option X) → option_map f o ≡ None → o ≡ None
-map-unsaid f None h = refl
-map-unsaid f (Some x) h = cc
-
 some-is : {X : Type 0} (o : Option X) → is_none o ≡ false → is_some o ≡ true
 some-is None h = absurd (not_both true refl h)
 some-is (Some x) h = refl
-
-un_not : (b : Bool) → not b ≡ false → b ≡ true
-un_not true h = refl
-un_not false h = sym h
 
 -- none of the refusals is said
 abbrev AllNone : List (Option Refusal) → Type 0
 AllNone [] = ⊤
 AllNone (r ∷ rs) = (r ≡ None) × AllNone rs
 
-none-each : (rs : List (Option Refusal)) → first_of rs ≡ None → AllNone rs
+pub none-each : (rs : List (Option Refusal)) → first_of rs ≡ None → AllNone rs
 none-each [] h = tt
 none-each (r ∷ rs) h = let p = or-none r (first_of rs) h in (p.0, none-each rs p.1)
 
@@ -129,7 +123,7 @@ given-held w student earlier [] h = refl
 given-held w student earlier (c ∷ cs) h =
     let p = or-none (then_some (not (holds w student c) || list_any (λ e. e.0 == c.0) earlier) (NotEnrolled c)) (not_enrolled_in w student (c ∷ earlier) cs) h in
     both (holds w student c) (list_all (holds w student) cs)
-    (un_not (holds w student c) (neither-left (not (holds w student c)) (list_any (λ e. e.0 == c.0) earlier) (unsaid _ (NotEnrolled c) p.0)))
+    (not-false (holds w student c) (neither-left (not (holds w student c)) (list_any (λ e. e.0 == c.0) earlier) (unsaid _ (NotEnrolled c) p.0)))
     (given-held w student (c ∷ earlier) cs p.1)
 
 given-new : (w : World) (student : StudentId) (earlier cs : List CourseId) → not_enrolled_in w student earlier cs ≡ None
@@ -155,9 +149,6 @@ given-differ w student earlier (c ∷ cs) h =
 
     other : (n : ℕ) → (d : CourseId) × Member cs d × (d.0 ≡ n) → not_enrolled_in w student (c ∷ earlier) cs ≡ None → n == c.0 ≡ false
     other n d h = swapped c.0 n (ap (λ x. c.0 == x) (sym d.2) ∙ neither-left (c.0 == d.0.0) (list_any (λ e. e.0 == d.0.0) earlier) (given-new w student (c ∷ earlier) cs h d.0 d.1))
-
-at_most : (m n : ℕ) → nat_lt m n ≡ false → n ≤ m
-at_most m n h = grind (arith, nat_tests, h)
 
 -- the parts of wants that fit
 all-courses : (w : World) (wants : List Want) → list_all (want_fits w) wants ≡ true → list_all (courses_known w) wants ≡ true
@@ -201,9 +192,9 @@ known-cap w (cap_section id) h = both-left _ true (found-sections w (id ∷ []) 
 foreign-none : (o : OfferingRow) (id : ℕ) (used groups : Bool) (audience : Audience) (configs : List ConfigId) (sections : List SectionId)
     → reserve_fault_of o id used groups audience configs sections ≡ None → list_all (section_fits o configs) sections ≡ true
 foreign-none o id used groups audience configs sections h =
-    let foreign = map-unsaid Foreign (foreign_in o audience configs sections) (or-none (option_map Foreign (foreign_in o audience configs sections)) _ (or-none (then_some used (Known id)) _ h).1).0 in
+    let foreign = map-none Foreign (foreign_in o audience configs sections) (or-none (option_map Foreign (foreign_in o audience configs sections)) _ (or-none (then_some used (Known id)) _ h).1).0 in
     let rest = (or-none (option_map (λ c. c.0) (find (λ c. not (lists_config (map (λ g. g.id) o.configs) c)) configs)) _ foreign).1 in
-    let own = map-unsaid (λ s. s.0) (find (λ s. not (section_fits o configs s)) sections) (or-none (option_map (λ s. s.0) (find (λ s. not (section_fits o configs s)) sections)) _ rest).0 in
+    let own = map-none (λ s. s.0) (find (λ s. not (section_fits o configs s)) sections) (or-none (option_map (λ s. s.0) (find (λ s. not (section_fits o configs s)) sections)) _ rest).0 in
     all-of (section_fits o configs) sections (λ s m. by_test s (section_fits o configs s) refl (Members.find-some (λ s. not (section_fits o configs s)) sections s m) own)
   where
     by_test : (s : SectionId) (b : Bool) → section_fits o configs s ≡ b → (not (section_fits o configs s) ≡ true → is_some (find (λ s. not (section_fits o configs s)) sections) ≡ true)
@@ -229,7 +220,7 @@ offering-fits fault fits (Some o) known none each = each o refl none
 
 accepted : (s : State) (command : Command) → KeptWorld s.world → first_of (conditions_of s command) ≡ None → CommandFits s.world command
 accepted s (Offering row) k h =
-    ap is_none (map-unsaid (λ f. Row (offering_fault f)) (rows.fault_of s.world.catalogue row) (none-each (conditions_of s (Offering row)) h).0)
+    ap is_none (map-none (λ f. Row (offering_fault f)) (rows.fault_of s.world.catalogue row) (none-each (conditions_of s (Offering row)) h).0)
 accepted s (student_row row) k h =
     let a = none-each (conditions_of s (student_row row)) h in
     let b = a.1 in
@@ -239,13 +230,13 @@ accepted s (student_row row) k h =
 accepted s (Requests student asks) k h =
     let a = none-each (conditions_of s (Requests student asks)) h in
     both (is_some (find_student s.world.students student)) (is_none (requests.fault_of asks (course_ids s.world))) (known-student s.world student a.0)
-    (ap is_none (map-unsaid (λ f. Row (request_fault f)) (requests.fault_of asks (course_ids s.world)) a.1.0))
+    (ap is_none (map-none (λ f. Row (request_fault f)) (requests.fault_of asks (course_ids s.world)) a.1.0))
 accepted s (Reserve row) k h =
     let w : World = s.world in
     let used : Bool = is_some (reservation_of w row.id) in
     let a = none-each (conditions_of s (Reserve row)) h in
     let b = a.1 in
-    let fault = map-unsaid (λ f. Row (reserve_fault f)) (option_and_then (λ o. reserve_fault_of o row.id.0 used true row.audience row.configs row.sections) (find_offering w.catalogue.rows row.offering)) b.1.0 in
+    let fault = map-none (λ f. Row (reserve_fault f)) (option_and_then (λ o. reserve_fault_of o row.id.0 used true row.audience row.configs row.sections) (find_offering w.catalogue.rows row.offering)) b.1.0 in
     both _ (nat_lt (length (reservations_of w row.offering)) 50)
     (offering-fits (λ o. reserve_fault_of o row.id.0 used true row.audience row.configs row.sections)
     (lists_fit row.id.0 used true row.audience (record { configs = row.configs; sections = flat_map (place_of w) row.sections }))
@@ -262,7 +253,7 @@ accepted s (Restrict row) k h =
     let used : Bool = is_some (restriction_of w row.id) in
     let a = none-each (conditions_of s (Restrict row)) h in
     let b = a.1 in
-    let fault = map-unsaid (λ f. Row (reserve_fault f)) (option_and_then (λ o. reserve_fault_of o row.id.0 used false row.audience row.configs row.sections) (find_offering w.catalogue.rows row.offering)) b.1.0 in
+    let fault = map-none (λ f. Row (reserve_fault f)) (option_and_then (λ o. reserve_fault_of o row.id.0 used false row.audience row.configs row.sections) (find_offering w.catalogue.rows row.offering)) b.1.0 in
     both _ (nat_lt (length (restrictions_of w row.offering)) 50)
     (offering-fits (λ o. reserve_fault_of o row.id.0 used false row.audience row.configs row.sections)
     (lists_fit row.id.0 used false row.audience (record { configs = row.configs; sections = flat_map (place_of w) row.sections }))
@@ -298,7 +289,7 @@ accepted s (Enrol student want budget) k h =
 accepted s (Drop student course) k h =
     let a = none-each (conditions_of s (Drop student course)) h in
     let b = a.1 in
-    un_not (holds s.world student course) (unsaid _ (NotEnrolled course) b.1.0)
+    not-false (holds s.world student course) (unsaid _ (NotEnrolled course) b.1.0)
 accepted s (Swap student give take budget) k h =
     let a = none-each (conditions_of s (Swap student give take budget)) h in
     let b = a.1 in
@@ -314,8 +305,8 @@ accepted s (Swap student give take budget) k h =
       sections = all-sections s.world take all;
       held = given-held s.world student [] give i.0;
       distinct = given-differ s.world student [] give i.0;
-      few_given = at_most 4 (length give) (unsaid _ (TooMany (told (length give))) e.0);
-      few_taken = at_most 4 (length take) (unsaid _ (TooMany (told (length take))) f.0);
+      few_given = ltb-false 4 (length give) (unsaid _ (TooMany (told (length give))) e.0);
+      few_taken = ltb-false 4 (length take) (unsaid _ (TooMany (told (length take))) f.0);
       sized = all-sized s.world take all;
     }
 accepted s (Wait student want give class) k h =

@@ -32,6 +32,7 @@ use Rattle.sect_model.proofs.OfferingChange.{none-left, none-right, none-map}
 use Rattle.sect_model.proofs.TicketLemmas.{rise-join}
 use Rattle.sect_model.proofs.GrowLemmas.{same-grows, want-stays}
 use Rattle.sect_model.proofs.Accepted.{course-offering}
+use Rattle.std.proofs.lemmas.Bool.{not-false}
 
 -- ---- requests that passed their check
 
@@ -40,11 +41,7 @@ abbrev pub ask_fits : World → Ask → Bool
 ask_fits w (asks_course ask) = want_fits w (want_of ask 0)
 ask_fits w (Free pattern) = true
 
-un_not : (b : Bool) → not b ≡ false → b ≡ true
-un_not true h = refl
-un_not false h = sym h
-
-none-find : {X : Type 0} (p : X → Bool) (xs : List X) → is_none (find p xs) ≡ true → (x : X) → Member xs x → p x ≡ false
+pub none-find : {X : Type 0} (p : X → Bool) (xs : List X) → is_none (find p xs) ≡ true → (x : X) → Member xs x → p x ≡ false
 none-find p xs h x m = no (p x) refl
   where
     no : (b : Bool) → p x ≡ b → b ≡ false
@@ -68,7 +65,7 @@ in_bounds n h =
     few : (n : ℕ) → nat_lt 6 n ≡ false → nat_le n 6 ≡ true
     few n h = grind (arith, nat_tests, h)
 
-not_said : {X : Type 0} (b : Bool) (x : X) → is_none (then_some b x) ≡ true → b ≡ false
+pub not_said : {X : Type 0} (b : Bool) (x : X) → is_none (then_some b x) ≡ true → b ≡ false
 not_said true x h = absurd (not_both false h refl)
 not_said false x h = refl
 
@@ -92,7 +89,7 @@ passed-ask w asks h (asks_course ask) m =
     both (courses_known w (want_of ask 0) && true) (is_sized (want_of ask 0))
     (both (courses_known w (want_of ask 0)) true
     (all-of (λ c. is_some (offering_of w c)) ask.courses (λ c n.
-    course-offering w c (listed-course w c (un_not _ (none-find (λ c. not (list_any (λ k. k.0 == c.0) known)) all (sym (none-map (λ c. UnknownCourse c.0) unknown) ∙ first) c
+    course-offering w c (listed-course w c (not-false _ (none-find (λ c. not (list_any (λ k. k.0 == c.0) known)) all (sym (none-map (λ c. UnknownCourse c.0) unknown) ∙ first) c
     (Members.member-of_flat_map requests.courses_of asks (asks_course ask) c m n)))))) refl)
     (good-length asks lengths ask m)
 

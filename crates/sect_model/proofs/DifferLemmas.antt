@@ -14,9 +14,6 @@ abbrev pub keys_differ : {X : Type 0} → (X → ℕ) → List X → Bool
 keys_differ key [] = true
 keys_differ key (x ∷ xs) = not (list_any (λ y. key x == key y) xs) && keys_differ key xs
 
-pub not_false : (b : Bool) → b ≡ false → not b ≡ true
-not_false b h = ap not h
-
 pub eqb-swap : (a b : ℕ) → a == b ≡ true → b == a ≡ true
 eqb-swap a b h = eq-eqb b a (sym (eqb-true a b h))
 

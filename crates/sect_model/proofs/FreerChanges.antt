@@ -36,7 +36,7 @@ use Rattle.sect_model.proofs.FreerCaps.{cap-opens-nothing}
 use Rattle.sect_model.proofs.FreerFrame.{enrol-elsewhere, leave-elsewhere, member-put, names-own}
 
 -- ---- look-ups of what a change leaves alone
-find-more : {X : Type 0} (test : X → Bool) (x : X) (xs : List X) → test x ≡ false → find test (xs ++ x ∷ []) ≡ find test xs
+pub find-more : {X : Type 0} (test : X → Bool) (x : X) (xs : List X) → test x ≡ false → find test (xs ++ x ∷ []) ≡ find test xs
 find-more test x [] h = λ i. cond (h i) (Some x) None
 find-more test x (y ∷ ys) h = λ i. cond (test y) (Some y) (find-more test x ys h i)
 
@@ -44,7 +44,7 @@ no_swap : (a b : ℕ) → a == b ≡ false → b == a ≡ false
 no_swap a b h = if-not (b == a) (λ t. not_both (a == b) (eq-eqb a b (sym (eqb-true b a t))) h)
 
 -- what is not the student's row
-row-other : (ss : List Student) (row : StudentRow) (student : StudentId) → row.id.0 == student.0 ≡ false
+pub row-other : (ss : List Student) (row : StudentRow) (student : StudentId) → row.id.0 == student.0 ≡ false
     → (b : Bool) → find_student (cond b (map (with_row row) ss) (ss ++ record { row = row; asks = [] } ∷ [])) student ≡ find_student ss student
 row-other ss row student h false = find-more (λ s. s.row.id.0 == student.0) (record { row = row; asks = [] }) ss h
 row-other ss row student h true = find-other (λ s. s.row.id.0 == student.0) (with_row row) ss (λ s. key s (s.row.id.0 == row.id.0) refl) (λ s t. stay s t (s.row.id.0 == row.id.0) refl)
@@ -57,7 +57,7 @@ row-other ss row student h true = find-other (λ s. s.row.id.0 == student.0) (wi
     stay s t true u = absurd (not_both (row.id.0 == student.0) (eq-eqb row.id.0 student.0 (sym (eqb-true s.row.id.0 row.id.0 u) ∙ eqb-true s.row.id.0 student.0 t)) h)
     stay s t false u = refl
 
-asks-other : (ss : List Student) (of : StudentId) (asks : List Ask) (student : StudentId) → of.0 == student.0 ≡ false → find_student (map (with_asks of asks) ss) student ≡ find_student ss student
+pub asks-other : (ss : List Student) (of : StudentId) (asks : List Ask) (student : StudentId) → of.0 == student.0 ≡ false → find_student (map (with_asks of asks) ss) student ≡ find_student ss student
 asks-other ss of asks student h = find-other (λ s. s.row.id.0 == student.0) (with_asks of asks) ss (λ s. key s (s.row.id.0 == of.0)) (λ s t. stay s t (s.row.id.0 == of.0) refl)
   where
     key : (s : Student) (b : Bool) → (cond b (record s { asks = asks }) s).row.id.0 == student.0 ≡ s.row.id.0 == student.0
@@ -180,7 +180,7 @@ enrolled w e x k fits unlike h none = by_touch (touches w e.want x.choice.course
 
 -- ---- changes of reservations and of the day
 
-filter-other : {X : Type 0} (p : X → Bool) (f : X → X) (xs : List X) → ((x : X) → p (f x) ≡ p x) → ((x : X) → Member xs x → p x ≡ true → f x ≡ x) → filter p (map f xs) ≡ filter p xs
+pub filter-other : {X : Type 0} (p : X → Bool) (f : X → X) (xs : List X) → ((x : X) → p (f x) ≡ p x) → ((x : X) → Member xs x → p x ≡ true → f x ≡ x) → filter p (map f xs) ≡ filter p xs
 filter-other p f [] same stay = refl
 filter-other {X = X} p f (x ∷ xs) same stay =
     (λ i. cond (same x i) (f x ∷ filter-other p f xs same (λ y m. stay y (inr m)) i) (filter-other p f xs same (λ y m. stay y (inr m)) i))
@@ -283,7 +283,7 @@ module _ (w : World) (k : KeptWorld w) (rs : List Reservation) (day : ℕ) (kept
     };
   }
 
-not-flipped : (a b : Bool) → cond a (not b) b ≡ false → b ≡ a
+pub not-flipped : (a b : Bool) → cond a (not b) b ≡ false → b ≡ a
 not-flipped true true h = refl
 not-flipped true false h = absurd (not_both true refl h)
 not-flipped false true h = absurd (not_both true refl h)
@@ -319,7 +319,7 @@ other-id : (w : World) → KeptWorld w → (want : Want) (id : ReservationId) (r
 other-id w k want id r found h course o wanted its x m own = if-not (x.id.0 == id.0) (λ t.
     not_both (x.offering.0 == o.id.0) own (ap (λ y. y.offering.0 == o.id.0) (sym (the-one w k id r x found m t)) ∙ not-wanted w want r.offering h course o wanted its))
 
-unlike-used : (w : World) (id : ReservationId) → used_of w id ≡ 0 → (y : Enrolment) → Member w.roster y → (x : ReservationId) → y.choice.reservation ≡ Some x
+pub unlike-used : (w : World) (id : ReservationId) → used_of w id ≡ 0 → (y : Enrolment) → Member w.roster y → (x : ReservationId) → y.choice.reservation ≡ Some x
     → (r : Reservation) → r.id.0 == x.0 ≡ true → r.id.0 == id.0 ≡ false
 unlike-used w id none y m x n r t = if-not (r.id.0 == id.0) (λ u.
     not_both (x.0 == id.0) (eq-eqb x.0 id.0 (sym (eqb-true r.id.0 x.0 t) ∙ eqb-true r.id.0 id.0 u))

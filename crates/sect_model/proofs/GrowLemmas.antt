@@ -24,7 +24,7 @@ same-grows w v same rows = record {
   sections = λ id h. ap (λ rs. is_some (find_section rs id)) rows ∙ h;
 }
 
-all-grow : {X : Type 0} (p q : X → Bool) (xs : List X) → ((x : X) → p x ≡ true → q x ≡ true) → list_all p xs ≡ true → list_all q xs ≡ true
+pub all-grow : {X : Type 0} (p q : X → Bool) (xs : List X) → ((x : X) → p x ≡ true → q x ≡ true) → list_all p xs ≡ true → list_all q xs ≡ true
 all-grow p q xs more h = all-of q xs (λ x m. more x (all-at p xs h x m))
 
 module _ (w v : World) (g : Grows w v) where

@@ -11,9 +11,7 @@ use Rattle.sect_model.specs.Settle.{found_in}
 use Rattle.sect_model.specs.Laws.{FoundIsAllowed, FullIsNotSpent, FullIsFixed}
 use Rattle.sect_model.proofs.KeptMoves.{found-allowed}
 use Rattle.sect_model.proofs.VisitLemmas.{visits-steps}
-
-within : (budget n : ℕ) → nat_lt budget n ≡ false → n ≤ budget
-within budget n h = grind (arith, nat_tests, h)
+use Rattle.std.proofs.lemmas.Bool.{ltb-false}
 
 beyond : (budget n : ℕ) → nat_lt budget n ≡ true → n ≤ budget → ⊥
 beyond budget n h le = grind (arith, nat_tests, h)
@@ -35,7 +33,7 @@ found-within w mv budget visits choices h = by_budget (nat_lt budget (visits_of 
     by_budget true e h = cc
     by_budget false e h =
         let same = found-visits w mv (visits_of w mv) visits choices (first_allowed w mv) h in
-        within budget visits (ap (nat_lt budget) (sym same) ∙ e)
+        ltb-false budget visits (ap (nat_lt budget) (sym same) ∙ e)
 
 pub found-is-allowed : FoundIsAllowed
 found-is-allowed w mv budget visits choices h = (found-allowed w mv budget choices (ap found_in h), found-within w mv budget visits choices h)

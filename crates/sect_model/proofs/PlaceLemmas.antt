@@ -17,7 +17,7 @@ use Rattle.sect_model.proofs.DifferLemmas.{keys_differ, differ-right, differ-acr
 use Rattle.sect_model.proofs.CheckedLemmas.{sections-differ}
 
 -- where keys differ over all pieces, two pieces with elements of one key are one
-one-piece : {X Y : Type 0} (key : Y → ℕ) (f : X → List Y) (xs : List X) → keys_differ key (flat_map f xs) ≡ true → (p q : X) → Member xs p → Member xs q
+pub one-piece : {X Y : Type 0} (key : Y → ℕ) (f : X → List Y) (xs : List X) → keys_differ key (flat_map f xs) ≡ true → (p q : X) → Member xs p → Member xs q
     → (a b : Y) → Member (f p) a → Member (f q) b → key a ≡ key b → p ≡ q
 one-piece key f [] h p q m n a b ma mb e = absurd m
 one-piece key f (x ∷ xs) h p q (inl d) (inl c) a b ma mb e = sym d ∙ c
@@ -31,11 +31,11 @@ one-piece key f (x ∷ xs) h p q (inr m) (inl c) a b ma mb e =
     (not_true _ (all-at (λ y. not (list_any (λ z. key z == key y) (f x))) (flat_map f xs) (differ-across key (f x) (flat_map f xs) h) a (Members.member-of_flat_map f xs p a m ma))))
 one-piece key f (x ∷ xs) h p q (inr m) (inr n) a b ma mb e = one-piece key f xs (differ-right key (f x) (flat_map f xs) h) p q m n a b ma mb e
 
-same-id : (m n k : ℕ) → m == k ≡ true → n == k ≡ true → m ≡ n
+pub same-id : (m n k : ℕ) → m == k ≡ true → n == k ≡ true → m ≡ n
 same-id m n k h i = eqb-true m k h ∙ sym (eqb-true n k i)
 
 -- the subpart that has the section is the one that is found
-found-subpart : (rows : List OfferingRow) → are_checked rows ≡ true → (s : SectionId) (p : SubpartRow) → Member (all_subparts rows) p
+pub found-subpart : (rows : List OfferingRow) → are_checked rows ≡ true → (s : SectionId) (p : SubpartRow) → Member (all_subparts rows) p
     → (a : SectionRow) → Member p.sections a → a.id.0 == s.0 ≡ true → subpart_of_section rows s ≡ Some p
 found-subpart rows checked s p in_all a in_p is_it =
     let has : SubpartRow → Bool = λ p. list_any (λ r. r.id.0 == s.0) p.sections in

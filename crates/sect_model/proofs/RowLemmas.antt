@@ -1,7 +1,7 @@
 -- Checked rows have at most 20,000 sections, and each at least one, so there are at most as many offerings.
 use Rattle.std.specs.Prelude.{◌≡◌, ℕ, ◌+◌, ◌≤◌, Bool, true, false, nat_lt, cond, List, [], ◌∷◌, ◌++◌, length, map, find, flat_map, Some, None, refl}
 use Rattle.std.specs.Bool.{then_some}
-use Rattle.std.specs.Option.{option_map, is_none, is_some}
+use Rattle.std.specs.Option.{option_map, is_none}
 use Rattle.std.proofs.Common.{sym, ◌∙◌, ap, subst, arith, inl, append_assoc}
 use Rattle.std.proofs.lemmas.Bool.Decides.{nat_tests}
 use Rattle.std.proofs.lemmas.List.{append-nil, length-append}
@@ -14,6 +14,7 @@ use Rattle.sect_model.proofs.Members
 use Rattle.sect_model.proofs.Members.{Member, both-left, both-right, not_both, not_true}
 use Rattle.sect_model.proofs.OfferingChange.{none-left, none-right, none-map}
 use Rattle.sect_model.proofs.CheckedLemmas.{sections_of, row-by-row, passed, flat-append}
+use Rattle.sect_model.proofs.BatchLemmas.{none-find, not_said}
 
 -- ---- what isn't empty
 
@@ -24,17 +25,6 @@ some-member (x ∷ xs) h = (x, inl refl)
 at_least_one : {X : Type 0} (xs : List X) (x : X) → Member xs x → 1 ≤ length xs
 at_least_one [] x m = absurd m
 at_least_one (y ∷ ys) x m = omega arith
-
-unsaid : {X : Type 0} (b : Bool) (x : X) → is_none (then_some b x) ≡ true → b ≡ false
-unsaid true x h = absurd (not_both false h refl)
-unsaid false x h = refl
-
-none-find : {X : Type 0} (p : X → Bool) (xs : List X) → is_none (find p xs) ≡ true → (x : X) → Member xs x → p x ≡ false
-none-find p xs h x m = no (p x) refl
-  where
-    no : (b : Bool) → p x ≡ b → b ≡ false
-    no true t = absurd (not_both (is_some (find p xs)) (Members.find-some p xs x m t) (not_true _ h))
-    no false t = refl
 
 within : (limit n : ℕ) → is_none (above limit (n ∷ [])) ≡ true → n ≤ limit
 within limit n h = by_test (nat_lt limit n) refl h
@@ -64,7 +54,7 @@ sized before o h =
     let i = none-right (option_map (λ p. NoSection p.id.0) (find (λ p. is_empty p.sections) subparts)) _ f in
     let j = none-right (option_map BadParent (bad_parent o.configs)) _ i in
     let counts = sym (none-map (λ n. TooMany (told n)) (too_many c o)) ∙ j in
-    let g = some-member o.configs (unsaid (is_empty o.configs) NoConfig (none-left (then_some (is_empty o.configs) NoConfig) _ d)) in
+    let g = some-member o.configs (not_said (is_empty o.configs) NoConfig (none-left (then_some (is_empty o.configs) NoConfig) _ d)) in
     let p = some-member g.0.subparts
     (none-find (λ g. is_empty g.subparts) o.configs
     (sym (none-map (λ g. NoSubpart g.id.0) (find (λ g. is_empty g.subparts) o.configs)) ∙ none-left (option_map (λ g. NoSubpart g.id.0) (find (λ g. is_empty g.subparts) o.configs)) _ e) g.0 g.1) in

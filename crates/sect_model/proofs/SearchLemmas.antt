@@ -15,6 +15,7 @@ use Rattle.sect_model.specs.Premises.{WorldKeeps}
 use Rattle.sect_model.specs.Stands.{MoveStands}
 use Rattle.sect_model.specs.Outcome.{outcome_of}
 use Rattle.sect_model.proofs.WalkLemmas.{walks-answer}
+use Rattle.std.proofs.lemmas.Bool.{ltb-false}
 
 -- what a walk found, with what is left after its visits
 abbrev left_by : Option (List Choice) → Walked → ℕ → Searched
@@ -72,9 +73,6 @@ within-some left v h = grind (arith, nat_tests, h)
 rest-some : (left v : ℕ) → left - v ≡ suc left - (v + 1)
 rest-some left v = omega arith
 
-at_most : (left v : ℕ) → nat_lt left v ≡ false → v ≤ left
-at_most left v h = grind (arith, nat_tests, h)
-
 within-more : (left v u : ℕ) → v ≤ left → nat_lt (left - v) u ≡ nat_lt (suc left) (v + 1 + u)
 within-more left v u h = grind (arith, nat_tests, h)
 
@@ -94,7 +92,7 @@ below-within left r later = by_test (nat_lt left r.visits) refl
         ap (found choices) (rest-some left r.visits) ∙ sym (left-within (suc left) (found_after (r.visits + 1) choices) (within-some left r.visits h))
     under None h =
         tree-within (split (trees_of r.trees)) (r.visits + 1) (left - r.visits) (suc left) later
-        (within-more left r.visits later.visits (at_most left r.visits h)) (rest-more left r.visits later.visits (at_most left r.visits h))
+        (within-more left r.visits later.visits (ltb-false left r.visits h)) (rest-more left r.visits later.visits (ltb-false left r.visits h))
 
     by_test : (b : Bool) → nat_lt left r.visits ≡ b → or_later (λ n. within n later) (within left r) ≡ within (suc left) (below_or r.found r later)
     by_test true h = ap (or_later (λ n. within n later)) (spent-within left r h) ∙ over r.found h

@@ -72,7 +72,7 @@ all_sections-append xs ys =
     ∙ ap sections_in (flat-append (λ g. g.subparts) (flat_map (λ o. o.configs) xs) (flat_map (λ o. o.configs) ys))
     ∙ flat-append (λ p. p.sections) (flat_map (λ g. g.subparts) (flat_map (λ o. o.configs) xs)) (flat_map (λ g. g.subparts) (flat_map (λ o. o.configs) ys))
 
-some-map : {X Y : Type 0} (f : X → Y) (o : Option X) → is_some (option_map f o) ≡ is_some o
+pub some-map : {X Y : Type 0} (f : X → Y) (o : Option X) → is_some (option_map f o) ≡ is_some o
 some-map f None = refl
 some-map f (Some x) = refl
 
@@ -178,7 +178,7 @@ act-keeps s (Batch students) fits k =
 pub day-state : (s : State) (day : ℕ) → KeptState s → KeptState (on_day s day)
 day-state s day k = change-state s (Day (max s.world.day day)) k tt (same s (put_day s.world (max s.world.day day)) refl refl)
 
-answered-keeps : (s : State) (caller : Caller) (command : Command) → KeptState s → KeptState (answered s caller command).state
+pub answered-keeps : (s : State) (caller : Caller) (command : Command) → KeptState s → KeptState (answered s caller command).state
 answered-keeps s caller command k = by_refusal (refusal_of s caller command) refl
   where
     by_refusal : (o : Option Refusal) → refusal_of s caller command ≡ o → KeptState (refused_or s (λ t. act t command) o).state

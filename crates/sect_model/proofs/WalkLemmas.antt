@@ -36,7 +36,7 @@ count-left test (x ∷ xs) ys y h = by_test (count-left test xs ys y) (test x) h
     by_test ih true h = refl
     by_test ih false h = ap (λ n. n + 1) (ih h)
 
-none_and : (n : ℕ) → n ≡ 0 + n
+pub none_and : (n : ℕ) → n ≡ 0 + n
 none_and n = omega arith
 
 count-right : {X : Type 0} (test : X → Bool) (xs ys : List X) → find test xs ≡ None → count_to test (xs ++ ys) ≡ count_to test xs + count_to test ys

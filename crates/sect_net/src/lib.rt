@@ -8,6 +8,3 @@ mod source;
 pub use link::{TcpLink, links};
 pub use sink::TcpSink;
 pub use source::TcpSource;
-
-#[cfg(test)]
-mod tests;

@@ -118,7 +118,7 @@ impl<'a> Link for TcpLink<'a> {
     /// Where neither end has failed and the client hasn't ended its bytes, it waits up to 0.3 s for that end, so that the
     /// last answer arrives.
     fn finish(&mut self, source: TcpSource, sink: TcpSink) {
-        if source.is_open() && sink.is_open() {
+        if source.is_open() && sink.is_whole() {
             let _ = drain(self.rt, source.into_stream());
         }
     }

@@ -1,9 +1,9 @@
 -- The ids that have a row are those among the rows.
-use Rattle.std.specs.Prelude.{◌≡◌, ℕ, zero, suc, Bool, true, false, ◌&&◌, ◌==◌, List, [], ◌∷◌, filter, slice_get, nat_eq, Option, Some, None, refl}
+use Rattle.std.specs.Prelude.{◌≡◌, ℕ, zero, suc, Bool, true, false, ◌&&◌, ◌==◌, List, [], ◌∷◌, filter, slice_get, Option, Some, None, refl}
 use Rattle.std.specs.List.{list_any}
 use Rattle.std.specs.Option.{is_some, option_and_then}
 use Rattle.std.specs.Bool.{then_some}
-use Rattle.std.specs.HashMap.{get}
+use Rattle.sect_table.specs.Table.{value_at}
 use Rattle.std.proofs.Common.{sym, ◌∙◌, ap}
 use Rattle.std.proofs.lemmas.Bool.{eqb-true}
 use Rattle.sect_base.specs.declared.ids.ReservationId.{ReservationId}
@@ -54,7 +54,7 @@ module _ (t : Tally) (id : ℕ) where
       ∙ by_test (has_row t id) refl
     where
       by_test : (b : Bool) → has_row t id ≡ b → list_any (λ r. has_row t r.id && (r.id == id)) t.rows.items ≡ has_row t id
-      by_test true e = (λ i. list_any (λ r. one-id true e r i) t.rows.items) ∙ among-rows t.rows.items id (get nat_eq t.places id) e ∙ sym e
+      by_test true e = (λ i. list_any (λ r. one-id true e r i) t.rows.items) ∙ among-rows t.rows.items id (value_at t.places id) e ∙ sym e
       by_test false e = (λ i. list_any (λ r. one-id false e r i) t.rows.items) ∙ any-none t.rows.items ∙ sym e
 
 -- the counts of uses that are kept are those of the ids

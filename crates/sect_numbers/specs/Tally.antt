@@ -1,9 +1,9 @@
 -- The counts of ids.
-use Rattle.std.specs.Prelude.{◌≡◌, ℕ, Bool, true, ◌+◌, ◌-◌, ◌==◌, ◌≤◌, not, ◌&&◌, cond, List, [], ◌∷◌, map, filter, nat_eq, slice_get, Option}
+use Rattle.std.specs.Prelude.{◌≡◌, ℕ, Bool, true, ◌+◌, ◌-◌, ◌==◌, ◌≤◌, not, ◌&&◌, cond, List, [], ◌∷◌, map, filter, slice_get, Option}
 use Rattle.std.specs.List.{list_any}
 use Rattle.std.specs.Option.{is_some, option_map_or, option_and_then}
 use Rattle.std.specs.Bool.{then_some}
-use Rattle.std.specs.HashMap.{get}
+use Rattle.sect_table.specs.Table.{value_at}
 use Rattle.sect_base.specs.declared.ids.SectionId.{SectionId}
 use Rattle.sect_numbers.specs.declared.tally.Counts.{Counts}
 use Rattle.sect_numbers.specs.declared.tally.Row.{Row}
@@ -25,11 +25,11 @@ own_place rows id place = option_and_then (λ i. option_and_then (λ r. then_som
 
 -- the row of an id
 abbrev pub row_of : Tally → ℕ → Option Row
-row_of t id = own_row t.rows.items id (get nat_eq t.places id)
+row_of t id = own_row t.rows.items id (value_at t.places id)
 
 -- the place of the row of an id
 abbrev pub place_of : Tally → ℕ → Option ℕ
-place_of t id = own_place t.rows.items id (get nat_eq t.places id)
+place_of t id = own_place t.rows.items id (value_at t.places id)
 
 -- the counts of an id, none where it has no row
 abbrev pub counts_at : Tally → ℕ → Counts

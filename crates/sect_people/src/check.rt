@@ -34,7 +34,7 @@ pub fn check_asks(asks: &[Ask], known: &[CourseId]) -> Result<(), RequestFault>
         return Err(RequestFault::Twice(course.0));
     }
     match wrong_count(asks) {
-        Some(count) => Err(RequestFault::TooMany(told(count))),
+        Some(count) => Err(RequestFault::TooMany(as_told(count))),
         None => Ok(()),
     }
 }
@@ -111,8 +111,8 @@ fn bad_length(ask: &Ask) -> Option<usize>
     }
 }
 
-/// The count as a fault tells it.
-fn told(count: usize) -> u32
+/// A count as faults and refusals tell it: the count, or 2^32 - 1 where that is smaller. It takes no memory.
+pub fn as_told(count: usize) -> u32
     ensures { result ≡ told_of count }
 {
     count.min(u32::MAX as usize) as u32

@@ -27,8 +27,8 @@ pub struct LineAsk {
     pub command: Command,
 }
 
-/// What stands behind `@` in the next word.
-fn behind_at<'a>(words: &Parts<'a>) -> Option<&'a [u8]>
+/// What stands behind `@` in the next word, None where it doesn't begin so. It takes no memory.
+pub fn behind_at<'a>(words: &Parts<'a>) -> Option<&'a [u8]>
     ensures { option_map (λ text. text.now) result ≡ at_of words.now }
 {
     match words.first()? {

@@ -7,7 +7,7 @@ use sect_words::same_bytes;
 
 /// The first word of a command.
 #[derive(Clone, Copy, PartialEq, Eq, Debug)]
-pub(crate) enum Verb {
+pub enum Verb {
     Offering,
     Student,
     Requests,
@@ -26,9 +26,9 @@ pub(crate) enum Verb {
     Batch,
 }
 
-/// The verb of a word.
+/// The verb of a word. It takes no memory.
 #[tactic(auto, unfolding(crate::specs::ReadingCommands::verb_of))]
-pub(crate) fn verb_of(word: &[u8]) -> Option<Verb>
+pub fn verb_of(word: &[u8]) -> Option<Verb>
     ensures { result ≡ verb_named word.now }
 {
     if same_bytes(word, b"offering") {

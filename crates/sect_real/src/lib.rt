@@ -8,6 +8,3 @@ mod window;
 pub use any::AnyKeeper;
 pub use database::SqliteKeeper;
 pub use sect_system::{FileDisk, RealClock, StdSink, StdSource, ToldKeeper, ToldSource};
-
-#[cfg(test)]
-mod tests;

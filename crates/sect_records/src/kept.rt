@@ -41,7 +41,12 @@ impl Kept {
     }
 
     /// Takes the next piece, and gives the rows that it shows. What the rows to come don't need goes by.
-    pub(crate) fn feed(&mut self, alloc: Global, piece: &[u8]) -> Result<Vec<ByteRecord>, Memory>
+    pub(crate) fn feed(
+        &mut self,
+        alloc: Global,
+        spare: &mut Vec<ByteRecord>,
+        piece: &[u8],
+    ) -> Result<Vec<ByteRecord>, Memory>
         ensures rows { IfOk result (λ rows. shown_rows (self.old ++ piece.now) ≡ shown_rows self.old ++ map fields_of rows.items) }
         ensures stands { OnOk result (StandsFor (self.old ++ piece.now) self.new) }
         ensures memory { OnErr result (self.new ≡ self.old) }
@@ -53,7 +58,7 @@ impl Kept {
             return Ok(Vec::new(alloc));
         }
         let end = before + lines;
-        let Ended { mut rows, whole } = match read_lines(alloc, &self.bytes[..end]) {
+        let Ended { mut rows, whole } = match read_lines(alloc, spare, &self.bytes[..end]) {
             Ok(ended) => ended,
             Err(memory) => {
                 self.bytes.truncate(before);
@@ -72,10 +77,14 @@ impl Kept {
     }
 
     /// The rows that were not given, the text being at its end.
-    pub(crate) fn end(&self, alloc: Global) -> Result<Vec<ByteRecord>, Memory>
+    pub(crate) fn end(
+        &self,
+        alloc: Global,
+        spare: &mut Vec<ByteRecord>,
+    ) -> Result<Vec<ByteRecord>, Memory>
         ensures { IfOk result (λ rows. all_rows self.now ≡ shown_rows self.now ++ map fields_of rows.items) }
     {
-        let mut rows = read_all(alloc, &self.bytes, &[])?;
+        let mut rows = read_all(alloc, spare, &self.bytes, &[])?;
         drop_first(&mut rows, self.given);
         Ok(rows)
     }

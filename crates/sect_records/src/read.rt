@@ -20,12 +20,16 @@ pub(crate) struct Ended {
 
 /// The rows that ended within these lines. One more byte stands behind them for the reader: it is the last row by
 /// itself where nothing of a row is left, and else a part of it.
-pub(crate) fn read_lines(alloc: Global, lines: &[u8]) -> Result<Ended, Memory>
+pub(crate) fn read_lines(
+    alloc: Global,
+    spare: &mut Vec<ByteRecord>,
+    lines: &[u8],
+) -> Result<Ended, Memory>
     requires { AreLines lines.now }
     ensures rows { IfOk result (λ ended. map fields_of ended.rows.items ≡ rows_within at_start (strip_bom lines.now)) }
     ensures whole { IfOk result (λ ended. IsTrue ended.whole → IsWhole lines.now) }
 {
-    let mut rows = read_all(alloc, lines, b"x")?;
+    let mut rows = read_all(alloc, spare, lines, b"x")?;
     let whole = match rows.pop() {
         Some(last) => is_one_byte(&last),
         None => false,
@@ -42,20 +46,36 @@ fn is_one_byte(row: &ByteRecord) -> bool
     }
 }
 
-/// Every row of a text that stands in two parts.
-pub(crate) fn read_all(alloc: Global, text: &[u8], tail: &[u8]) -> Result<Vec<ByteRecord>, Memory>
+/// Every row of a text that stands in two parts. As long as there are spare rows, they are read into, so that their room
+/// serves again.
+pub(crate) fn read_all(
+    alloc: Global,
+    spare: &mut Vec<ByteRecord>,
+    text: &[u8],
+    tail: &[u8],
+) -> Result<Vec<ByteRecord>, Memory>
     ensures { IfOk result (λ rows. map fields_of rows.items ≡ all_rows (text.now ++ tail.now)) }
 {
-    let reader = ReaderBuilder::new()
+    let mut reader = ReaderBuilder::new()
         .has_headers(false)
         .flexible(true)
         .from_reader(alloc, text.chain(tail));
     let mut rows = Vec::new(alloc);
-    for row in reader.into_byte_records() {
-        match row {
-            Ok(row) => rows.push(row)?,
+    for _ in 0..u64::MAX {
+        let mut row = row_to_read_into(alloc, spare);
+        match reader.read_byte_record(&mut row) {
+            Ok(true) => rows.push(row)?,
+            Ok(false) => return Ok(rows),
             Err(_) => return Err(Memory),
         }
     }
-    Ok(rows)
+    Err(Memory)
+}
+
+/// A spare row, or else one without room.
+fn row_to_read_into(alloc: Global, spare: &mut Vec<ByteRecord>) -> ByteRecord {
+    match spare.pop() {
+        Some(row) => row,
+        None => ByteRecord::new(alloc),
+    }
 }

@@ -16,6 +16,8 @@ use std::marker::Model;
 pub struct Records {
     alloc: Global,
     kept: Kept,
+    // Rows whose room serves again.
+    spare: Vec<ByteRecord>,
     past: Past,
 }
 
@@ -38,6 +40,7 @@ impl Records {
         Records {
             alloc,
             kept: Kept::new(alloc),
+            spare: Vec::new(alloc),
             past: Past::new(),
         }
     }
@@ -48,7 +51,7 @@ impl Records {
         ensures rows { IfOk result (λ rows. shown_rows (self.old ++ piece.now) ≡ shown_rows self.old ++ map fields_of rows.items) }
         ensures memory { OnErr result (self.new ≡ self.old) }
     {
-        let rows = self.kept.feed(self.alloc, piece)?;
+        let rows = self.kept.feed(self.alloc, &mut self.spare, piece)?;
         self.past.note(piece);
         Ok(rows)
     }
@@ -58,6 +61,13 @@ impl Records {
         ensures rows { IfOk result (λ rows. all_rows self.old ≡ shown_rows self.old ++ map fields_of rows.items) }
         ensures same { self.new ≡ self.old }
     {
-        self.kept.end(self.alloc)
+        self.kept.end(self.alloc, &mut self.spare)
+    }
+
+    /// Takes rows back that are of no more use: the next ones are read into them. It takes no memory.
+    pub fn reuse(&mut self, rows: Vec<ByteRecord>)
+        ensures { self.new ≡ self.old }
+    {
+        self.spare = rows;
     }
 }

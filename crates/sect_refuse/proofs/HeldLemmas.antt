@@ -1,5 +1,5 @@
 -- What a student holds, and courses that are given up.
-use Rattle.std.specs.Prelude.{◌≡◌, ℕ, zero, suc, Bool, true, false, not, ◌==◌, ◌&&◌, ◌||◌, cond, List, [], ◌∷◌, filter, take, drop, refl}
+use Rattle.std.specs.Prelude.{◌≡◌, ℕ, zero, suc, Bool, true, false, not, ◌==◌, ◌||◌, List, [], ◌∷◌, take, drop, refl}
 use Rattle.std.specs.List.{list_any}
 use Rattle.std.specs.Option.{option_or}
 use Rattle.std.specs.Bool.{then_some}
@@ -10,15 +10,6 @@ use Rattle.sect_base.specs.declared.ids.StudentId.{StudentId}
 use Rattle.sect_command.specs.declared.reply.Refusal.TheVariants.{NotEnrolled}
 use Rattle.sect_model.specs.World.{World, holds}
 use Rattle.sect_model.specs.Refusals.{not_enrolled_in}
-
--- a test of those that pass another
-pub any-filter : {X : Type 0} (p q : X → Bool) (xs : List X) → list_any q (filter p xs) ≡ list_any (λ x. p x && q x) xs
-any-filter p q [] = refl
-any-filter {X = X} p q (x ∷ xs) = by_test (p x) (any-filter p q xs)
-  where
-    by_test : (b : Bool) → list_any q (filter p xs) ≡ list_any (λ x. p x && q x) xs → list_any q (cond b (x ∷ filter p xs) (filter p xs)) ≡ (b && q x) || list_any (λ x. p x && q x) xs
-    by_test true ih = λ i. q x || ih i
-    by_test false ih = ih
 
 abbrev is : ℕ → CourseId → Bool
 is n c = c.0 == n

@@ -7,28 +7,13 @@ ghost use Rattle.sect_model.specs.Refusals.{not_enrolled as held_fault, not_enro
 
 use sect_base::{CourseId, StudentId};
 use sect_command::Refusal;
-use sect_model::Enrolment;
 use sect_space::World;
-
-/// Whether the student is enrolled in the course.
-fn holds(world: &World, student: StudentId, course: CourseId) -> bool
-    ensures { result ≡ is_held world.now.world student course }
-{
-    has_course(world.enrolments(student), course)
-}
-
-fn has_course(held: &[Enrolment], course: CourseId) -> bool
-    ensures { result ≡ list_any (λ e. e.choice.course.0 == course.0) held.now }
-{
-    held.iter()
-        .any(|enrolment| enrolment.choice.course == course)
-}
 
 /// The student doesn't hold the course.
 pub fn not_enrolled(world: &World, student: StudentId, course: CourseId) -> Option<Refusal>
     ensures { result ≡ held_fault world.now.world student course }
 {
-    if holds(world, student, course) {
+    if world.holds(student, course) {
         None
     } else {
         Some(Refusal::NotEnrolled(course))
@@ -52,5 +37,5 @@ pub fn not_enrolled_in(world: &World, student: StudentId, given: &[CourseId]) ->
 fn is_wrong(world: &World, student: StudentId, earlier: &[CourseId], course: CourseId) -> bool
     ensures { result ≡ not (is_held world.now.world student course) || list_any (λ e. e.0 == course.0) earlier.now }
 {
-    !holds(world, student, course) || earlier.contains(&course)
+    !world.holds(student, course) || earlier.contains(&course)
 }

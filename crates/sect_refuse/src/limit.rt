@@ -10,10 +10,9 @@ ghost use Rattle.sect_model.specs.Refusals.{
   credits_above as credits_fault,
 };
 
-use crate::told::told;
 use sect_base::{Cap, Level, Limit};
 use sect_command::Refusal;
-use sect_people::StudentRow;
+use sect_people::{StudentRow, as_told};
 use sect_space::World;
 
 /// The most students.
@@ -45,7 +44,7 @@ fn below(places: u32, counted: u32) -> Option<Refusal>
     ensures { result ≡ then_some (nat_lt places counted) (Refusal.LimitBelow (told_of counted)) }
 {
     if places < counted {
-        Some(Refusal::LimitBelow(told(counted as usize)))
+        Some(Refusal::LimitBelow(as_told(counted as usize)))
     } else {
         None
     }
@@ -69,7 +68,7 @@ pub fn credits_above(world: &World, row: &StudentRow) -> Option<Refusal>
 {
     let credits = world.credits_held(row.id);
     if usize::from(row.max_credits) < credits {
-        Some(Refusal::LimitBelow(told(credits)))
+        Some(Refusal::LimitBelow(as_told(credits)))
     } else {
         None
     }

@@ -46,17 +46,7 @@ fn waits_of_one(world: &World, student: StudentId) -> usize
     ensures few { result ≤ 20 }
 {
     world.is_kept();
-    waits_in(asks_of(world, student))
-}
-
-/// What a student asks for: nothing where the student is unknown.
-fn asks_of(world: &World, student: StudentId) -> &[Ask]
-    ensures { result.now ≡ asks_in world.now.world student }
-{
-    match world.people().asks(student) {
-        Some(asks) => asks,
-        None => &[],
-    }
+    waits_in(world.asks(student))
 }
 
 /// How many of the requests are wait-listed course requests.

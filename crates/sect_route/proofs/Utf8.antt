@@ -2,12 +2,12 @@
 use Rattle.std.proofs.Common.{◌≡◌, ℕ, List, [], ◌∷◌, ◌++◌, codes, decimal, refl, sym, subst, Bool, true, ◌&&◌, ltb, zero, suc, get_or, lit<, ◌<◌, ◌≤◌, arith}
 use Rattle.std.specs.Str.{IsUtf8}
 use Rattle.std.proofs.lemmas.Bool.{and_parts, ltb-true}
+use Rattle.std.proofs.lemmas.Fmt.{IsAscii-decimal}
 use Rattle.std.proofs.lemmas.Str.{IsUtf8-append, IsUtf8-from_ascii}
 use Rattle.sect_base.specs.declared.limit.Caller.{Caller}
 use Rattle.sect_base.specs.declared.limit.Caller.TheVariants as callers
 use Rattle.sect_command.specs.declared.view.Query.{Query}
 use Rattle.sect_command.specs.declared.view.Query.TheVariants as queries
-use Rattle.sect_words.proofs.Parsing.{IsUtf8-decimal}
 use Rattle.sect_read.specs.Fits.{Fits64, FitsCaller}
 use Rattle.sect_route.specs.Targets.{FitsReport, FitsTarget, IsTarget, ask_path, report_path, target_path}
 use Rattle.sect_route.specs.declared.target.Target.{Target}
@@ -26,10 +26,10 @@ text : (bytes : List ℕ) → all_ascii bytes ≡ true → IsUtf8 bytes
 text bytes e = IsUtf8-from_ascii bytes (ascii bytes e)
 
 number : (n : ℕ) → Fits64 n → IsUtf8 (decimal n)
-number n fits = IsUtf8-decimal n (decimal n) (omega (arith, fits)) refl
+number n fits = IsUtf8-from_ascii (decimal n) (IsAscii-decimal n (omega (arith, fits)))
 
 small : (n : ℕ) → n ≤ 4294967295 → IsUtf8 (decimal n)
-small n fits = IsUtf8-decimal n (decimal n) (omega (arith, fits)) refl
+small n fits = IsUtf8-from_ascii (decimal n) (IsAscii-decimal n (omega (arith, fits)))
 
 behind : (text rest : List ℕ) → IsUtf8 text → IsUtf8 rest → IsUtf8 (text ++ rest)
 behind = IsUtf8-append

@@ -9,4 +9,4 @@ mod write;
 pub use reader::{LineEnd, LineError, LineReader};
 pub use script::{Handler, LineFault, RunEnd, run_lines};
 pub use status::{Status, status_of};
-pub use write::{Unwritten, gather, write_all, write_out};
+pub use write::{Unwritten, gather, say, write_all, write_out};

@@ -1,12 +1,14 @@
 //! The search for the first allowed move, and the check of the tree that refutes every one.
 #![tactic(auto)]
 
+mod budget;
 mod finding;
 pub mod laws;
 mod verifying;
 mod walk;
 mod walked;
 
+pub use budget::usual_budget;
 pub use finding::{search, search_in};
 pub use sect_model::Outcome;
 pub use verifying::{verify, verify_in};

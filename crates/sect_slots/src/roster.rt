@@ -173,6 +173,36 @@ fn place_of(slots: &[Slot], student: StudentId) -> Option<usize>
     ensures found { IfSome result (λ k. HasSlot slots.now student.0 k) }
     ensures none { IfNone result (list_any (λ s. s.student == student.0) slots.now ≡ false) }
 {
+    match guessed(slots, student) {
+        Some(place) => Some(place),
+        None => searched(slots, student),
+    }
+}
+
+/// Where the slot of the student stands if each student between the first and this one has a slot, as it mostly is.
+fn guessed(slots: &[Slot], student: StudentId) -> Option<usize>
+    ensures { IfSome result (λ k. HasSlot slots.now student.0 k) }
+{
+    let first = slots.first()?.student();
+    let place = student.0.checked_sub(first.0)? as usize;
+    match slots.get(place) {
+        Some(slot) => {
+            if slot.student() == student {
+                Some(place)
+            } else {
+                None
+            }
+        }
+        None => None,
+    }
+}
+
+/// Where the slot of the student stands, found by halves.
+fn searched(slots: &[Slot], student: StudentId) -> Option<usize>
+    requires { IsTrue (are_slots slots.now) }
+    ensures found { IfSome result (λ k. HasSlot slots.now student.0 k) }
+    ensures none { IfNone result (list_any (λ s. s.student == student.0) slots.now ≡ false) }
+{
     let place = rank(slots, student);
     match slots.get(place) {
         Some(slot) => {

@@ -1,4 +1,4 @@
-// Enrolments counted in and out of the numbers, and of the weeks of their students.
+// Enrolments counted in and out of the numbers, and of the weeks and credits of their students.
 
 ghost use Rattle.std.specs.Prelude.{◌≡◌};
 ghost use Rattle.sect_base.specs.declared.ids.ReservationId.{ReservationId as Reservation_id};
@@ -16,7 +16,7 @@ use sect_numbers::Numbers;
 use sect_weeks::Weeks;
 
 impl Parts {
-    /// Counts an enrolment that was made, and takes its slots. It takes no memory.
+    /// Counts an enrolment that was made, with its credits, and takes its slots. It takes no memory.
     pub fn count_in(&self, numbers: &mut Numbers, weeks: &mut Weeks, enrolment: &Enrolment)
         requires { OneBehind numbers.old weeks.old (roomed_of self.now).world enrolment.now }
         ensures told { Told numbers.new (roomed_of self.now).world }
@@ -29,7 +29,8 @@ impl Parts {
         weeks.enrolled(&self.catalogue, enrolment);
     }
 
-    /// Counts an enrolment no more that was taken away, and makes its student's week again from the rest. It takes no memory.
+    /// Counts an enrolment no more that was taken away, and makes its student's week and credits again from the rest. It takes no
+    /// memory.
     pub fn count_out(&self, numbers: &mut Numbers, weeks: &mut Weeks, enrolment: &Enrolment)
         requires { OneAhead numbers.old weeks.old (roomed_of self.now).world enrolment.now }
         ensures told { Told numbers.new (roomed_of self.now).world }

@@ -6,7 +6,6 @@ mod back;
 mod change;
 mod count;
 mod counting;
-mod credits;
 mod enrolment;
 mod holds;
 pub mod laws;

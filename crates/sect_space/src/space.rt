@@ -1,6 +1,6 @@
 // Limits, reserved and unreserved space.
 
-ghost use Rattle.std.specs.Prelude.{◌≡◌, ℕ, ℤ, pos, ◌-ℤ◌, ◌&&◌, ◌+◌, ◌*◌, ◌≤◌, ◌==◌, cond, length, sum_by, IfSome};
+ghost use Rattle.std.specs.Prelude.{◌≡◌, ℕ, ℤ, pos, ◌-ℤ◌, ◌&&◌, ◌+◌, ◌*◌, ◌≤◌, ◌==◌, cond, filter, length, sum_by, IfSome};
 ghost use Rattle.std.specs.List.{list_any};
 ghost use Rattle.std.specs.Option.{is_none};
 ghost use Rattle.sect_catalog.specs.Catalogue.{places as places_in, places_of_all};
@@ -15,10 +15,12 @@ ghost use Rattle.sect_model.specs.Space.{
   space_of,
   unreserved_of,
 };
+ghost use Rattle.sect_numbers.specs.Own.{level_offering as offering_of_level};
 
 use crate::world::World;
 use sect_base::{ConfigId, Level, Limit, OfferingId, SectionId};
 use sect_catalog::ConfigRow;
+use sect_numbers::laws::a_level_is_named_by_its_offering;
 use sect_reserve::{Place, Reservation, active};
 
 impl World {
@@ -71,13 +73,39 @@ impl World {
         }
     }
 
+    /// The reservations of the level's offering, among which are all that name the level. It takes no memory.
+    fn reservations_near(&self, level: Level) -> &[Reservation]
+        ensures near { active_at self.now.world level ≡ filter (λ r. is_active r self.now.world.day && is_named r level) result.now }
+        ensures few { length result.now ≤ 1000000 }
+    {
+        self.is_kept();
+        a_level_is_named_by_its_offering();
+        match self.level_offering(level) {
+            Some(offering) => self.reservations(offering),
+            None => &[],
+        }
+    }
+
+    /// The offering of a level.
+    fn level_offering(&self, level: Level) -> Option<OfferingId>
+        ensures { result ≡ offering_of_level self.now.world level }
+    {
+        match level {
+            Level::Course(id) => Some(self.catalogue().course(id)?.0.id),
+            Level::Offering(id) => Some(id),
+            Level::Config(id) => self.parts.config_offering(id),
+            Level::Section(id) => self.parts.section_offering(id),
+        }
+    }
+
     /// Whether an active reservation that names the level has no limit.
     fn has_unlimited(&self, level: Level) -> bool
         ensures { result ≡ are_unlimited (active_at self.now.world level) }
     {
-        self.any_unlimited(level, self.all_reservations())
+        self.any_unlimited(level, self.reservations_near(level))
     }
 
+    /// Whether one of the rows that are active and name the level has no limit.
     fn any_unlimited(&self, level: Level, rows: &[Reservation]) -> bool
         ensures { result ≡ list_any (λ r. (is_active r self.now.world.day && is_named r level) && is_none (places_in r.limit)) rows.now }
     {
@@ -90,7 +118,7 @@ impl World {
         ensures few { result ≤ 4300000000000000 }
     {
         self.is_kept();
-        u64::from(self.count(level)) + self.held_back(level, self.all_reservations())
+        u64::from(self.count(level)) + self.held_back(level, self.reservations_near(level))
     }
 
     /// What those of the rows that are active and name the level still hold back.

@@ -14,8 +14,28 @@ use sect_model::Change;
 use sect_people::{Ask, StudentRow};
 
 impl Parts {
-    /// Adds a student, or replaces a known one's row. Where memory runs out, nothing is changed.
+    /// Adds a student, or replaces a known one's row. Where memory runs out, nothing is changed. A student who comes gets
+    /// room for an enrolment, so that those who come in order of id stand behind one another in the roster.
     pub fn put_student(&mut self, row: StudentRow) -> Result<Back, Memory>
+        ensures ok { IfOk result (λ back. Made (roomed_of self.old) (roomed_of self.new) (Change.Student row) back) }
+        ensures err { OnErr result (Unchanged (roomed_of self.old) (roomed_of self.new)) }
+    {
+        self.make_room(row.id)?;
+        self.put_row(row)
+    }
+
+    /// Makes room for an enrolment of a student who is unknown. Where memory runs out, there is as much as before.
+    fn make_room(&mut self, student: StudentId) -> Result<(), Memory>
+        ensures same { Unchanged (roomed_of self.old) (roomed_of self.new) }
+    {
+        if self.people.row(student).is_some() {
+            return Ok(());
+        }
+        self.roster.reserve(student, 1)
+    }
+
+    /// Adds a student, or replaces a known one's row, with no room made.
+    fn put_row(&mut self, row: StudentRow) -> Result<Back, Memory>
         ensures ok { IfOk result (λ back. Made (roomed_of self.old) (roomed_of self.new) (Change.Student row) back) }
         ensures err { OnErr result (self.new ≡ self.old) }
     {

@@ -4,7 +4,8 @@ ghost use Rattle.std.specs.Prelude.{◌≡◌, option_copied, IfOk, IsTrue};
 ghost use Rattle.std.specs.Option.{is_some};
 ghost use Rattle.sect_people.specs.Student.{find_student};
 ghost use Rattle.sect_model.specs.World.{empty_world, held_by, reservation_of};
-ghost use Rattle.sect_model.specs.Allowed.{reservations_of, restrictions_of};
+ghost use Rattle.sect_model.specs.Batch.{asks_of};
+ghost use Rattle.sect_model.specs.Allowed.{reservations_of, restrictions_of, credits_held as credits_of_student};
 ghost use Rattle.sect_model.specs.Refusals.{restriction_of};
 ghost use Rattle.sect_model.specs.Kept.{KeptWorld};
 ghost use Rattle.sect_weeks.specs.Busy.{IsWeekOf};
@@ -14,7 +15,7 @@ use sect_base::{Memory, OfferingId, ReservationId, RestrictionId, StudentId};
 use sect_catalog::Catalogue;
 use sect_model::Enrolment;
 use sect_numbers::Numbers;
-use sect_people::People;
+use sect_people::{Ask, People};
 use sect_reserve::{Reservation, Restriction};
 use sect_roster::{Reservations, Restrictions};
 use sect_slots::Roster;
@@ -93,6 +94,16 @@ impl World {
         &self.parts.people
     }
 
+    /// What a student asks for, in order of rank. Nothing where the student is unknown. It takes no memory.
+    pub fn asks(&self, student: StudentId) -> &[Ask]
+        ensures { result.now ≡ asks_of self.now.world student }
+    {
+        match self.parts.people.asks(student) {
+            Some(asks) => asks,
+            None => &[],
+        }
+    }
+
     /// The reservations of an offering, in the order of their coming. None where the offering is unknown. It takes no memory.
     pub fn reservations(&self, offering: OfferingId) -> &[Reservation]
         ensures { result.now ≡ reservations_of self.now.world offering }
@@ -151,6 +162,13 @@ impl World {
             Some(calendar) => calendar,
             None => unreachable!(),
         }
+    }
+
+    /// The credits of the courses that the student holds, where an unknown one counts 0. It takes no memory.
+    pub fn credits_held(&self, student: StudentId) -> usize
+        ensures { result ≡ credits_of_student self.now.world student }
+    {
+        self.weeks.credits(student)
     }
 
     /// All enrolments, in rising order of student, and for one student in the order in which they were made.

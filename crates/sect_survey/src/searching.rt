@@ -8,9 +8,9 @@ ghost use Rattle.sect_survey.specs.Survey.{unmet_move as move_of, why_of as why_
 
 use crate::line::{SurveyLine, Why};
 use rayon::prelude::*;
-use sect_base::{Budget, Duplicate, Items, Memory, Move, Want};
+use sect_base::{Duplicate, Items, Memory, Move, Want};
 use sect_command::{Query, UnmetView, View};
-use sect_search::{Outcome, search};
+use sect_search::{Outcome, search, usual_budget};
 use sect_space::World;
 use sect_steps::Steps;
 use sect_view::view;
@@ -96,17 +96,7 @@ fn counted<L: Ledger>(
     ensures { IfOk result (λ outcome. outcome ≡ outcome_of world.now.world mv.now 2000) }
 {
     let mut steps: Steps<L> = Steps::new(blank);
-    search(alloc, world, mv, budget(), &mut steps)
-}
-
-/// The budget of each search.
-fn budget() -> Budget
-    ensures { result ≡ 2000 }
-{
-    match Budget::new(2_000) {
-        Some(budget) => budget,
-        None => unreachable!(),
-    }
+    search(alloc, world, mv, usual_budget(), &mut steps)
 }
 
 /// The move that takes one of the request's courses.

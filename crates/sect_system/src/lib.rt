@@ -13,6 +13,3 @@ pub use disk::FileDisk;
 pub use sink::StdSink;
 pub use source::StdSource;
 pub use told::{ToldKeeper, ToldSource};
-
-#[cfg(test)]
-mod tests;

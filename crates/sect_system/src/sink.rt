@@ -16,6 +16,11 @@ impl<W: Write> StdSink<W> {
     pub fn new(writer: W) -> StdSink<W> {
         StdSink { writer, faults: 0 }
     }
+
+    /// Whether each write went well.
+    pub fn is_whole(&self) -> bool {
+        self.faults == 0
+    }
 }
 
 impl<W: Write> Sink for StdSink<W> {

@@ -8,12 +8,12 @@ use Rattle.std.proofs.lemmas.List.Sums.{fails_before_first, position_or_len_is}
 use Rattle.sect_catalog.proofs.RisingLemmas.{no_place}
 use Rattle.sect_usage.specs.declared.verb.Verb.{Verb}
 use Rattle.sect_usage.specs.declared.verb.Verb.TheVariants as verbs
-use Rattle.sect_usage.specs.Grammar.{asked_by, asked_for, takes, words_of, verb_of, lone_of, table_of, query_by}
+use Rattle.sect_usage.specs.Grammar.{asked_for, takes, words_of, verb_of, table_of, query_by}
 use Rattle.sect_usage.specs.Items.{Item, equals_at, items_of, option_cut, option_with, positionals, value_of, whole}
 use Rattle.sect_usage.specs.Laws.{AnyOrder, OneItem, Worked}
 
 pub worked : Worked
-unfolding words_of verb_of lone_of table_of query_by asked_by asked_for takes
+unfolding words_of verb_of table_of query_by asked_for takes
 worked = record { run = refl; kept = refl; twice = refl; extra = refl; help = refl; export = refl; again = refl; empty = refl; unmet = refl; dash = refl; portless = refl; nobody = refl; equals = refl }
 
 -- the first `=` stands behind a name without one
@@ -56,5 +56,4 @@ same_for verbs.Plan a b p v = rw (p, v (codes "budget")) refl
 same_for verbs.Survey a b p v = rw p refl
 
 pub any_order : AnyOrder
-unfolding asked_by
 any_order verb a b ha hb p v = rw (ha, hb, v (codes "db"), v (codes "journal"), same_for verb a b p v) refl

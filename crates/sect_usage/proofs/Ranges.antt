@@ -16,9 +16,11 @@ use Rattle.sect_usage.specs.declared.verb.Verb.TheVariants as verbs
 use Rattle.sect_usage.specs.declared.verb.Topic.TheVariants as topics
 use Rattle.sect_usage.specs.declared.words.Words.{Words}
 use Rattle.sect_usage.specs.declared.words.Words.TheVariants as asked
-use Rattle.sect_usage.specs.Grammar.{allows, asked_by, asked_for, import_of, is_help, lone_of, make_of, one_keeper, plan_of, query_of, serve_of, table_of, takes, term_of, the_one, usual_or, verb_of, where_none, words_by, words_of}
+use Rattle.sect_usage.specs.Grammar.{asked_for, desk_words, import_of, make_of, plan_of, query_of, serve_of, table_of, takes, term_of, usual_or, verb_of, words_of}
 use Rattle.sect_usage.specs.Items.{Item, items_of, positionals, value_of}
 use Rattle.sect_usage.specs.Laws.{AskedInRange, IsBetween, IsInRange}
+use Rattle.sect_usage.specs.Options.{allows, is_help, one_keeper, the_one, where_none}
+use Rattle.sect_usage.specs.Programs.{asked_by, lone_of, words_by}
 
 -- what is asked for, if anything is, is in its range
 abbrev InRange : Option Words → Type 0
@@ -115,20 +117,18 @@ for_in_range verbs.Export items = export_in_range (the_one (positionals items) >
 for_in_range verbs.Plan items = planned_in_range items
 for_in_range verbs.Survey items = where_in_range (Some asked.Survey) (positionals items) tt
 
-by_in_range : (verb : Verb) (items : List Item) → InRange (asked_by verb items)
-unfolding asked_by
+by_in_range : (verb : Verb) (items : List Item) → InRange (asked_by desk_words verb items)
 by_in_range verb items = if_in_range (allows (takes verb) items && one_keeper items) (asked_for verb items) None (for_in_range verb items) tt
 
-lone_in_range : (word : List ℕ) → InRange (lone_of word)
-unfolding lone_of
+lone_in_range : (word : List ℕ) → InRange (lone_of desk_words word)
 lone_in_range word =
     if_in_range (bytes_eq word (codes "--help")) (Some (asked.Help topics.Desk)) (if bytes_eq word (codes "--version") then Some asked.Version else None) tt
     (if_in_range (bytes_eq word (codes "--version")) (Some asked.Version) None tt tt)
 
-words_in_range : (verb : Option Verb) (word : List ℕ) (words : List (List ℕ)) → InRange (words_by verb word words)
-words_in_range None word words = where_in_range (lone_of word) words (lone_in_range word)
+words_in_range : (verb : Option Verb) (word : List ℕ) (words : List (List ℕ)) → InRange (words_by desk_words verb word words)
+words_in_range None word words = where_in_range (lone_of desk_words word) words (lone_in_range word)
 words_in_range (Some verb) word words =
-    if_in_range (is_help words) (Some (asked.Help (topics.Command verb))) (asked_by verb (items_of words)) tt (by_in_range verb (items_of words))
+    if_in_range (is_help words) (Some (asked.Help (topics.Command verb))) (asked_by desk_words verb (items_of words)) tt (by_in_range verb (items_of words))
 
 all_in_range : (words : List (List ℕ)) → InRange (words_of words)
 unfolding words_of

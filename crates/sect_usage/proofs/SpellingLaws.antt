@@ -17,7 +17,7 @@ use Rattle.sect_words.proofs.Values.{exact_day}
 use Rattle.sect_usage.specs.declared.verb.Verb.TheVariants as verbs
 use Rattle.sect_usage.specs.declared.verb.Topic.TheVariants as topics
 use Rattle.sect_usage.specs.declared.words.Words.TheVariants as asked
-use Rattle.sect_usage.specs.Grammar.{asked_by, asked_for, lone_of, query_by, table_of, takes, verb_of, words_of}
+use Rattle.sect_usage.specs.Grammar.{asked_for, query_by, table_of, takes, verb_of, words_of}
 use Rattle.sect_usage.specs.Items.{items_of, option, option_by, positional}
 use Rattle.sect_usage.specs.Laws.{is_plain}
 use Rattle.sect_usage.specs.Spelling.{MayBeAsked, PlainWords, word_list}
@@ -32,7 +32,7 @@ positional_word (b ∷ bs) words plain = by (b == 45) refl
     by false e = rw e refl
 
 -- a plain word is a value
-value_word : (name word : List ℕ) → is_plain word ≡ true → option_by name word ≡ option name word
+pub value_word : (name word : List ℕ) → is_plain word ≡ true → option_by name word ≡ option name word
 value_word name [] plain = absurd (cc)
 value_word name (b ∷ bs) plain = by (b == 45) refl
   where
@@ -75,7 +75,7 @@ read_id n fits = read_number 4294967295 n (omega arith) (omega (arith, fits))
 -- a table's rows are asked for
 import_bare : (table : Table) (first : ℕ) → option_by (codes "first") (decimal first) ≡ option (codes "first") (decimal first) → number_of 18446744073709551615 (decimal first) ≡ Some first
     → words_of (word_list (asked.Import table first None)) ≡ Some (asked.Import table first None)
-unfolding words_of verb_of table_of asked_by asked_for takes
+unfolding words_of verb_of table_of asked_for takes
 import_bare tables.Offerings first value read = rw (value, read) refl
 import_bare tables.Students first value read = rw (value, read) refl
 import_bare tables.Requests first value read = rw (value, read) refl
@@ -85,7 +85,7 @@ import_bare tables.Reservations first value read = rw (value, read) refl
 import_dated : (table : Table) (first day : ℕ) → option_by (codes "first") (decimal first) ≡ option (codes "first") (decimal first) → number_of 18446744073709551615 (decimal first) ≡ Some first
     → option_by (codes "term") (day_text day) ≡ option (codes "term") (day_text day) → day_of (day_text day) ≡ Some day
     → words_of (word_list (asked.Import table first (Some day))) ≡ Some (asked.Import table first (Some day))
-unfolding words_of verb_of table_of asked_by asked_for takes
+unfolding words_of verb_of table_of asked_for takes
 import_dated tables.Offerings first day value read begin told = rw (value, begin, read, told) refl
 import_dated tables.Students first day value read begin told = rw (value, begin, read, told) refl
 import_dated tables.Requests first day value read begin told = rw (value, begin, read, told) refl
@@ -98,7 +98,7 @@ import_words table first (Some day) may =
     (value_word (codes "term") (day_text day) (day_plain day may.1)) (exact_day.again day may.1)
 
 export_words : (table : Table) → words_of (word_list (asked.Export table)) ≡ Some (asked.Export table)
-unfolding words_of verb_of table_of asked_by asked_for takes
+unfolding words_of verb_of table_of asked_for takes
 export_words tables.Offerings = refl
 export_words tables.Students = refl
 export_words tables.Requests = refl
@@ -110,7 +110,7 @@ number_value name n most small fits = value_word name (decimal n) (number_plain 
 
 serve_words : (port workers sessions : ℕ) → MayBeAsked (asked.Serve port workers sessions)
     → words_of (word_list (asked.Serve port workers sessions)) ≡ Some (asked.Serve port workers sessions)
-unfolding words_of verb_of asked_by asked_for takes between_of
+unfolding words_of verb_of asked_for takes between_of
 serve_words port workers sessions may =
     let port_low : nat_le 1 port ≡ true = grind (arith, nat_tests, may.0.0) in
     let workers_low : nat_le 1 workers ≡ true = grind (arith, nat_tests, may.1.0) in
@@ -129,7 +129,7 @@ serve_words port workers sessions may =
 
 plan_words : (student budget : ℕ) → student < 2 ^ 32 → 1 ≤ budget → budget ≤ 20000
     → words_of (word_list (asked.Plan (record { 0 = student }) budget)) ≡ Some (asked.Plan (record { 0 = student }) budget)
-unfolding words_of verb_of asked_by asked_for takes between_of
+unfolding words_of verb_of asked_for takes between_of
 plan_words student budget fits low high =
     let budget_low : nat_le 1 budget ≡ true = grind (arith, nat_tests, low) in
     let plain = number_plain student (omega (arith, fits)) in
@@ -142,7 +142,7 @@ plan_words student budget fits low high =
     ) refl
 
 pub plain_words : PlainWords
-unfolding words_of verb_of lone_of query_by asked_by asked_for takes between_of
+unfolding words_of verb_of query_by asked_for takes between_of
 plain_words asked.Run may = refl
 plain_words (asked.Serve port workers sessions) may = serve_words port workers sessions may
 plain_words (asked.Make n) may =

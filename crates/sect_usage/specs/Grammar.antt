@@ -1,5 +1,5 @@
 -- What the words of the command line ask for.
-use Rattle.std.specs.Prelude.{ℕ, ◌&&◌, ◌||◌, Bool, true, false, not, if◌then◌else◌, List, [], ◌∷◌, Option, None, Some, codes, option_map}
+use Rattle.std.specs.Prelude.{ℕ, ◌||◌, Bool, false, if◌then◌else◌, List, [], ◌∷◌, Option, None, Some, codes, option_map}
 use Rattle.std.specs.Str.{bytes_eq}
 use Rattle.sect_command.specs.declared.view.Table.{Table}
 use Rattle.sect_command.specs.declared.view.Table.TheVariants as tables
@@ -12,7 +12,9 @@ use Rattle.sect_usage.specs.declared.verb.Verb.TheVariants as verbs
 use Rattle.sect_usage.specs.declared.verb.Topic.TheVariants as topics
 use Rattle.sect_usage.specs.declared.words.Words.{Words}
 use Rattle.sect_usage.specs.declared.words.Words.TheVariants as asked
-use Rattle.sect_usage.specs.Items.{Item, positional, option, bad, items_of, positionals, value_of}
+use Rattle.sect_usage.specs.Items.{Item, positionals, value_of}
+use Rattle.sect_usage.specs.Options.{is_keeper, the_one, where_none}
+use Rattle.sect_usage.specs.Programs.{Program, words_in}
 
 -- the command of a word
 unfoldable pub verb_of : List ℕ → Option Verb
@@ -26,10 +28,6 @@ verb_of word =
     (if bytes_eq word (codes "export") then Some verbs.Export else
     (if bytes_eq word (codes "plan") then Some verbs.Plan else
     (if bytes_eq word (codes "survey") then Some verbs.Survey else None))))))))
-
--- the option names a keeper
-abbrev pub is_keeper : List ℕ → Bool
-is_keeper name = bytes_eq name (codes "db") || bytes_eq name (codes "journal")
 
 -- the option is one of `serve` alone
 abbrev pub is_of_serve : List ℕ → Bool
@@ -46,32 +44,6 @@ takes verbs.Import name = is_keeper name || (bytes_eq name (codes "first") || by
 takes verbs.Export name = is_keeper name
 takes verbs.Plan name = is_keeper name || bytes_eq name (codes "budget")
 takes verbs.Survey name = is_keeper name
-
--- there is a value
-abbrev pub is_given : Option (List ℕ) → Bool
-is_given None = false
-is_given (Some value) = true
-
--- each word is an item, and each option is a known one that stands once
-abbrev pub allows : (List ℕ → Bool) → List Item → Bool
-allows known [] = true
-allows known (positional word ∷ items) = allows known items
-allows known (option name value ∷ items) = known name && (not (is_given (value_of name items)) && allows known items)
-allows known (bad ∷ items) = false
-
--- not both keepers are named
-abbrev pub one_keeper : List Item → Bool
-one_keeper items = not (is_given (value_of (codes "db") items) && is_given (value_of (codes "journal") items))
-
--- the value, where no words are left
-abbrev pub where_none : {A : Type 0} → Option A → List (List ℕ) → Option A
-where_none value [] = value
-where_none value (word ∷ words) = None
-
--- the word, where it is the only one
-abbrev pub the_one : List (List ℕ) → Option (List ℕ)
-the_one [] = None
-the_one (word ∷ words) = where_none (Some word) words
 
 -- a table
 unfoldable pub table_of : List ℕ → Option Table
@@ -146,28 +118,17 @@ asked_for verbs.Export items = option_map asked.Export (the_one (positionals ite
 asked_for verbs.Plan items = plan_of items
 asked_for verbs.Survey items = where_none (Some asked.Survey) (positionals items)
 
--- what a command asks for by these items
-unfoldable pub asked_by : Verb → List Item → Option Words
-asked_by verb items = if allows (takes verb) items && one_keeper items then asked_for verb items else None
-
--- the words are `--help` alone
-abbrev pub is_help : List (List ℕ) → Bool
-is_help [] = false
-is_help (word ∷ []) = bytes_eq word (codes "--help")
-is_help (word ∷ (other ∷ words)) = false
-
--- a word that stands in place of a command
-unfoldable pub lone_of : List ℕ → Option Words
-lone_of word =
-    if bytes_eq word (codes "--help") then Some (asked.Help topics.Desk) else
-    (if bytes_eq word (codes "--version") then Some asked.Version else None)
-
--- what the words ask for, by the command that the first is, where it is one
-abbrev pub words_by : Option Verb → List ℕ → List (List ℕ) → Option Words
-words_by None word words = where_none (lone_of word) words
-words_by (Some verb) word words = if is_help words then Some (asked.Help (topics.Command verb)) else asked_by verb (items_of words)
+-- the words of the desk
+abbrev pub desk_words : Program Verb Words
+desk_words = record {
+  verb_of = verb_of;
+  takes = takes;
+  asked_for = asked_for;
+  help_on = λ verb. asked.Help (topics.Command verb);
+  help = asked.Help topics.Desk;
+  version = asked.Version;
+}
 
 -- what the words ask for
 unfoldable pub words_of : List (List ℕ) → Option Words
-words_of [] = None
-words_of (word ∷ words) = words_by (verb_of word) word words
+words_of words = words_in desk_words words

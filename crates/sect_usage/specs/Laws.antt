@@ -8,8 +8,10 @@ use Rattle.sect_usage.specs.declared.verb.Verb.TheVariants as verbs
 use Rattle.sect_usage.specs.declared.verb.Topic.TheVariants as topics
 use Rattle.sect_usage.specs.declared.words.Words.{Words}
 use Rattle.sect_usage.specs.declared.words.Words.TheVariants as asked
-use Rattle.sect_usage.specs.Grammar.{allows, asked_by, takes, words_of}
+use Rattle.sect_usage.specs.Grammar.{desk_words, takes, words_of}
 use Rattle.sect_usage.specs.Items.{Item, equals_at, items_of, positionals, value_of}
+use Rattle.sect_usage.specs.Options.{allows}
+use Rattle.sect_usage.specs.Programs.{asked_by}
 
 -- nothing is asked for
 abbrev pub no_words : Option Words
@@ -46,7 +48,7 @@ OneItem =
 abbrev pub AnyOrder : Type 0
 AnyOrder =
     (verb : Verb) (a b : List Item) → allows (takes verb) a ≡ true → allows (takes verb) b ≡ true → positionals a ≡ positionals b
-    → ((name : List ℕ) → value_of name a ≡ value_of name b) → asked_by verb a ≡ asked_by verb b
+    → ((name : List ℕ) → value_of name a ≡ value_of name b) → asked_by desk_words verb a ≡ asked_by desk_words verb b
 
 -- the number is from the least to the most
 abbrev pub IsBetween : ℕ → ℕ → ℕ → Type 0

@@ -3,5 +3,7 @@ pub mod Help
 pub mod Items
 pub mod Laws
 pub mod Needs
+pub mod Options
+pub mod Programs
 pub mod Seen
 pub mod Spelling

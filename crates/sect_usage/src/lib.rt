@@ -8,6 +8,7 @@ mod needed;
 mod needing;
 mod number;
 mod options;
+mod program;
 mod verb;
 mod words;
 
@@ -16,6 +17,7 @@ pub use items::{next_positional, value as option_value};
 pub use needed::{Needs, Paths, WordFault};
 pub use needing::{needs, paths};
 pub use number::id;
-pub use options::{Options, alone, helps, is_keeper, only, takes_words};
+pub use options::{alone, is_keeper, only};
+pub use program::{Commands, read_program};
 pub use verb::{Topic, Verb};
 pub use words::{Words, read_words};

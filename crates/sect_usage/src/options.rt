@@ -1,22 +1,13 @@
 // What the words behind a command hold, whichever the command is. It takes no memory.
 
-ghost use Rattle.std.specs.Prelude.{◌≡◌, ◌&&◌, ℕ, Bool, List, Some, map, option_map};
+ghost use Rattle.std.specs.Prelude.{◌≡◌, ◌&&◌, Some, map, option_map};
 ghost use Rattle.std.specs.String.{string_bytes};
 ghost use Rattle.sect_usage.specs.Items.{items_of, positionals, value_of};
-ghost use Rattle.sect_usage.specs.Grammar.{allows, is_given, is_help, is_keeper as is_keeper_name, one_keeper, the_one, where_none};
+ghost use Rattle.sect_usage.specs.Options.{allows, is_given, is_help, is_keeper as is_keeper_name, one_keeper, the_one, where_none};
 
 use crate::items::{Item, next_item, next_positional, value};
+use crate::program::Commands;
 use sect_words::same_bytes;
-
-/// The options of a command.
-pub trait Options {
-    /// The command has the option of this name.
-    ghost known: { Self → List ℕ → Bool };
-
-    /// Whether the command has the option of this name.
-    fn has(&self, name: &[u8]) -> bool
-        ensures { result ≡ known self.now name.now };
-}
 
 /// Whether the option names a keeper.
 pub fn is_keeper(name: &[u8]) -> bool
@@ -26,7 +17,7 @@ pub fn is_keeper(name: &[u8]) -> bool
 }
 
 /// Whether the words are `--help` alone.
-pub fn helps(words: &[String]) -> bool
+pub(crate) fn helps(words: &[String]) -> bool
     ensures { result ≡ is_help (map string_bytes words.now) }
 {
     match words {
@@ -36,15 +27,15 @@ pub fn helps(words: &[String]) -> bool
 }
 
 /// Whether each word is an item, each option is one of the command that stands once, and not both keepers are named.
-pub fn takes_words<O: Options>(options: &O, words: &[String]) -> bool
-    ensures { result ≡ (allows (O.known options.now) (items_of (map string_bytes words.now)) && one_keeper (items_of (map string_bytes words.now))) }
+pub(crate) fn takes_words<V: Commands>(verb: V, words: &[String]) -> bool
+    ensures { result ≡ (allows (V.program.takes verb) (items_of (map string_bytes words.now)) && one_keeper (items_of (map string_bytes words.now))) }
 {
-    allowed(options, words) && one_keeper_named(words)
+    allowed(verb, words) && one_keeper_named(words)
 }
 
 /// Whether each word is an item, and each option is one of the command that stands once.
-fn allowed<O: Options>(options: &O, words: &[String]) -> bool
-    ensures { result ≡ allows (O.known options.now) (items_of (map string_bytes words.now)) }
+fn allowed<V: Commands>(verb: V, words: &[String]) -> bool
+    ensures { result ≡ allows (V.program.takes verb) (items_of (map string_bytes words.now)) }
 {
     let mut rest = words;
     while let Some((item, behind)) = next_item(rest) {
@@ -52,7 +43,7 @@ fn allowed<O: Options>(options: &O, words: &[String]) -> bool
             Item::Bad => return false,
             Item::Positional(_) => {}
             Item::Setting(name, _) => {
-                if !options.has(name) || given(name, behind) {
+                if !verb.takes(name) || given(name, behind) {
                     return false;
                 }
             }

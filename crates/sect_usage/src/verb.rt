@@ -3,7 +3,7 @@
 ghost use Rattle.std.specs.Prelude.{◌≡◌};
 ghost use Rattle.sect_usage.specs.Grammar.{is_of_serve as is_serve_name, takes as takes_name, verb_of};
 
-use crate::options::{Options, is_keeper};
+use crate::options::is_keeper;
 use sect_words::same_bytes;
 
 /// A command.
@@ -56,17 +56,9 @@ pub(crate) fn read_verb(word: &[u8]) -> Option<Verb>
     }
 }
 
-impl Options for Verb {
-    ghost known = { takes_name };
-
-    fn has(&self, name: &[u8]) -> bool {
-        takes(*self, name)
-    }
-}
-
 /// Whether the command has the option.
 #[tactic(auto, unfolding(crate::specs::Grammar::takes))]
-fn takes(verb: Verb, name: &[u8]) -> bool
+pub(crate) fn takes(verb: Verb, name: &[u8]) -> bool
     ensures { result ≡ takes_name verb name.now }
 {
     match verb {

@@ -3,11 +3,11 @@
 ghost use Rattle.std.specs.Prelude.{◌≡◌, Some, map, option_map};
 ghost use Rattle.std.specs.String.{string_bytes};
 ghost use Rattle.sect_usage.specs.Items.{items_of, positionals, value_of};
+ghost use Rattle.sect_usage.specs.Options.{where_none};
 ghost use Rattle.sect_usage.specs.Grammar.{
-  asked_by,
   asked_for,
+  desk_words,
   import_of,
-  lone_of,
   make_of,
   plan_of,
   query_by,
@@ -15,14 +15,14 @@ ghost use Rattle.sect_usage.specs.Grammar.{
   serve_of,
   table_of,
   term_of,
-  where_none,
   words_of,
 };
 
 use crate::items::{next_positional, value};
 use crate::number::{between, day, id, number, usual};
-use crate::options::{alone, helps, only, takes_words};
-use crate::verb::{Topic, Verb, read_verb};
+use crate::options::{alone, only};
+use crate::program::{Commands, read_program};
+use crate::verb::{Topic, Verb, read_verb, takes};
 use sect_base::{Budget, OfferingId, SectionId, StudentId};
 use sect_command::{Query, Table};
 use sect_time::Day;
@@ -66,40 +66,36 @@ pub enum Words {
 pub fn read_words(words: &[String]) -> Option<Words>
     ensures { result ≡ words_of (map string_bytes words.now) }
 {
-    match words {
-        [] => None,
-        [word, others @ ..] => match read_verb(word.as_bytes()) {
-            Some(verb) if helps(others) => Some(Words::Help(Topic::Command(verb))),
-            Some(verb) => asked(verb, others),
-            None if others.is_empty() => read_lone(word.as_bytes()),
-            None => None,
-        },
-    }
+    read_program::<Verb>(words)
 }
 
-/// What a word in place of a command asks for.
-#[tactic(auto, unfolding(crate::specs::Grammar::lone_of))]
-fn read_lone(word: &[u8]) -> Option<Words>
-    ensures { result ≡ lone_of word.now }
-{
-    if same_bytes(word, b"--help") {
-        Some(Words::Help(Topic::Desk))
-    } else if same_bytes(word, b"--version") {
-        Some(Words::Version)
-    } else {
-        None
-    }
-}
+impl Commands for Verb {
+    type Asked = Words;
 
-/// What a command with these words behind it asks for.
-#[tactic(auto, unfolding(crate::specs::Grammar::asked_by))]
-fn asked(verb: Verb, words: &[String]) -> Option<Words>
-    ensures { result ≡ asked_by verb (items_of (map string_bytes words.now)) }
-{
-    if takes_words(&verb, words) {
-        asked_of(verb, words)
-    } else {
-        None
+    ghost program = { desk_words };
+
+    fn named(word: &[u8]) -> Option<Verb> {
+        read_verb(word)
+    }
+
+    fn takes(self, name: &[u8]) -> bool {
+        takes(self, name)
+    }
+
+    fn asked(self, words: &[String]) -> Option<Words> {
+        asked_of(self, words)
+    }
+
+    fn help_on(self) -> Words {
+        Words::Help(Topic::Command(self))
+    }
+
+    fn help() -> Words {
+        Words::Help(Topic::Desk)
+    }
+
+    fn version() -> Words {
+        Words::Version
     }
 }
 

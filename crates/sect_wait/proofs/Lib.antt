@@ -1,14 +1,17 @@
+pub mod CountLemmas
 pub mod FreedLemmas
 pub mod IndexLemmas
 pub mod MarkLemmas
 pub mod NeedLemmas
 pub mod NextLemmas
 pub mod NoteLemmas
+pub mod OnlyLemmas
 pub mod OpenedLemmas
 pub mod PlacingLemmas
 pub mod QueueLemmas
 pub mod SettlingLemmas
 pub mod SoughtLemmas
 pub mod ToldLemmas
+pub mod TouchedLemmas
 pub mod TriedLemmas
 pub mod UndoLemmas

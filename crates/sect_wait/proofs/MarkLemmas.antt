@@ -52,7 +52,7 @@ among-append (d ∷ es) f e (inr h) = by_rest (among-append es f e h)
     by_rest (inl i) = inl (inr i)
     by_rest (inr i) = inr i
 
-among-get : (es : List Waiting) (i : ℕ) (d : Waiting) → i < length es → Among es (get_or es i d)
+pub among-get : (es : List Waiting) (i : ℕ) (d : Waiting) → i < length es → Among es (get_or es i d)
 among-get [] i d h = absurd (omega (arith, h))
 among-get (e ∷ es) zero d h = inl refl
 among-get (e ∷ es) (suc i) d h = inr (among-get es i d (omega (arith, h)))
@@ -175,7 +175,7 @@ same-keeps before after is t h = ap (has_ticket t) (sym is) ∙ h
 -- ---- changes
 
 -- a want touches a course where it lists a course of its offering
-touches-row : (w : World) (want : Want) (course : CourseId) (o : Option OfferingRow) → KeptWorld w → offering_of w course ≡ o
+pub touches-row : (w : World) (want : Want) (course : CourseId) (o : Option OfferingRow) → KeptWorld w → offering_of w course ≡ o
     → touches w want course ≡ option_map_or (λ o. list_any (has_course o) want.courses) o false
 touches-row w want course (Some o) k its = touches-listed w want course o k its
 touches-row w want course None k its =

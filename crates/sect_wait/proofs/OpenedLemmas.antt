@@ -171,11 +171,15 @@ module _ (w : World) (k : KeptWorld w) (student : StudentId) (course : CourseId)
     };
   }
 
+  -- the courses of the offering opened
+  pub courses-are : o.courses.items ≡ courses_with w course
+  courses-are = notes.courses ∙ ap (courses_with w) (same-course x.choice.course course (eqb-true x.choice.course.0 course.0 (both-right (x.student.0 == student.0) _ its-own.1)))
+
   -- whom the student's marks leave out, and who wants nothing of the offering
   unwanted : (e : Waiting) → student.0 == e.student.0 ≡ false → wants_one o.courses.items e ≡ false → concerns (Some student) (offering_of w course) e ≡ false
   unwanted e unlike none =
       neither (student.0 == e.student.0) _ unlike
-      (by_row (offering_of w course) (ap (λ cs. wants_one cs e) (sym (notes.courses ∙ ap (courses_with w) (same-course x.choice.course course (eqb-true x.choice.course.0 course.0 (both-right (x.student.0 == student.0) _ its-own.1))))) ∙ none))
+      (by_row (offering_of w course) (ap (λ cs. wants_one cs e) (sym courses-are) ∙ none))
     where
       by_row : (row : Option OfferingRow) → wants_one (option_map_or (λ r. map (λ c. c.id) r.courses) row []) e ≡ false → option_map_or (λ r. list_any (has_course r) e.want.courses) row false ≡ false
       by_row None h = refl

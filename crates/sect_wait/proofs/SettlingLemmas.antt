@@ -1,7 +1,7 @@
 -- How far settling has come: what is placed so far, and what is left to settle.
-use Rattle.std.specs.Prelude.{◌≡◌, ℕ, ◌+◌, ◌*◌, ◌<◌, ◌≤◌, IsTrue, List, [], ◌∷◌, ◌++◌, length, Option, Some, None, Result, Ok, Err, IfOk, OnOk, OnErr, refl}
+use Rattle.std.specs.Prelude.{◌≡◌, ◌<◌, IsTrue, List, [], ◌∷◌, ◌++◌, length, Option, Some, None, Result, Ok, Err, IfOk, OnOk, OnErr, refl}
 use Rattle.std.specs.List.{list_all}
-use Rattle.std.proofs.Common.{sym, ◌∙◌, ap, subst, arith, length-append, append_assoc}
+use Rattle.std.proofs.Common.{sym, ◌∙◌, ap, subst, append_assoc}
 use Rattle.std.proofs.lemmas.List.{append-nil}
 use Rattle.sect_model.specs.declared.held.Waiting.{Waiting}
 use Rattle.sect_model.specs.declared.held.Placed.{Placed}
@@ -16,12 +16,10 @@ use Rattle.sect_wait.specs.Queued.{Queued, IsQueue, state_of, left}
 use Rattle.sect_wait.specs.Placing.{IsBest, moved, placed_of}
 use Rattle.sect_wait.proofs.PlacingLemmas.{placed-state, placed-one, best-member}
 
--- from a world and queue, after so many steps, to a world and queue: these are placed, and settling what is left goes on
-pub record Settling (w_old : World) (q_old : Queued) (n_old : ℕ) (w : World) (q : Queued) (placed : List Placed) (n : ℕ) : Type 0 where
+-- from a world and queue to a world and queue: these are placed, and settling what is left goes on
+pub record Settling (w_old : World) (q_old : Queued) (w : World) (q : Queued) (placed : List Placed) : Type 0 where
   pub settles : settle (state_of w_old q_old) ≡ with_placed placed (settle (state_of w q))
   pub kept : KeptState (state_of w q)
-  pub fewer : length q.entries ≤ length q_old.entries
-  pub counted : n ≤ n_old + length placed * length q_old.entries
 
 with-none : (r : Settled) → with_placed [] r ≡ r
 with-none r = refl
@@ -29,15 +27,10 @@ with-none r = refl
 with-more : (xs ys : List Placed) (r : Settled) → with_placed xs (with_placed ys r) ≡ with_placed (xs ++ ys) r
 with-more xs ys r = λ i. record { state = r.state; placed = sym (append_assoc xs ys r.placed) i }
 
-one_more : (n_old n m k most few : ℕ) → n ≤ n_old + k * most → few ≤ most → m ≤ n + few → m ≤ n_old + (k + 1) * most
-one_more n_old n m k most few h i j = grind (arith, h, i, j)
-
-pub settling-none : (w : World) (q : Queued) (n : ℕ) (placed : List Placed) → KeptWorld w → IsQueue q → IsTrue (list_all (entry_fits w) q.entries) → placed ≡ [] → Settling w q n w q placed n
-settling-none w q n placed k is_queue fit none = record {
+pub settling-none : (w : World) (q : Queued) (placed : List Placed) → KeptWorld w → IsQueue q → IsTrue (list_all (entry_fits w) q.entries) → placed ≡ [] → Settling w q w q placed
+settling-none w q placed k is_queue fit none = record {
   settles = ap (λ ps. with_placed ps (settle (state_of w q))) (sym none);
   kept = record { world = k; in_order = is_queue.in_order; entries_fit = fit };
-  fewer = omega arith;
-  counted = omega arith;
 }
 
 module _ (w : World) (q : Queued) (c : Candidate) (k : KeptState (state_of w q)) (best : IsBest w q.entries (Some c)) where
@@ -54,28 +47,20 @@ module _ (w : World) (q : Queued) (c : Candidate) (k : KeptState (state_of w q))
   next-settles = settle-unfolds (state_of w q) best.0 best.1 ∙ (λ i. with_placed (placed-one w best.0 c best.2 i) (settle (next_state i)))
 
 -- a placement more
-pub settling-more : (w_old : World) (q_old : Queued) (n_old : ℕ) (w : World) (q : Queued) (placed : List Placed) (n : ℕ) (c : Candidate) (v : World) (p : Queued) (now : List Placed) (m : ℕ)
-    → Settling w_old q_old n_old w q placed n → IsBest w q.entries (Some c) → v ≡ moved w c → p ≡ left q c.ticket → now ≡ placed ++ placed_of c ∷ [] → m ≤ n + length q.entries
-    → Settling w_old q_old n_old v p now m
-settling-more w_old q_old n_old w q placed n c v p now m s best world queue more steps =
-    subst (λ xs. Settling w_old q_old n_old v p xs m) (sym more) (subst (λ u. Settling w_old q_old n_old u p (placed ++ placed_of c ∷ []) m) (sym world)
-    (subst (λ r. Settling w_old q_old n_old (moved w c) r (placed ++ placed_of c ∷ []) m) (sym queue) (record {
+pub settling-more : (w_old : World) (q_old : Queued) (w : World) (q : Queued) (placed : List Placed) (c : Candidate) (v : World) (p : Queued) (now : List Placed)
+    → Settling w_old q_old w q placed → IsBest w q.entries (Some c) → v ≡ moved w c → p ≡ left q c.ticket → now ≡ placed ++ placed_of c ∷ [] → Settling w_old q_old v p now
+settling-more w_old q_old w q placed c v p now s best world queue more =
+    subst (λ xs. Settling w_old q_old v p xs) (sym more) (subst (λ u. Settling w_old q_old u p (placed ++ placed_of c ∷ [])) (sym world)
+    (subst (λ r. Settling w_old q_old (moved w c) r (placed ++ placed_of c ∷ [])) (sym queue) (record {
       settles = s.settles ∙ ap (with_placed placed) (next-settles w q c s.kept best) ∙ with-more placed (placed_of c ∷ []) (settle (state_of (moved w c) (left q c.ticket)));
       kept = next-kept w q c s.kept best;
-      fewer = below (length (left q c.ticket).entries) (length q.entries) (length q_old.entries) (shorter w q c s.kept best) s.fewer;
-      counted = subst (λ k. m ≤ n_old + k * length q_old.entries) (sym (length-append placed (placed_of c ∷ []))) (one_more n_old n m (length placed) (length q_old.entries) (length q.entries) s.counted s.fewer steps);
     })))
-  where
-    below : (a b d : ℕ) → a < b → b ≤ d → a ≤ d
-    below a b d h i = omega (arith, h, i)
 
 -- no entry is left that can be placed
-module _ (w_old : World) (q_old : Queued) (n_old : ℕ) (w : World) (q : Queued) (placed : List Placed) (n m : ℕ) (s : Settling w_old q_old n_old w q placed n) (best : IsBest w q.entries None) where
-  pub settling-done : settle (state_of w_old q_old) ≡ record { state = state_of w q; placed = placed }
-  settling-done = s.settles ∙ ap (with_placed placed) (settled-stays (state_of w q) (next_entry-none (state_of w q) best)) ∙ (λ i. record { state = state_of w q; placed = append-nil placed i })
-
-  pub settling-counted : m ≤ n + length q.entries → m ≤ n_old + (length placed + 1) * length q_old.entries
-  settling-counted steps = one_more n_old n m (length placed) (length q_old.entries) (length q.entries) s.counted s.fewer steps
+pub settling-done : (w_old : World) (q_old : Queued) (w : World) (q : Queued) (placed : List Placed) → Settling w_old q_old w q placed → IsBest w q.entries None
+    → settle (state_of w_old q_old) ≡ record { state = state_of w q; placed = placed }
+settling-done w_old q_old w q placed s best =
+    s.settles ∙ ap (with_placed placed) (settled-stays (state_of w q) (next_entry-none (state_of w q) best)) ∙ (λ i. record { state = state_of w q; placed = append-nil placed i })
 
 -- what a round found
 pub best-of : (w : World) (es : List Waiting) (o p : Option Candidate) → o ≡ p → IsBest w es o → IsBest w es p

@@ -56,6 +56,14 @@ module _ (w : World) (es : List Waiting) (ticket : ℕ) (spent : List ℕ) where
       by_place f a (inr same) =
           absurd (not_both (is_some (find (λ e. e.ticket == ticket) es)) (find-some (λ (e : Waiting). e.ticket == ticket) es f (member es f a) (eq-eqb f.ticket ticket same)) (ap is_some (sym none)))
 
+  -- the ticket was tried already
+  pub tried-again : (before : List ℕ) (best : Option Candidate) (m : Left) → has_ticket ticket before ≡ true → Tried w es before best spent m → Tried w es (before ++ ticket ∷ []) best spent m
+  tried-again before best m has t = record { tried = t.tried; within = t.within; all = λ f a has. by_place f a (one-of before f has); first = t.first; others = t.others }
+    where
+      by_place : (f : Waiting) → Among es f → (has_ticket f.ticket before ≡ true) ⊎ (f.ticket ≡ ticket) → Among t.tried f
+      by_place f a (inl h) = t.all f a h
+      by_place f a (inr same) = t.all f a (ap (λ n. has_ticket n before) same ∙ has)
+
   -- the entry of the ticket was tried
   pub tried-more : (next : ℕ) (e : Waiting) (best new : Option Candidate) (m n : Left) → tickets_rise es next ≡ true → Some e ≡ find (λ e. e.ticket == ticket) es
       → ((before : List Waiting) → IsBest w before best → IsBest w (before ++ e ∷ []) new) → ((before : List Waiting) → OthersTried w before best spent m → OthersTried w (before ++ e ∷ []) new spent n)

@@ -3,4 +3,5 @@ pub mod Marked
 pub mod Opened
 pub mod Placing
 pub mod Queued
+pub mod Touched
 pub mod Undo

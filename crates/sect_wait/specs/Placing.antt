@@ -10,12 +10,14 @@ use Rattle.sect_model.specs.World.{World, enrol, leave_all, holds}
 use Rattle.sect_model.specs.Settle.{first_entry, is_placeable, placement_of}
 use Rattle.sect_model.specs.Freer.{Among}
 use Rattle.sect_wait.specs.declared.next.Candidate.{Candidate}
+use Rattle.std.specs.BTreeSet.{BTreeSet}
 use Rattle.sect_wait.specs.Indexed.{has_ticket}
 use Rattle.sect_wait.specs.declared.entry.Left.{Left}
 use Rattle.sect_wait.specs.declared.marks.Turn.{Turn}
 use Rattle.sect_wait.specs.declared.opened.Opened.{Opened}
 use Rattle.sect_wait.specs.Marked.{Marked, Needless, OthersNeedNoSearch, is_noted, no_marks}
 use Rattle.sect_wait.specs.Opened.{OthersBut}
+use Rattle.sect_wait.specs.Touched.{AreOnList}
 
 -- the candidate of an entry that a choice places
 abbrev pub candidate_of : Waiting → Choice → Candidate
@@ -70,10 +72,10 @@ pub record Tried (w : World) (es : List Waiting) (tickets : List ℕ) (best : Op
   pub first : IsBest w tried best
   pub others : OthersTried w tried best spent left
 
--- those of one ticket more were tried
-abbrev pub TriesMore : World → List Waiting → ℕ → List ℕ → Option Candidate → Left → Option Candidate → Left → Type 0
-TriesMore w es ticket spent best left best_now left_now =
-    (before : List ℕ) → Tried w es before best spent left → Tried w es (before ++ ticket ∷ []) best_now spent left_now
+-- those of one ticket more were tried, where the tickets in the set were
+abbrev pub TriesMore : World → List Waiting → ℕ → BTreeSet ℕ → List ℕ → Option Candidate → Left → Option Candidate → Left → Type 0
+TriesMore w es ticket set spent best left best_now left_now =
+    (before : List ℕ) → AreOnList set before → Tried w es before best spent left → Tried w es (before ++ ticket ∷ []) best_now spent left_now
 
 -- what holds of the others once the best was found: where there is none, all were tried
 abbrev pub OthersAfter : World → List Waiting → Option Candidate → Marked → Opened → Type 0

@@ -6,10 +6,11 @@ ghost use Rattle.sect_model.specs.World.{holds as is_held};
 ghost use Rattle.sect_model.specs.Kept.{entry_fits};
 ghost use Rattle.sect_model.specs.Settle.{move_of as move_of_entry, placement_of};
 ghost use Rattle.sect_wait.specs.Placing.{KeepsLeft, RestNeedNone};
+ghost use Rattle.sect_wait.specs.Touched.{AddsOnly};
 
-use sect_base::{Budget, Choice, CourseId, Duplicate, Items, Memory, Move, StudentId};
+use sect_base::{Choice, CourseId, Duplicate, Items, Memory, Move, StudentId};
 use sect_model::{Outcome, Waiting};
-use sect_search::search;
+use sect_search::{search, usual_budget};
 use sect_space::World;
 use sect_steps::Steps;
 use std::alloc::Global;
@@ -48,11 +49,12 @@ pub fn placement<L: Ledger>(
     ensures choice { IfOk result (λ found. option_map (λ c. c ∷ []) found ≡ placement_of world.now.world entry.now) }
     ensures kept { KeepsLeft left.old left.new }
     ensures others { OnOk result (RestNeedNone world.now.world (entry.now ∷ []) left.new) }
+    ensures again { OnOk result (AddsOnly entry.now.ticket left.old.again.items left.new.again.items) }
     ensures steps { steps.new ≤ steps.old + 1 }
 {
     world.is_kept();
     let mv = move_of(alloc, world, entry)?;
-    match search(alloc, world, &mv, budget(), steps)? {
+    match search(alloc, world, &mv, usual_budget(), steps)? {
         Outcome::Found(choices, _) => {
             left.again.push(entry.ticket)?;
             Ok(choices.as_slice().first().copied())
@@ -94,14 +96,4 @@ fn given(
         }
     }
     Ok(Items::from_vec(courses))
-}
-
-/// The budget of a search for a waiting entry.
-fn budget() -> Budget
-    ensures { result ≡ 2000 }
-{
-    match Budget::new(2_000) {
-        Some(budget) => budget,
-        None => unreachable!(),
-    }
 }

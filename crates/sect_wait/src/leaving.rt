@@ -1,12 +1,13 @@
 // A student leaves a course: what that opens is noted, or marked.
 
-ghost use Rattle.std.specs.Prelude.{◌≡◌, ◌==◌, find, option_copied, IfOk, IsTrue, OnOk};
+ghost use Rattle.std.specs.Prelude.{◌≡◌, ◌==◌, [], find, option_copied, IfOk, IsTrue, OnOk};
 ghost use Rattle.std.specs.List.{list_all};
 ghost use Rattle.sect_model.specs.World.{holds as is_held, leave};
 ghost use Rattle.sect_model.specs.Kept.{entry_fits};
 ghost use Rattle.sect_space.specs.Undo.{Since, Undoable};
 ghost use Rattle.sect_wait.specs.Marked.{OthersNeedNoSearch};
 ghost use Rattle.sect_wait.specs.Opened.{NotesAll, OthersBut};
+ghost use Rattle.sect_wait.specs.Touched.{SeeksOnly, is_concerned};
 
 use crate::marking::{mark_leaving, mark_noted, mark_student, offering_of};
 use crate::marks::Marks;
@@ -38,6 +39,8 @@ pub fn leave_course(
     requires undoable { Undoable world.old undo.old.backs }
     ensures ok { OnOk result (world.new.world ≡ leave world.old.world student course) }
     ensures others { IfOk result (λ opened. OthersBut world.new.world queue.now.queue.entries marks.new opened) }
+    ensures only { IfOk result (λ opened. SeeksOnly (is_concerned world.old.world student course) queue.now.queue.entries
+        marks.old [] marks.new opened.courses.items) }
     ensures since { Since world.old.world undo.old.backs world.new.world undo.new.backs }
     ensures undoable { Undoable world.new undo.new.backs }
 {
@@ -83,6 +86,8 @@ fn leave_noted(
     requires undoable { Undoable world.old undo.old.backs }
     ensures ok { OnOk result (world.new.world ≡ leave world.old.world student course) }
     ensures others { IfOk result (λ opened. OthersBut world.new.world queue.now.queue.entries marks.new opened) }
+    ensures only { IfOk result (λ opened. SeeksOnly (is_concerned world.old.world student course) queue.now.queue.entries
+        marks.old [] marks.new opened.courses.items) }
     ensures since { Since world.old.world undo.old.backs world.new.world undo.new.backs }
     ensures undoable { Undoable world.new undo.new.backs }
 {

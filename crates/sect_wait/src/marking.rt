@@ -1,6 +1,6 @@
 // Which entries a change marks: those that it may give a move.
 
-ghost use Rattle.std.specs.Prelude.{◌≡◌, ◌==◌, [], ◌∷◌, List, cond, None as Nobody, Some as Told, OnErr, OnOk, option_copied};
+ghost use Rattle.std.specs.Prelude.{◌≡◌, ◌==◌, ◌&&◌, [], ◌∷◌, List, cond, None as Nobody, Some as Told, OnErr, OnOk, option_copied};
 ghost use Rattle.std.specs.List.{list_all, list_any};
 ghost use Rattle.std.specs.Option.{is_some};
 ghost use Rattle.sect_catalog.specs.Catalogue.{has_course as has_course_in, places as places_of};
@@ -10,7 +10,8 @@ ghost use Rattle.sect_model.specs.World.{offering_of as row_of};
 ghost use Rattle.sect_model.specs.Freer.{Among, frees_some, lists_only as is_listing_only, may_open};
 ghost use Rattle.sect_model.specs.declared.change.Change.TheVariants.{Enrol, Leave};
 ghost use Rattle.sect_wait.specs.Marked.{MarksMore, NotesMore, concerns as is_concerned, is_noted, is_noted_in, may_need, wants_some};
-ghost use Rattle.sect_wait.specs.Indexed.{MarksTold};
+ghost use Rattle.sect_wait.specs.Indexed.{MarksTold, has_ticket};
+ghost use Rattle.sect_wait.specs.Touched.{MarksOnly, is_concerned as is_concerned_in};
 
 use crate::marks::Marks;
 use crate::queue::Queue;
@@ -29,7 +30,9 @@ pub fn mark_enrolment(
     enrolment: &Enrolment,
     marks: &mut Marks,
 ) -> Result<(), Memory>
-    ensures { OnOk result (MarksMore (λ e. may_need world.now.world (is_noted marks.old.spent e) e (Enrol enrolment.now))
+    ensures more { OnOk result (MarksMore (λ e. may_need world.now.world (is_noted marks.old.spent e) e (Enrol enrolment.now))
+        queue.now.queue.entries marks.old marks.new) }
+    ensures only { OnOk result (MarksOnly (is_concerned_in world.now.world enrolment.now.student enrolment.now.choice.course)
         queue.now.queue.entries marks.old marks.new) }
 {
     world.is_kept();
@@ -47,7 +50,8 @@ pub fn mark_leaving(
     course: CourseId,
     marks: &mut Marks,
 ) -> Result<(), Memory>
-    ensures { OnOk result (MarksMore (λ e. may_open world.now.world e (Leave student course)) queue.now.queue.entries marks.old marks.new) }
+    ensures more { OnOk result (MarksMore (λ e. may_open world.now.world e (Leave student course)) queue.now.queue.entries marks.old marks.new) }
+    ensures only { OnOk result (MarksOnly (is_concerned_in world.now.world student course) queue.now.queue.entries marks.old marks.new) }
 {
     world.is_kept();
     let row = offering_of(world, course);
@@ -62,7 +66,8 @@ pub fn mark(
     row: Option<&OfferingRow>,
     marks: &mut Marks,
 ) -> Result<(), Memory>
-    ensures { OnOk result (MarksMore (is_concerned student (option_copied row.entry)) queue.now.queue.entries marks.old marks.new) }
+    ensures more { OnOk result (MarksMore (is_concerned student (option_copied row.entry)) queue.now.queue.entries marks.old marks.new) }
+    ensures only { OnOk result (MarksOnly (is_concerned student (option_copied row.entry)) queue.now.queue.entries marks.old marks.new) }
 {
     mark_student(queue, student, marks)?;
     mark_row(row, marks)
@@ -74,17 +79,99 @@ pub(crate) fn mark_student(
     student: Option<StudentId>,
     marks: &mut Marks,
 ) -> Result<(), Memory>
-    ensures { OnOk result (MarksMore (is_concerned student Nobody) queue.now.queue.entries marks.old marks.new) }
+    ensures more { OnOk result (MarksMore (is_concerned student Nobody) queue.now.queue.entries marks.old marks.new) }
+    ensures only { OnOk result (MarksOnly (is_concerned student Nobody) queue.now.queue.entries marks.old marks.new) }
 {
     match student {
-        Some(student) => mark_tickets(queue.of_student(student), marks),
+        Some(student) => mark_own(queue, student, marks),
         None => Ok(()),
     }
 }
 
+/// Marks the entries of the student: the index tells where to look, or else all are looked at.
+fn mark_own(queue: &Queue, student: StudentId, marks: &mut Marks) -> Result<(), Memory>
+    ensures more { OnOk result (MarksMore (λ e. student.0 == e.student.0) queue.now.queue.entries marks.old marks.new) }
+    ensures only { OnOk result (MarksOnly (λ e. student.0 == e.student.0) queue.now.queue.entries marks.old marks.new) }
+{
+    match queue.of_student(student) {
+        Some(tickets) => mark_own_of(queue, student, tickets, marks),
+        None => mark_own_among(queue, student, queue.entries(), marks),
+    }
+}
+
+/// Marks those of the tickets whose entries are the student's.
+fn mark_own_of(
+    queue: &Queue,
+    student: StudentId,
+    tickets: &[u64],
+    marks: &mut Marks,
+) -> Result<(), Memory>
+    ensures more { OnOk result (MarksMore (λ e. list_any (λ t. t == e.ticket && student.0 == e.student.0) tickets.now)
+        queue.now.queue.entries marks.old marks.new) }
+    ensures only { OnOk result (MarksOnly (λ e. student.0 == e.student.0) queue.now.queue.entries marks.old marks.new) }
+{
+    for ticket in tickets {
+        mark_if_own(queue, student, *ticket, marks)?;
+    }
+    Ok(())
+}
+
+/// Marks those of the entries that are the student's.
+fn mark_own_among(
+    queue: &Queue,
+    student: StudentId,
+    entries: &[Waiting],
+    marks: &mut Marks,
+) -> Result<(), Memory>
+    ensures more { OnOk result (MarksMore (λ e. list_any (λ d. d.ticket == e.ticket && student.0 == e.student.0) entries.now)
+        queue.now.queue.entries marks.old marks.new) }
+    ensures only { OnOk result (MarksOnly (λ e. student.0 == e.student.0) queue.now.queue.entries marks.old marks.new) }
+{
+    for entry in entries {
+        mark_if_own(queue, student, entry.ticket, marks)?;
+    }
+    Ok(())
+}
+
+/// Marks the ticket where its entry is the student's.
+fn mark_if_own(
+    queue: &Queue,
+    student: StudentId,
+    ticket: u64,
+    marks: &mut Marks,
+) -> Result<(), Memory>
+    ensures more { OnOk result (MarksMore (λ e. ticket == e.ticket && student.0 == e.student.0) queue.now.queue.entries marks.old marks.new) }
+    ensures only { OnOk result (MarksOnly (λ e. student.0 == e.student.0) queue.now.queue.entries marks.old marks.new) }
+{
+    if is_own(queue, student, ticket) {
+        mark_ticket(ticket, marks)
+    } else {
+        Ok(())
+    }
+}
+
+/// Whether the entry of the ticket is the student's.
+fn is_own(queue: &Queue, student: StudentId, ticket: u64) -> bool
+    ensures { (e : Entry) → Among queue.now.queue.entries e → e.ticket ≡ ticket → result ≡ (student.0 == e.student.0) }
+{
+    queue.is_kept();
+    match queue.entry(ticket) {
+        Some(entry) => is_of(entry, student),
+        None => false,
+    }
+}
+
+/// Whether the entry is the student's.
+fn is_of(entry: &Waiting, student: StudentId) -> bool
+    ensures { result ≡ (student.0 == entry.now.student.0) }
+{
+    student == entry.student
+}
+
 /// Marks the entries that want a course of the offering.
 fn mark_row(row: Option<&OfferingRow>, marks: &mut Marks) -> Result<(), Memory>
-    ensures { OnOk result ((entries : List Entry) → MarksMore (is_concerned Nobody (option_copied row.entry)) entries marks.old marks.new) }
+    ensures more { OnOk result ((entries : List Entry) → MarksMore (is_concerned Nobody (option_copied row.entry)) entries marks.old marks.new) }
+    ensures only { OnOk result ((entries : List Entry) → MarksOnly (is_concerned Nobody (option_copied row.entry)) entries marks.old marks.new) }
 {
     match row {
         Some(row) => mark_courses(row.courses.as_slice(), marks),
@@ -94,7 +181,8 @@ fn mark_row(row: Option<&OfferingRow>, marks: &mut Marks) -> Result<(), Memory>
 
 /// Marks the entries that want one of the courses, by the courses.
 fn mark_courses(courses: &[CourseRow], marks: &mut Marks) -> Result<(), Memory>
-    ensures { OnOk result ((entries : List Entry) → MarksMore (wants_some courses.now) entries marks.old marks.new) }
+    ensures more { OnOk result ((entries : List Entry) → MarksMore (wants_some courses.now) entries marks.old marks.new) }
+    ensures only { OnOk result ((entries : List Entry) → MarksOnly (wants_some courses.now) entries marks.old marks.new) }
 {
     for course in courses {
         marks.mark_course(course.id)?;
@@ -105,7 +193,8 @@ fn mark_courses(courses: &[CourseRow], marks: &mut Marks) -> Result<(), Memory>
 /// Marks the entries that are noted as spent and want a course of the offering. Where memory runs out, some of them are
 /// marked.
 pub fn mark_noted(queue: &Queue, row: Option<&OfferingRow>, marks: &mut Marks) -> Result<(), Memory>
-    ensures { OnOk result (MarksMore (is_noted_in marks.old.spent (option_copied row.entry)) queue.now.queue.entries marks.old marks.new) }
+    ensures more { OnOk result (MarksMore (is_noted_in marks.old.spent (option_copied row.entry)) queue.now.queue.entries marks.old marks.new) }
+    ensures only { OnOk result (MarksOnly (is_concerned Nobody (option_copied row.entry)) queue.now.queue.entries marks.old marks.new) }
 {
     match row {
         Some(row) => mark_noted_in(queue, row, marks),
@@ -115,7 +204,8 @@ pub fn mark_noted(queue: &Queue, row: Option<&OfferingRow>, marks: &mut Marks) -
 
 /// Marks the entries that are noted as spent and want a course of the offering.
 fn mark_noted_in(queue: &Queue, row: &OfferingRow, marks: &mut Marks) -> Result<(), Memory>
-    ensures { OnOk result (MarksMore (is_noted_in marks.old.spent (Told row.now)) queue.now.queue.entries marks.old marks.new) }
+    ensures more { OnOk result (MarksMore (is_noted_in marks.old.spent (Told row.now)) queue.now.queue.entries marks.old marks.new) }
+    ensures only { OnOk result (MarksOnly (is_concerned Nobody (Told row.now)) queue.now.queue.entries marks.old marks.new) }
 {
     for place in 0..marks.spent().len() {
         let ticket = marks.spent()[place];
@@ -164,22 +254,10 @@ pub(crate) fn note_each(tickets: &[u64], marks: &mut Marks) -> Result<(), Memory
     Ok(())
 }
 
-/// Marks the tickets, all where they aren't known.
-fn mark_tickets(tickets: Option<&[u64]>, marks: &mut Marks) -> Result<(), Memory>
-    ensures { OnOk result (MarksTold (option_copied tickets.entry) marks.old marks.new) }
-{
-    match tickets {
-        Some(tickets) => mark_each(tickets, marks),
-        None => {
-            marks.mark_all();
-            Ok(())
-        }
-    }
-}
-
 /// Marks the tickets. Where memory runs out, some of them are marked.
 pub(crate) fn mark_each(tickets: &[u64], marks: &mut Marks) -> Result<(), Memory>
-    ensures { OnOk result (MarksTold (Told tickets.now) marks.old marks.new) }
+    ensures told { OnOk result (MarksTold (Told tickets.now) marks.old marks.new) }
+    ensures only { OnOk result ((entries : List Entry) → MarksOnly (λ e. has_ticket e.ticket tickets.now) entries marks.old marks.new) }
 {
     for ticket in tickets {
         mark_ticket(*ticket, marks)?;
@@ -190,6 +268,7 @@ pub(crate) fn mark_each(tickets: &[u64], marks: &mut Marks) -> Result<(), Memory
 /// Marks the ticket where it isn't marked yet. Where memory runs out, the marks are as before.
 pub fn mark_ticket(ticket: u64, marks: &mut Marks) -> Result<(), Memory>
     ensures told { OnOk result (MarksTold (Told (ticket ∷ [])) marks.old marks.new) }
+    ensures only { OnOk result ((entries : List Entry) → MarksOnly (λ e. ticket == e.ticket) entries marks.old marks.new) }
     ensures err { OnErr result (marks.new ≡ marks.old) }
 {
     if !marks.has_ticket(ticket) {

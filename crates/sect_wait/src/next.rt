@@ -1,12 +1,13 @@
 // The entry to be placed next: of the smallest class among those that can be placed, and in it the smallest ticket.
 
-ghost use Rattle.std.specs.Prelude.{◌≡◌, ◌≤◌, ◌+◌, ◌++◌, [], ◌∷◌, List, length, IfOk, IsTrue};
+ghost use Rattle.std.specs.Prelude.{◌≡◌, ◌≤◌, ◌+◌, ◌++◌, [], ◌∷◌, false, cond, List, find, IfOk, OnOk, IsTrue, ◌==◌, Some as Told};
 ghost use Rattle.std.specs.List.{list_all};
 ghost use Rattle.std.specs.Option.{option_or};
 ghost use Rattle.sect_model.specs.declared.held.Waiting.{Waiting as Entry};
 ghost use Rattle.sect_model.specs.Kept.{entry_fits};
 ghost use Rattle.sect_wait.specs.Opened.{AreListed, OthersBut, UnsoughtNeedNone, is_sought};
 ghost use Rattle.sect_wait.specs.Placing.{IsBest, OthersAfter, OthersTried, TriesMore, candidate_of, is_before as comes_before, is_behind as is_best_before, marks_from, turn_of as turn_of_candidate};
+ghost use Rattle.sect_wait.specs.Touched.{ListsSought, PutsOnly, SeeksOnly, count_sought, count_tried};
 
 use crate::entry::{Left, placement};
 use crate::marking::{mark_each, note_each};
@@ -19,6 +20,7 @@ use sect_model::Waiting;
 use sect_space::World;
 use sect_steps::Steps;
 use std::alloc::Global;
+use std::collections::BTreeSet;
 use std::sync::ledger::Ledger;
 
 /// An entry that can be placed, and the choice that its search found.
@@ -46,8 +48,10 @@ pub fn next<L: Ledger>(
     requires others { OthersBut world.now.world queue.now.queue.entries marks.old opened.now }
     ensures best { IfOk result (λ best. IsBest world.now.world queue.now.queue.entries best) }
     ensures others { IfOk result (λ best. OthersAfter world.now.world queue.now.queue.entries best marks.new opened.now) }
-    ensures steps { steps.new ≤ steps.old + length queue.now.queue.entries }
+    ensures only { OnOk result (SeeksOnly (λ e. false) queue.now.queue.entries marks.old opened.now.courses.items marks.new opened.now.courses.items) }
+    ensures steps { OnOk result (steps.new ≤ steps.old + count_sought marks.old opened.now queue.now.queue.entries) }
 {
+    queue.is_kept();
     let mut left = Left::none(alloc);
     let best = first(alloc, world, queue, marks, opened, &mut left, steps)?;
     pass(alloc, &best, marks);
@@ -81,7 +85,8 @@ fn first<L: Ledger>(
     requires others { UnsoughtNeedNone world.now.world queue.now.queue.entries marks.now opened.now }
     ensures best { IfOk result (λ best. IsBest world.now.world queue.now.queue.entries best) }
     ensures others { IfOk result (λ best. OthersTried world.now.world queue.now.queue.entries best marks.now.spent left.new) }
-    ensures steps { steps.new ≤ steps.old + length queue.now.queue.entries }
+    ensures again { OnOk result (ListsSought marks.now opened.now queue.now.queue.entries left.old.again.items left.new.again.items) }
+    ensures steps { OnOk result (steps.new ≤ steps.old + count_sought marks.now opened.now queue.now.queue.entries) }
 {
     match sought(alloc, queue, marks, opened)? {
         Some(tickets) => best_of_sought(
@@ -114,13 +119,15 @@ fn best_of_sought<L: Ledger>(
     requires all { AreListed (is_sought marks.now opened.now) queue.now.queue.entries tickets.now }
     ensures best { IfOk result (λ best. IsBest world.now.world queue.now.queue.entries best) }
     ensures others { IfOk result (λ best. OthersTried world.now.world queue.now.queue.entries best marks.now.spent left.new) }
-    ensures steps { steps.new ≤ steps.old + length tickets.now }
+    ensures again { OnOk result (ListsSought marks.now opened.now queue.now.queue.entries left.old.again.items left.new.again.items) }
+    ensures steps { OnOk result (steps.new ≤ steps.old + count_sought marks.now opened.now queue.now.queue.entries) }
 {
     queue.is_kept();
     let mut best = None;
+    let mut tried = BTreeSet::new(alloc);
     for ticket in tickets {
         best = better_by(
-            alloc, world, &best, queue, *ticket, marks, opened, left, steps,
+            alloc, world, &best, queue, *ticket, &mut tried, marks, opened, left, steps,
         )?
         .or(best);
     }
@@ -128,13 +135,14 @@ fn best_of_sought<L: Ledger>(
 }
 
 /// The entry of a ticket with the choice that its search finds, where it comes before the best so far, and None where
-/// that stays, or no entry has the ticket.
+/// that stays, no entry has the ticket, or it was tried already.
 fn better_by<L: Ledger>(
     alloc: Global,
     world: &World,
     best: &Option<Candidate>,
     queue: &Queue,
     ticket: u64,
+    tried: &mut BTreeSet<u64>,
     marks: &Marks,
     opened: &Opened,
     left: &mut Left,
@@ -142,15 +150,59 @@ fn better_by<L: Ledger>(
 ) -> Result<Option<Candidate>, Memory>
     requires fit { IsTrue (list_all (entry_fits world.now.world) queue.now.queue.entries) }
     requires others { UnsoughtNeedNone world.now.world queue.now.queue.entries marks.now opened.now }
-    ensures tried { IfOk result (λ new. TriesMore world.now.world queue.now.queue.entries ticket marks.now.spent best.now left.old
+    ensures tried { IfOk result (λ new. TriesMore world.now.world queue.now.queue.entries ticket tried.old marks.now.spent best.now left.old
         (option_or new best.now) left.new) }
-    ensures steps { steps.new ≤ steps.old + 1 }
+    ensures puts { OnOk result (PutsOnly ticket tried.old tried.new) }
+    ensures again { OnOk result (ListsSought marks.now opened.now queue.now.queue.entries left.old.again.items left.new.again.items) }
+    ensures steps { OnOk result (steps.new + count_tried marks.now opened.now queue.now.queue.entries tried.old
+        ≤ steps.old + count_tried marks.now opened.now queue.now.queue.entries tried.new) }
 {
     queue.is_kept();
     match queue.entry(ticket) {
-        Some(entry) => better(alloc, world, best, entry, marks, opened, left, steps),
+        Some(entry) => {
+            if is_behind(best, entry) {
+                return Ok(None);
+            }
+            better_once(
+                alloc, world, best, queue, entry, ticket, tried, marks, opened, left, steps,
+            )
+        }
         None => Ok(None),
     }
+}
+
+/// The entry of the ticket with the choice that its search finds, where it comes before the best so far, and None where that
+/// stays, or the entry was tried already.
+fn better_once<L: Ledger>(
+    alloc: Global,
+    world: &World,
+    best: &Option<Candidate>,
+    queue: &Queue,
+    entry: &Waiting,
+    ticket: u64,
+    tried: &mut BTreeSet<u64>,
+    marks: &Marks,
+    opened: &Opened,
+    left: &mut Left,
+    steps: &mut Steps<L>,
+) -> Result<Option<Candidate>, Memory>
+    requires found { Told entry.now ≡ find (λ e. e.ticket == ticket) queue.now.queue.entries }
+    requires fits { IsTrue (entry_fits world.now.world entry.now) }
+    requires others { UnsoughtNeedNone world.now.world (entry.now ∷ []) marks.now opened.now }
+    ensures tried { IfOk result (λ new. TriesMore world.now.world queue.now.queue.entries ticket tried.old marks.now.spent best.now left.old
+        (option_or new best.now) left.new) }
+    ensures puts { OnOk result (PutsOnly ticket tried.old tried.new) }
+    ensures again { OnOk result (ListsSought marks.now opened.now queue.now.queue.entries left.old.again.items left.new.again.items) }
+    ensures steps { OnOk result (steps.new + count_tried marks.now opened.now queue.now.queue.entries tried.old
+        ≤ steps.old + count_tried marks.now opened.now queue.now.queue.entries tried.new) }
+{
+    queue.is_kept();
+    if tried.contains(&ticket) {
+        return Ok(None);
+    }
+    let new = better(alloc, world, best, entry, marks, opened, left, steps)?;
+    tried.insert(ticket)?;
+    Ok(new)
 }
 
 /// The first of the entries that can be placed, and which of them must be tried again.
@@ -167,7 +219,8 @@ fn best_of<L: Ledger>(
     requires others { UnsoughtNeedNone world.now.world entries.now marks.now opened.now }
     ensures best { IfOk result (λ best. IsBest world.now.world entries.now best) }
     ensures others { IfOk result (λ best. OthersTried world.now.world entries.now best marks.now.spent left.new) }
-    ensures steps { steps.new ≤ steps.old + length entries.now }
+    ensures again { OnOk result (ListsSought marks.now opened.now entries.now left.old.again.items left.new.again.items) }
+    ensures steps { OnOk result (steps.new ≤ steps.old + count_sought marks.now opened.now entries.now) }
 {
     let mut best = None;
     for entry in entries {
@@ -195,7 +248,8 @@ fn better<L: Ledger>(
         → IsBest world.now.world (before ++ entry.now ∷ []) (option_or new best.now)) }
     ensures others { IfOk result (λ new. (before : List Entry) → OthersTried world.now.world before best.now marks.now.spent left.old
         → OthersTried world.now.world (before ++ entry.now ∷ []) (option_or new best.now) marks.now.spent left.new) }
-    ensures steps { steps.new ≤ steps.old + 1 }
+    ensures again { OnOk result (ListsSought marks.now opened.now (entry.now ∷ []) left.old.again.items left.new.again.items) }
+    ensures steps { steps.new ≤ steps.old + cond (is_sought marks.now opened.now entry.now) 1 0 }
 {
     if is_behind(best, entry) {
         return Ok(None);

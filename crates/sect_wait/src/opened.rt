@@ -1,6 +1,6 @@
 // What a student's leaving a course opened: levels that were closed before, and a reservation that was used up.
 
-ghost use Rattle.std.specs.Prelude.{◌≡◌, ◌&&◌, not, true, [], List, OnOk};
+ghost use Rattle.std.specs.Prelude.{◌≡◌, ◌&&◌, not, true, false, [], List, OnOk};
 ghost use Rattle.std.specs.List.{list_all, list_any};
 ghost use Rattle.std.specs.Option.{is_some, option_map_or};
 ghost use Rattle.sect_model.specs.Space.{has_place as has_place_at, has_unreserved as has_unreserved_at};
@@ -9,6 +9,7 @@ ghost use Rattle.sect_model.specs.Freer.{has_room as has_room_in};
 ghost use Rattle.sect_model.specs.declared.held.Waiting.{Waiting as Entry};
 ghost use Rattle.sect_wait.specs.Marked.{MarksMore, wants_one as is_wanting};
 ghost use Rattle.sect_wait.specs.Opened.{OthersBut, gives_and_wants, is_closed_again as is_closed};
+ghost use Rattle.sect_wait.specs.Touched.{MarksOnly, SeeksOnly};
 
 use crate::marks::Marks;
 use crate::queue::Queue;
@@ -45,6 +46,7 @@ impl Opened {
 /// Marks those who want one of the courses, so that all of them are tried. Where memory runs out, some of them are marked.
 pub(crate) fn fall_back(opened: &mut Opened, marks: &mut Marks) -> Result<(), Memory>
     ensures more { OnOk result ((entries : List Entry) → MarksMore (is_wanting opened.old.courses.items) entries marks.old marks.new) }
+    ensures only { OnOk result ((entries : List Entry) → SeeksOnly (λ e. false) entries marks.old opened.old.courses.items marks.new opened.new.courses.items) }
     ensures none { OnOk result (opened.new.courses.items ≡ []) }
 {
     mark_wanted(opened.courses.as_slice(), marks)?;
@@ -54,7 +56,8 @@ pub(crate) fn fall_back(opened: &mut Opened, marks: &mut Marks) -> Result<(), Me
 
 /// Marks the courses for all who want them.
 fn mark_wanted(courses: &[CourseId], marks: &mut Marks) -> Result<(), Memory>
-    ensures { OnOk result ((entries : List Entry) → MarksMore (is_wanting courses.now) entries marks.old marks.new) }
+    ensures more { OnOk result ((entries : List Entry) → MarksMore (is_wanting courses.now) entries marks.old marks.new) }
+    ensures only { OnOk result ((entries : List Entry) → MarksOnly (is_wanting courses.now) entries marks.old marks.new) }
 {
     for course in courses {
         marks.mark_course(*course)?;
@@ -70,8 +73,10 @@ pub(crate) fn shut(
     opened: &mut Opened,
     marks: &mut Marks,
 ) -> Result<(), Memory>
-    ensures { OnOk result (OthersBut world.now.world queue.now.queue.entries marks.old opened.old
+    ensures others { OnOk result (OthersBut world.now.world queue.now.queue.entries marks.old opened.old
         → OthersBut world.now.world queue.now.queue.entries marks.new opened.new) }
+    ensures only { OnOk result (SeeksOnly (λ e. false) queue.now.queue.entries marks.old opened.old.courses.items
+        marks.new opened.new.courses.items) }
 {
     if opened.courses.is_empty() {
         return Ok(());
@@ -91,7 +96,8 @@ fn mark_givers_among(
     courses: &[CourseId],
     marks: &mut Marks,
 ) -> Result<(), Memory>
-    ensures { OnOk result (MarksMore (gives_and_wants courses.now) entries.now marks.old marks.new) }
+    ensures more { OnOk result (MarksMore (gives_and_wants courses.now) entries.now marks.old marks.new) }
+    ensures only { OnOk result (MarksOnly (gives_and_wants courses.now) entries.now marks.old marks.new) }
 {
     if gives_some(entries) {
         mark_givers(courses, marks)
@@ -109,7 +115,8 @@ fn gives_some(entries: &[Waiting]) -> bool
 
 /// Marks the courses for those who want them and give one up.
 fn mark_givers(courses: &[CourseId], marks: &mut Marks) -> Result<(), Memory>
-    ensures { OnOk result ((entries : List Entry) → MarksMore (gives_and_wants courses.now) entries marks.old marks.new) }
+    ensures more { OnOk result ((entries : List Entry) → MarksMore (gives_and_wants courses.now) entries marks.old marks.new) }
+    ensures only { OnOk result ((entries : List Entry) → MarksOnly (gives_and_wants courses.now) entries marks.old marks.new) }
 {
     for course in courses {
         marks.mark_giver(*course)?;

@@ -1,9 +1,10 @@
 // The placement of an entry: the course to give up leaves, the student is enrolled, and the entry leaves the queue.
 
-ghost use Rattle.std.specs.Prelude.{◌≡◌, [], ◌∷◌, List, filter, OnOk, IsTrue};
+ghost use Rattle.std.specs.Prelude.{◌≡◌, ◌==◌, ◌||◌, false, [], ◌∷◌, List, filter, OnOk, IsTrue};
+ghost use Rattle.std.specs.Option.{option_map_or};
 ghost use Rattle.std.specs.List.{list_all};
 ghost use Rattle.sect_model.specs.declared.held.Waiting.{Waiting as Entry};
-ghost use Rattle.sect_model.specs.Freer.{frees_some};
+ghost use Rattle.sect_model.specs.Freer.{frees_some, touches};
 ghost use Rattle.sect_model.specs.World.{leave_all, holds as is_held};
 ghost use Rattle.sect_model.specs.Fits.{Fits, changed};
 ghost use Rattle.sect_model.specs.Kept.{entry_fits};
@@ -12,6 +13,7 @@ ghost use Rattle.sect_wait.specs.Opened.{OthersBut};
 ghost use Rattle.sect_wait.specs.Queued.{left as queue_without};
 ghost use Rattle.sect_wait.specs.Undo.{Since as QueueSince, Undoable as QueueUndoable};
 ghost use Rattle.sect_wait.specs.Placing.{given_up, moved, enrolment_of};
+ghost use Rattle.sect_wait.specs.Touched.{SeeksOnly, candidate_concerns, is_concerned};
 
 use crate::marking::{frees, mark_enrolment, mark_leaving};
 use crate::marks::Marks;
@@ -41,6 +43,8 @@ pub fn place(
     ensures world { OnOk result (world.new.world ≡ moved world.old.world candidate.now) }
     ensures queue { OnOk result (queue.new.queue ≡ queue_without queue.old.queue candidate.now.ticket) }
     ensures others { OnOk result (OthersBut world.new.world queue.new.queue.entries marks.new opened.new) }
+    ensures only { OnOk result (SeeksOnly (candidate_concerns world.old.world candidate.now) queue.old.queue.entries
+        marks.old opened.old.courses.items marks.new opened.new.courses.items) }
     ensures since { Since world.old.world undo.old.backs world.new.world undo.new.backs }
     ensures queue_since { QueueSince queue.old.queue left.old queue.new.queue left.new }
     ensures undoable { Undoable world.new undo.new.backs }
@@ -66,6 +70,8 @@ fn place_in_world(
     requires undoable { Undoable world.old undo.old.backs }
     ensures ok { OnOk result (world.new.world ≡ moved world.old.world candidate.now) }
     ensures others { OnOk result (OthersBut world.new.world queue.now.queue.entries marks.new opened.new) }
+    ensures only { OnOk result (SeeksOnly (candidate_concerns world.old.world candidate.now) queue.now.queue.entries
+        marks.old opened.old.courses.items marks.new opened.new.courses.items) }
     ensures since { Since world.old.world undo.old.backs world.new.world undo.new.backs }
     ensures undoable { Undoable world.new undo.new.backs }
 {
@@ -88,6 +94,9 @@ fn give_up(
     ensures ok { OnOk result (world.new.world ≡ given_up world.old.world candidate.now) }
     ensures fit { OnOk result (IsTrue (list_all (entry_fits world.new.world) queue.now.queue.entries)) }
     ensures others { OnOk result (OthersBut world.new.world queue.now.queue.entries marks.new opened.new) }
+    ensures only { OnOk result (SeeksOnly
+        (λ e. candidate.now.student.0 == e.student.0 || option_map_or (touches world.old.world e.want) candidate.now.give false)
+        queue.now.queue.entries marks.old opened.old.courses.items marks.new opened.new.courses.items) }
     ensures since { Since world.old.world undo.old.backs world.new.world undo.new.backs }
     ensures undoable { Undoable world.new undo.new.backs }
 {
@@ -113,6 +122,8 @@ fn leave(
     ensures ok { OnOk result (world.new.world ≡ leave_all world.old.world student (filter (is_held world.old.world student) (course ∷ []))) }
     ensures fit { OnOk result (IsTrue (list_all (entry_fits world.new.world) queue.now.queue.entries)) }
     ensures others { OnOk result (OthersBut world.new.world queue.now.queue.entries marks.new opened.new) }
+    ensures only { OnOk result (SeeksOnly (is_concerned world.old.world student course) queue.now.queue.entries
+        marks.old opened.old.courses.items marks.new opened.new.courses.items) }
     ensures since { Since world.old.world undo.old.backs world.new.world undo.new.backs }
     ensures undoable { Undoable world.new undo.new.backs }
 {
@@ -141,6 +152,8 @@ fn enrol(
     requires undoable { Undoable world.old undo.old.backs }
     ensures ok { OnOk result (world.new.world ≡ changed world.old.world (Change.Enrol (enrolment_of candidate.now))) }
     ensures others { OnOk result (OthersBut world.new.world queue.now.queue.entries marks.new opened.new) }
+    ensures only { OnOk result (SeeksOnly (is_concerned world.old.world candidate.now.student candidate.now.choice.course) queue.now.queue.entries
+        marks.old opened.old.courses.items marks.new opened.new.courses.items) }
     ensures since { Since world.old.world undo.old.backs world.new.world undo.new.backs }
     ensures undoable { Undoable world.new undo.new.backs }
 {
@@ -164,6 +177,7 @@ fn fall_back_where_freed(
     ensures others { OnOk result ((entries : List Entry) → OthersBut world.now.world entries marks.old opened.old
         → OthersBut world.now.world entries marks.new opened.new) }
     ensures none { OnOk result (IsTrue (frees_some world.now.world choice.now) → opened.new.courses.items ≡ []) }
+    ensures only { OnOk result ((entries : List Entry) → SeeksOnly (λ e. false) entries marks.old opened.old.courses.items marks.new opened.new.courses.items) }
 {
     if frees(world, choice) {
         fall_back(opened, marks)

@@ -10,6 +10,7 @@ ghost use Rattle.sect_wait.specs.Opened.{OthersBut};
 ghost use Rattle.sect_wait.specs.Queued.{state_of};
 ghost use Rattle.sect_wait.specs.Undo.{Since as QueueSince, Undoable as QueueUndoable};
 ghost use Rattle.sect_wait.specs.Placing.{placed_of as placed_from};
+ghost use Rattle.sect_wait.specs.Touched.{count_touched};
 
 use crate::marks::Marks;
 use crate::next::{Candidate, next};
@@ -25,7 +26,8 @@ use std::alloc::Global;
 use std::sync::ledger::Ledger;
 
 /// Places the entries that can be placed, one after another, and tells them in that order. The entries that aren't marked
-/// have no move, and aren't tried; each placement marks those that it may give one. Where memory runs out, world, queue and
+/// have no move, and aren't tried; each placement marks those that it may give one. `steps` counts a search for each entry at
+/// most that is touched, and as many again for each placement. Where memory runs out, world, queue and
 /// what is recorded are as before, and all entries are marked.
 pub fn settle<L: Ledger>(
     alloc: Global,
@@ -45,7 +47,8 @@ pub fn settle<L: Ledger>(
     ensures nobody_left { OnOk result (IsTrue (is_settled (state_of world.new.world queue.new.queue))) }
     ensures others { OthersNeedNoSearch world.new.world queue.new.queue.entries marks.new }
     ensures unmarked { marks.old ≡ no_marks marks.old.spent → steps.new ≡ steps.old }
-    ensures steps { IfOk result (λ placed. steps.new ≤ steps.old + (length placed + 1) * length queue.old.queue.entries) }
+    ensures steps { IfOk result (λ placed. steps.new ≤ steps.old + (length placed + 1)
+        * count_touched world.old.world queue.old.queue.entries marks.old [] placed) }
     ensures err { OnErr result (world.new.world ≡ world.old.world) }
     ensures queue_err { OnErr result (queue.new.queue ≡ queue.old.queue) }
     ensures not_recorded { OnErr result (undo.new.backs ≡ undo.old.backs) }
@@ -81,7 +84,8 @@ pub fn settle_opened<L: Ledger>(
     ensures nobody_left { OnOk result (IsTrue (is_settled (state_of world.new.world queue.new.queue))) }
     ensures others { OthersNeedNoSearch world.new.world queue.new.queue.entries marks.new }
     ensures unmarked { marks.old ≡ no_marks marks.old.spent → opened.old.courses.items ≡ [] → steps.new ≡ steps.old }
-    ensures steps { IfOk result (λ placed. steps.new ≤ steps.old + (length placed + 1) * length queue.old.queue.entries) }
+    ensures steps { IfOk result (λ placed. steps.new ≤ steps.old + (length placed + 1)
+        * count_touched world.old.world queue.old.queue.entries marks.old opened.old.courses.items placed) }
     ensures err { OnErr result (world.new.world ≡ world.old.world) }
     ensures queue_err { OnErr result (queue.new.queue ≡ queue.old.queue) }
     ensures not_recorded { OnErr result (undo.new.backs ≡ undo.old.backs) }
@@ -133,7 +137,8 @@ fn place_all<L: Ledger>(
     ensures settled { IfOk result (λ placed. settled (state_of world.old.world queue.old.queue)
         ≡ record { state = state_of world.new.world queue.new.queue; placed = placed }) }
     ensures others { OnOk result (OthersNeedNoSearch world.new.world queue.new.queue.entries marks.new) }
-    ensures steps { IfOk result (λ placed. steps.new ≤ steps.old + (length placed + 1) * length queue.old.queue.entries) }
+    ensures steps { IfOk result (λ placed. steps.new ≤ steps.old + (length placed + 1)
+        * count_touched world.old.world queue.old.queue.entries marks.old opened.old.courses.items placed) }
     ensures since { Since world.old.world undo.old.backs world.new.world undo.new.backs }
     ensures queue_since { QueueSince queue.old.queue left.old queue.new.queue left.new }
     ensures undoable { Undoable world.new undo.new.backs }

@@ -1,3 +1,4 @@
+pub mod RowLemmas
 pub mod AddLemmas
 pub mod BusyLemmas
 pub mod ToldLemmas

@@ -4,6 +4,7 @@ use Rattle.sect_base.specs.declared.ids.StudentId.{StudentId}
 use Rattle.sect_model.specs.declared.held.Enrolment.{Enrolment}
 use Rattle.sect_model.specs.declared.change.Change.{Change}
 use Rattle.sect_model.specs.World.{World, held_by}
+use Rattle.sect_model.specs.Allowed.{credits_held}
 use Rattle.sect_model.specs.Kept.{KeptWorld}
 use Rattle.sect_model.specs.Fits.{Fits, changed}
 use Rattle.sect_numbers.specs.OneMore.{with_roster, IsMore}
@@ -34,6 +35,10 @@ KeptIsTold = (t u : Weeks) (w : World) → ToldWeeks t w → Keeps t u → ToldW
 abbrev pub QuietKeepsWeeks : Type 0
 QuietKeepsWeeks =
     (w : World) (c : Change) → KeptWorld w → Fits w c → is_quiet c ≡ true → (id : StudentId) (day slot : ℕ) → is_busy (changed w c) id day slot ≡ is_busy w id day slot
+
+-- and the credits that each student holds
+abbrev pub QuietKeepsCredits : Type 0
+QuietKeepsCredits = (w : World) (c : Change) → KeptWorld w → Fits w c → is_quiet c ≡ true → (id : StudentId) → credits_held (changed w c) id ≡ credits_held w id
 
 -- calendars with one for the student of such a change are those of the world after it
 abbrev pub QuietIsTold : Type 0

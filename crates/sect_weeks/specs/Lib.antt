@@ -1,4 +1,5 @@
 pub mod Busy
+pub mod Credits
 pub mod Enrolled
 pub mod Laws
 pub mod Quiet

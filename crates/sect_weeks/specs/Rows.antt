@@ -1,8 +1,8 @@
 -- The calendars of students.
-use Rattle.std.specs.Prelude.{◌≡◌, ℕ, Bool, true, false, ◌==◌, cond, List, nat_eq, slice_get, Option, Some}
+use Rattle.std.specs.Prelude.{◌≡◌, ℕ, Bool, true, false, ◌==◌, cond, List, slice_get, Option, Some}
 use Rattle.std.specs.Option.{is_some, option_map, option_map_or, option_and_then}
 use Rattle.std.specs.Bool.{then_some}
-use Rattle.std.specs.HashMap.{get}
+use Rattle.sect_table.specs.Table.{value_at}
 use Rattle.sect_time.specs.Calendar.{is_set}
 use Rattle.sect_weeks.specs.declared.weeks.Row.{Row}
 use Rattle.sect_weeks.specs.declared.weeks.Weeks.{Weeks}
@@ -17,11 +17,11 @@ own_place rows id place = option_and_then (λ i. option_and_then (λ r. then_som
 
 -- the place of the student's row
 abbrev pub place_of : Weeks → ℕ → Option ℕ
-place_of t id = own_place t.rows.items id (get nat_eq t.places id)
+place_of t id = own_place t.rows.items id (value_at t.places id)
 
 -- the student's row
 abbrev pub row_of : Weeks → ℕ → Option Row
-row_of t id = own_row t.rows.items id (get nat_eq t.places id)
+row_of t id = own_row t.rows.items id (value_at t.places id)
 
 -- the student's calendar
 abbrev pub calendar_of : Weeks → ℕ → Option (List ℕ)
@@ -35,11 +35,17 @@ has_row t id = is_some (calendar_of t id)
 abbrev pub is_taken : Weeks → ℕ → ℕ → ℕ → Bool
 is_taken t id day slot = option_map_or (λ words. is_set words day slot) (calendar_of t id) false
 
--- the student has this calendar, and the others have what they had
-abbrev pub Puts : Weeks → Weeks → ℕ → List ℕ → Type 0
-Puts t u id words = (q : ℕ) → calendar_of u q ≡ cond (id == q) (Some words) (calendar_of t q)
+-- the student's credits, 0 where the student has no row
+abbrev pub credits_at : Weeks → ℕ → ℕ
+credits_at t id = option_map_or (λ r. r.credits) (row_of t id) 0
 
--- what is taken stays, and no calendar goes
+-- the student has this calendar and these credits, and the others have what they had
+pub record Puts (t u : Weeks) (id : ℕ) (words : List ℕ) (credits : ℕ) : Type 0 where
+  pub calendars : (q : ℕ) → calendar_of u q ≡ cond (id == q) (Some words) (calendar_of t q)
+  pub counted : (q : ℕ) → credits_at u q ≡ cond (id == q) credits (credits_at t q)
+
+-- what is taken and counted stays, and no calendar goes
 pub record Keeps (t u : Weeks) : Type 0 where
   pub taken : (q day slot : ℕ) → is_taken u q day slot ≡ is_taken t q day slot
+  pub credits : (q : ℕ) → credits_at u q ≡ credits_at t q
   pub rows : (q : ℕ) → has_row t q ≡ true → has_row u q ≡ true

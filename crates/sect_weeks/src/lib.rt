@@ -1,7 +1,8 @@
-//! The week of each student: the slots in which the sections that the student holds meet.
+//! The week of each student: the slots in which the sections that the student holds meet, and how many credits it has.
 #![tactic(auto)]
 
 mod calendar;
+mod credits;
 mod enrolled;
 pub mod laws;
 mod rows;

@@ -1,27 +1,29 @@
-// The calendar of each student.
+// The calendar and the credits of each student.
 
 ghost use Rattle.std.specs.Prelude.{◌≡◌, true, OnOk, option_copied};
-ghost use Rattle.sect_model.specs.World.{empty_world};
+ghost use Rattle.sect_model.specs.World.{World, empty_world};
+ghost use Rattle.sect_model.specs.Allowed.{credits_held};
 ghost use Rattle.sect_weeks.specs.Busy.{ToldWeeks};
-ghost use Rattle.sect_weeks.specs.Rows.{calendar_of, row_of, place_of, has_row, Puts, Keeps};
+ghost use Rattle.sect_weeks.specs.Rows.{calendar_of, credits_at, row_of, place_of, has_row, Puts, Keeps};
 
 use sect_base::{Memory, StudentId};
+use sect_table::Table;
 use sect_time::Calendar;
 use std::alloc::Global;
-use std::collections::HashMap;
 
-/// The calendar of a student.
+/// The calendar of a student, and the credits of what the student holds.
 #[derive(Clone, Copy)]
 struct Row {
     student: StudentId,
     calendar: Calendar,
+    credits: usize,
 }
 
-/// The calendars of students. The rows stand in the order of their coming; each names its student, and a look-up tests it,
-/// so that nothing need be kept of the map.
+/// The calendars and credits of students. The rows stand in the order of their coming; each names its student, and a look-up tests it,
+/// so that nothing need be kept of the table.
 #[derive(Drop)]
 pub struct Weeks {
-    places: HashMap<u32, usize>,
+    places: Table<usize>,
     rows: Vec<Row>,
 }
 
@@ -31,7 +33,7 @@ impl Weeks {
         ensures { ToldWeeks result empty_world }
     {
         Weeks {
-            places: HashMap::new(alloc),
+            places: Table::empty(alloc),
             rows: Vec::new(alloc),
         }
     }
@@ -42,6 +44,17 @@ impl Weeks {
     {
         let place = self.place(student)?;
         Some(&self.rows[place].calendar)
+    }
+
+    /// The credits of what a student holds, 0 where there is no calendar. It takes no memory.
+    pub fn credits(&self, student: StudentId) -> usize
+        ensures value { result ≡ credits_at self.now student.0 }
+        ensures told { (w : World) → ToldWeeks self.now w → result ≡ credits_held w student }
+    {
+        match self.place(student) {
+            Some(place) => self.rows[place].credits,
+            None => 0,
+        }
     }
 
     /// Gives a student an empty calendar, where there is none. Where memory runs out, the calendars stay.
@@ -56,25 +69,30 @@ impl Weeks {
         self.rows.push(Row {
             student,
             calendar: Calendar::empty(),
+            credits: 0,
         })?;
-        self.places.insert(student.0, place)?;
+        self.places.put(student.0, place)?;
         Ok(())
     }
 
-    /// Puts a calendar in place of the student's. It takes no memory.
-    pub(crate) fn put(&mut self, student: StudentId, calendar: Calendar)
+    /// Puts a calendar and credits in place of the student's. It takes no memory.
+    pub(crate) fn put(&mut self, student: StudentId, calendar: Calendar, credits: usize)
         requires { has_row self.old student.0 ≡ true }
-        ensures { Puts self.old self.new student.0 calendar }
+        ensures { Puts self.old self.new student.0 calendar credits }
     {
         if let Some(place) = self.place(student) {
-            self.rows[place] = Row { student, calendar };
+            self.rows[place] = Row {
+                student,
+                calendar,
+                credits,
+            };
         }
     }
 
     fn place(&self, student: StudentId) -> Option<usize>
         ensures { result ≡ place_of self.now student.0 }
     {
-        let place = *self.places.get(&student.0)?;
+        let place = self.places.get(student.0)?;
         let row = self.rows.get(place)?;
         if row.student == student {
             Some(place)

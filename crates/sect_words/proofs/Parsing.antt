@@ -1,42 +1,49 @@
--- The text of a number is parsed as that number.
-use Rattle.std.proofs.Common.{◌≡◌, ◌≢◌, ℕ, zero, suc, ◌<◌, ◌^◌, List, refl, sym, ◌∙◌, ap, subst, arith, decimal}
-use Rattle.std.specs.Prelude.{Ok, OkIff, Result, get_or, length}
-use Rattle.std.proofs.lemmas.Fmt.{parse-decimal, IsAscii-decimal, decimal-digits_value, decimal_digit, first_decimal}
-use Rattle.std.proofs.lemmas.Str.{IsUtf8-from_ascii}
-use Rattle.std.proofs.lemmas.Str.Parse.{numerals_by_value, parse_plain, tells_digits}
-use Rattle.std.specs.Str.{IsUtf8}
-use Rattle.std.specs.Str.Parse.{AllDigits, ParsesUnsigned, digits_value}
+-- The digits of a number's text are read one after the other.
+use Rattle.std.proofs.Common.{◌≡◌, ℕ, zero, suc, ◌+◌, ◌-◌, ◌*◌, ◌<◌, ◌≤◌, ◌^◌, List, [], ◌∷◌, refl, sym, ◌∙◌, ap, subst, arith, rules, decimal, drop}
+use Rattle.std.specs.Prelude.{get_or, length}
+use Rattle.std.proofs.lemmas.Fmt.{decimal-digits_value, decimal_digit, decimal_nonempty, digits_decimal, digits_value-decimal, first_decimal}
+use Rattle.std.proofs.lemmas.Str.Parse.{IsNumeralModel, numerals_by_fold, tells_digits}
+use Rattle.std.specs.Str.Parse.{AllDigits}
 
--- the text of a number is UTF-8
-pub IsUtf8-decimal : (n : ℕ) (digits : List ℕ) → n < 2 ^ 64 → decimal n ≡ digits → IsUtf8 digits
-IsUtf8-decimal n digits small is = subst IsUtf8 is (IsUtf8-from_ascii (decimal n) (IsAscii-decimal n small))
+-- the number that digits make after the number so far
+abbrev pub read_on : ℕ → List ℕ → ℕ
+read_on number [] = number
+read_on number (digit ∷ rest) = read_on (number * 10 + (digit - 48)) rest
 
--- the text of a number is parsed as that number
-pub parsed : {E : Type 0} (n : ℕ) (digits text : List ℕ) (r : Result ℕ E) → n < 2 ^ 64 → decimal n ≡ digits → text ≡ digits
-    → ParsesUnsigned 64 10 text r → r ≡ Ok n
-parsed n digits text r small is same told = parse-decimal 64 n text r small small (same ∙ sym is) told
+-- reading on is the value of digits
+pub reads : IsNumeralModel (AllDigits 10) (read_on 0)
+reads = numerals_by_fold (AllDigits 10) tells_digits read_on (search rules)
 
--- neither a plus nor a zero stands before other digits
+-- what is read so far is never lost
+pub grows : (number : ℕ) (digits : List ℕ) → number ≤ read_on number digits
+grows number [] = omega arith
+grows number (digit ∷ rest) = omega (arith, grows (number * 10 + (digit - 48)) rest)
+
+-- so with the next digit
+pub past : (number at : ℕ) (digits : List ℕ) → at < length digits → number * 10 + (get_or digits at 0 - 48) ≤ read_on number (drop at digits)
+past number at [] within = absurd (omega (arith, within))
+past number zero (digit ∷ rest) within = grows (number * 10 + (digit - 48)) rest
+past number (suc at) (digit ∷ rest) within = past number at rest (omega (arith, within))
+
+-- there is a first byte, and it is no zero before others
 abbrev pub IsPlain : List ℕ → Type 0
-IsPlain digits = (get_or digits 0 0 ≢ 43) × (get_or digits 0 0 ≡ 48 → length digits ≡ 1)
+IsPlain digits = (0 < length digits) × (get_or digits 0 0 ≡ 48 → length digits ≡ 1)
 
 plain_decimal : (n : ℕ) → n < 2 ^ 64 → IsPlain (decimal n)
-plain_decimal zero small = subst IsPlain (sym (decimal_digit 0 (omega arith))) ((λ e. omega (arith, e)), (λ _. refl))
+plain_decimal zero small = subst IsPlain (sym (decimal_digit 0 (omega arith))) ((omega arith), (λ _. refl))
 plain_decimal (suc n) small =
     let more = first_decimal (suc n) (omega arith) small in
-    ((λ e. omega (arith, e, more)), (λ e. omega (arith, e, more)))
+    (decimal_nonempty (suc n) small, (λ e. omega (arith, e, more)))
 
 -- so it is in the text of a number
 pub plain : (n : ℕ) (digits : List ℕ) → n < 2 ^ 64 → decimal n ≡ digits → IsPlain digits
 plain n digits small is = subst IsPlain is (plain_decimal n small)
 
--- what is parsed of a plain text is the number whose text it is
-pub printed : {E : Type 0} (n : ℕ) (digits text : List ℕ) (r : Result ℕ E) → IsPlain digits → text ≡ digits → r ≡ Ok n → ParsesUnsigned 64 10 text r
-    → decimal n ≡ digits
-printed {E = E} n digits text r is_plain same is told =
-    let model = numerals_by_value (AllDigits 10) tells_digits in
-    let first : get_or text 0 0 ≢ 43 = subst (λ t. get_or t 0 0 ≢ 43) (sym same) is_plain.0 in
-    let lead : get_or text 0 0 ≡ 48 → length text ≡ 1 = subst (λ t. get_or t 0 0 ≡ 48 → length t ≡ 1) (sym same) is_plain.1 in
-    let p : ((AllDigits 10 text × (0 < length text) × (digits_value 10 text < 2 ^ 64)) × (n ≡ digits_value 10 text)) =
-    subst (λ q. OkIff q (AllDigits 10 text × (0 < length text) × (digits_value 10 text < 2 ^ 64)) (digits_value 10 text)) is (parse_plain model 64 text r told first) in
-    ap decimal p.1 ∙ decimal-digits_value model text p.0.0 p.0.1 lead p.0.2 ∙ same
+-- the text of a number has digits alone, which make it
+pub made : (n : ℕ) (digits : List ℕ) → n < 2 ^ 64 → decimal n ≡ digits → AllDigits 10 digits × (read_on 0 digits ≡ n)
+made n digits small is = subst (λ ds. AllDigits 10 ds × (read_on 0 ds ≡ n)) is (digits_decimal reads n small, digits_value-decimal reads n small)
+
+-- plain digits are the text of the number that they make
+pub printed : (n : ℕ) (digits : List ℕ) → IsPlain digits → AllDigits 10 digits → n ≡ read_on 0 digits → n < 2 ^ 64 → decimal n ≡ digits
+printed n digits is_plain all is small =
+    ap decimal is ∙ decimal-digits_value reads digits all is_plain.0 is_plain.1 (subst (λ m. m < 2 ^ 64) is small)

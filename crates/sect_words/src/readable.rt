@@ -1,6 +1,6 @@
 // Reading what stands in one word.
 
-ghost use Rattle.std.specs.Prelude.{◌≡◌, ◌≢◌, ◌≤◌, ◌<◌, ◌^◌, ℕ, List, Option, Some, None, decimal, get_or, IfSome, IfNone, IfOk, IsSomeAnd, IsTrue, length};
+ghost use Rattle.std.specs.Prelude.{◌≡◌, ◌≤◌, ◌<◌, ◌^◌, ℕ, List, Option, Some, None, decimal, get_or, IfSome, IfNone, IfOk, IsSomeAnd, IsTrue, length};
 ghost use Rattle.std.specs.Option.{option_map};
 ghost use Rattle.sect_words.specs.Parts.{pieces};
 ghost use Rattle.sect_words.specs.Reading.{Means, Reads, all_of, word_at};
@@ -64,22 +64,25 @@ pub fn parse_number(word: &[u8]) -> Option<u64>
     if !is_plain(word) {
         return None;
     }
-    let Ok(text) = str::from_utf8(word) else {
-        return None;
-    };
-    match text.parse::<u64>() {
-        Ok(number) => Some(number),
-        Err(_) => None,
+    let mut number: u64 = 0;
+    for digit in word {
+        if !digit.is_ascii_digit() {
+            return None;
+        }
+        number = number
+            .checked_mul(10)?
+            .checked_add(u64::from(*digit - b'0'))?;
     }
+    Some(number)
 }
 
-/// Whether neither a plus nor a zero stands before other digits.
+/// Whether there is a first byte, and it is no zero before others.
 fn is_plain(word: &[u8]) -> bool
-    ensures plain { IsTrue result → (get_or word.now 0 0 ≢ 43) × (get_or word.now 0 0 ≡ 48 → length word.now ≡ 1) }
-    ensures only { get_or word.now 0 0 ≢ 43 → (get_or word.now 0 0 ≡ 48 → length word.now ≡ 1) → IsTrue result }
+    ensures plain { IsTrue result → (0 < length word.now) × (get_or word.now 0 0 ≡ 48 → length word.now ≡ 1) }
+    ensures only { 0 < length word.now → (get_or word.now 0 0 ≡ 48 → length word.now ≡ 1) → IsTrue result }
 {
     match word {
-        [b'+', ..] => false,
+        [] => false,
         [b'0', rest @ ..] => rest.is_empty(),
         _ => true,
     }

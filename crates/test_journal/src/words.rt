@@ -6,8 +6,8 @@ use std::alloc::Global;
 /// The bytes of a list of numbers with commas between them.
 pub fn bytes_of(alloc: Global, text: &str) -> Result<Vec<u8>, Memory> {
     let mut bytes = Vec::new(alloc);
-    for word in text.split(',') {
-        if let Ok(byte) = word.parse::<u8>() {
+    for number in numbers_of(alloc, text)?.as_slice() {
+        if let Ok(byte) = u8::try_from(*number) {
             bytes.push(byte)?;
         }
     }

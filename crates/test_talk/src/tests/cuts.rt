@@ -1,5 +1,9 @@
 // Bytes that are cut.
 use super::*;
+use test_told::fielded;
+
+/// A first line.
+const LINE: &[u8] = b"HEAD / HTTP/1.1\n";
 
 /// Two empty bytes, a head of 41 bytes with them, and a body of 5.
 const ONE: &[u8] = b"\r\nPOST /a HTTP/1.1\r\nContent-Length: 5\r\n\r\nhello";
@@ -32,23 +36,14 @@ fn cut_after_each_byte(rt: HostRuntime) -> Result<(), Fail> {
     Ok(())
 }
 
-fn with_fields(alloc: Global, count: usize, end: &[u8]) -> Result<Vec<u8>, Memory> {
-    let mut bytes = b"HEAD / HTTP/1.1\n".to_vec(alloc)?;
-    for _ in 0..count {
-        bytes.extend_from_slice(b"a:\n")?;
-    }
-    bytes.extend_from_slice(end)?;
-    Ok(bytes)
-}
-
 #[test]
 fn fields_in_a_crowd(rt: HostRuntime) -> Result<(), Fail> {
     let alloc = rt.alloc();
-    let most = with_fields(alloc, 64, b"\n")?;
+    let most = fielded(alloc, LINE, 64, b"\n")?;
     check(&rt, alloc, &most, heard(1, Stop::Closed, 0))?;
-    let more = with_fields(alloc, 65, b"\n")?;
+    let more = fielded(alloc, LINE, 65, b"\n")?;
     check(&rt, alloc, &more, heard(0, Stop::Crowded, 212))?;
-    let open = with_fields(alloc, 65, b"")?;
+    let open = fielded(alloc, LINE, 65, b"")?;
     check(&rt, alloc, &open, heard(0, Stop::Cut, 211))?;
     Ok(())
 }

@@ -57,13 +57,32 @@ fn copies(alloc: Global, rows: &[Vec<u8>]) -> Result<Vec<Vec<u8>>, AllocError> {
     Ok(copies)
 }
 
-/// Puts a byte into a row.
-fn set_byte(rows: &mut [Vec<u8>], at: usize, place: usize, byte: u8) {
-    if let Some(row) = rows.get_mut(at) {
-        if let Some(cell) = row.get_mut(place) {
-            *cell = byte;
+/// The row with a byte in place of another.
+fn with_byte(alloc: Global, row: &[u8], place: usize, byte: u8) -> Result<Vec<u8>, AllocError> {
+    let mut copy = Vec::from_slice(alloc, row)?;
+    if let Some(cell) = copy.get_mut(place) {
+        *cell = byte;
+    }
+    Ok(copy)
+}
+
+/// Copies of the rows, of which the one at a place has a byte in place of another.
+fn copies_but(
+    alloc: Global,
+    rows: &[Vec<u8>],
+    at: usize,
+    place: usize,
+    byte: u8,
+) -> Result<Vec<Vec<u8>>, AllocError> {
+    let mut copies = Vec::new(alloc);
+    for (index, row) in rows.iter().enumerate() {
+        if index == at {
+            copies.push(with_byte(alloc, row, place, byte)?)?;
+        } else {
+            copies.push(Vec::from_slice(alloc, row)?)?;
         }
     }
+    Ok(copies)
 }
 
 #[test]
@@ -74,16 +93,24 @@ fn a_repeat_has_its_kept_reply(rt: HostRuntime) -> Result<(), Fail> {
     };
     assert!(rt; done(desk.ask(id(0), first_day(), 5)) == Some((0, 5)));
     assert!(rt; done(desk.ask(id(1), first_day(), 7)) == Some((1, 12)));
-    let Some(later) = Day::new(9) else {
-        panic!(rt; "there is the day")
-    };
+    let later = Day::new(9).ok_or("there is the day")?;
     assert!(rt; done(desk.ask(id(0), later, 5)) == Some((0, 5)));
     assert!(rt; matches!(desk.ask(id(0), first_day(), 6), Answer::NumberReused(0)));
-    assert!(rt; desk.find(&id(1), &7) == Seen::Place(1));
-    assert!(rt; desk.find(&id(1), &8) == Seen::Reused(1));
-    assert!(rt; desk.find(&id(2), &7) == Seen::New);
     assert_eq!(rt; desk.acted(), 2);
     assert!(rt; matches!(desk.look(&()), Ok(12)));
+    Ok(())
+}
+
+#[test]
+fn a_request_is_found(rt: HostRuntime) -> Result<(), Fail> {
+    let alloc = rt.alloc();
+    let Ok(mut desk) = desk_of(alloc, Vec::new(alloc), Vec::new(alloc)) else {
+        panic!(rt; "it opens")
+    };
+    assert_eq!(rt; ask_ones(&mut desk, 2), 2);
+    assert_eq!(rt; desk.find(&id(1), &1), Seen::Place(1));
+    assert_eq!(rt; desk.find(&id(1), &8), Seen::Reused(1));
+    assert_eq!(rt; desk.find(&id(2), &1), Seen::New);
     Ok(())
 }
 
@@ -103,42 +130,43 @@ fn a_fault_of_the_keeper_is_undone(rt: HostRuntime) -> Result<(), Fail> {
     Ok(())
 }
 
+/// A keeper with the rows of three requests to add one.
+fn three_rows(alloc: Global) -> Option<MemKeeper> {
+    let mut desk = desk_of(alloc, Vec::new(alloc), Vec::new(alloc)).ok()?;
+    match ask_ones(&mut desk, 3) {
+        3 => Some(desk.close()),
+        _ => None,
+    }
+}
+
+/// Why these rows don't open. None where they do.
+fn opening_fault(alloc: Global, rows: Vec<Vec<u8>>) -> Option<OpenFault> {
+    match desk_of(alloc, rows, Vec::new(alloc)) {
+        Ok(_) => None,
+        Err((fault, _)) => Some(fault),
+    }
+}
+
+#[test]
+fn wrong_rows_do_not_open(rt: HostRuntime) -> Result<(), Fail> {
+    let alloc = rt.alloc();
+    let keeper = three_rows(alloc).ok_or("no rows")?;
+    let wrong = copies_but(alloc, keeper.rows(), 2, 25, 4)?;
+    assert_eq!(rt; opening_fault(alloc, wrong), Some(OpenFault::BadEntry(2)));
+    let twice = copies_but(alloc, keeper.rows(), 1, 16, 0)?;
+    assert_eq!(rt; opening_fault(alloc, twice), Some(OpenFault::BadEntry(1)));
+    let mut spelled = copies(alloc, keeper.rows())?;
+    if let Some(row) = spelled.get_mut(1) {
+        row.push(0)?;
+    }
+    assert_eq!(rt; opening_fault(alloc, spelled), Some(OpenFault::BadEntry(1)));
+    Ok(())
+}
+
 #[test]
 fn rows_are_replayed(rt: HostRuntime) -> Result<(), Fail> {
-    let alloc = rt.alloc();
-    let Ok(mut desk) = desk_of(alloc, Vec::new(alloc), Vec::new(alloc)) else {
-        panic!(rt; "it opens")
-    };
-    assert_eq!(rt; ask_ones(&mut desk, 3), 3);
-    let keeper = desk.close();
-    let mut wrong = copies(alloc, keeper.rows())?;
-    let mut spelled = copies(alloc, keeper.rows())?;
-    let mut twice = copies(alloc, keeper.rows())?;
-    set_byte(&mut wrong, 2, 25, 4);
-    set_byte(&mut twice, 1, 16, 0);
-    match spelled.get_mut(1) {
-        Some(row) => row.push(0)?,
-        None => {}
-    }
-    assert!(rt;
-        matches!(
-            desk_of(alloc, wrong, Vec::new(alloc)),
-            Err((OpenFault::BadEntry(2), _))
-        )
-    );
-    assert!(rt;
-        matches!(
-            desk_of(alloc, spelled, Vec::new(alloc)),
-            Err((OpenFault::BadEntry(1), _))
-        )
-    );
-    assert!(rt;
-        matches!(
-            desk_of(alloc, twice, Vec::new(alloc)),
-            Err((OpenFault::BadEntry(1), _))
-        )
-    );
-    let Ok(mut desk) = Desk::<Tally, MemKeeper>::open(alloc, keeper) else {
+    let keeper = three_rows(rt.alloc()).ok_or("no rows")?;
+    let Ok(mut desk) = Desk::<Tally, MemKeeper>::open(rt.alloc(), keeper) else {
         panic!(rt; "it opens")
     };
     assert_eq!(rt; desk.acted(), 3);

@@ -13,12 +13,12 @@ pub answer_ask-requires-clause-fits : goal.answer_ask-requires-clause-fits
 answer_ask-requires-clause-fits g c =
     let w = c.args.world.now.world in
     let read : slice_get (asks_of w c.args.student) c.args.place ≡ Some c.in-Some.ask.now =
-    ap (λ xs. slice_get xs c.args.place) (sym c.asks_of.ensures) ∙ sym (got c.get.result c.asks_of.result.now c.args.place c.get.ensures.lookup.3) ∙ ap option_copied c.in-Some.is in
+    ap (λ xs. slice_get xs c.args.place) (sym c.asks.ensures) ∙ sym (got c.get.result c.asks.result.now c.args.place c.get.ensures.lookup.3) ∙ ap option_copied c.in-Some.is in
     ask-at-fits w c.is_kept.ensures c.args.student c.args.place c.in-Some.ask.now read
 
 pub returns-in-Some-clause-answer : goal.returns-in-Some-clause-answer
 returns-in-Some-clause-answer g c =
     let w = c.args.world.now.world in
     let read : slice_get (asks_of w c.args.student) c.args.place ≡ Some c.in-Some.ask.now =
-    ap (λ xs. slice_get xs c.args.place) (sym c.asks_of.ensures) ∙ sym (got c.get.result c.asks_of.result.now c.args.place c.get.ensures.lookup.3) ∙ ap option_copied c.in-Some.is in
+    ap (λ xs. slice_get xs c.args.place) (sym c.asks.ensures) ∙ sym (got c.get.result c.asks.result.now c.args.place c.get.ensures.lookup.3) ∙ ap option_copied c.in-Some.is in
     answer-at w c.args.lines.now c.args.student c.args.place c.in-Some.ask.now c.answer_ask.result read c.answer_ask.ensures.answer

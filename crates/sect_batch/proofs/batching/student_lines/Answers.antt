@@ -17,7 +17,7 @@ loop-place-preserved g c =
     let asks = asks_of w c.args.student in
     let place = c.loop-place.place in
     let same : asks_of v c.args.student ≡ asks = same-asks v w c.args.student c.loop-place.invariant.0 in
-    let few : place < length asks = omega (arith, c.loop-place-test.true, ap length c.asks_of-count.ensures) in (
+    let few : place < length asks = omega (arith, c.loop-place-test.true, ap length c.asks-count.ensures) in (
       c.ask_line.ensures.students ∙ c.loop-place.invariant.0,
       since-both w v c.ask_line.new.world.world c.args.undo.now.backs c.loop-place.undo.backs c.ask_line.new.undo.backs c.loop-place.invariant.1 c.ask_line.ensures.since,
       c.ask_line.ensures.undoable,
@@ -29,5 +29,5 @@ pub returns-clause-told : goal.returns-clause-told
 returns-clause-told g c =
     let w = c.args.world.now.world in
     let asks = asks_of w c.args.student in
-    let all : length asks ≤ c.loop-place.place = omega (arith, c.loop-place-test.false, ap length c.asks_of-count.ensures) in
+    let all : length asks ≤ c.loop-place.place = omega (arith, c.loop-place-test.false, ap length c.asks-count.ensures) in
     told-all c.args.student asks w c.args.lines.now c.loop-place.place c.loop-place.world.world c.loop-place.lines all c.loop-place.invariant.3

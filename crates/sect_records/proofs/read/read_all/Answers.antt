@@ -9,37 +9,35 @@ use Rattle.csv.proofs.ReadFacts.{rows-end, rows-more}
 use Rattle.sect_records.proofs.FoldLemmas.{are-all-rows}
 use Rattle.sect_records.proofs.read.read_all.Goals as goal
 
-pub loop-row-init : goal.loop-row-init
+pub loop-init : goal.loop-init
 unfolding Reached
-loop-row-init c =
+loop-init c =
     let fr = c.from_reader-reader.ensures in
     let e = c.flexible.ensures in
     let f = c.has_headers.ensures in
-    let start = c.into_iter-row-iterator.ensures.into_iter_gives ∙ refl in
-    let rdr = c.into_byte_records-row-items.ensures.rdr in
-    let left = c.into_byte_records-row-items.ensures.left in
-    rw (start, rdr, c.new-rows.ensures.items) (
+    rw c.new-rows.ensures.items (
       rw (e, f) at fr.trim ∙ c.new.ensures.trim,
       inr (inr (rw (e, f) at fr.has_headers, fr.headers)),
-      left,
       rw (e, f) at fr.config ∙ c.new.ensures.config,
       strip_bom (c.args.text.now ++ c.args.tail.now),
       fr.source ∙ rw c.chain.ensures.bytes refl,
       (sym fr.state, refl),
     )
 
-pub loop-row-preserved : goal.loop-row-preserved
-loop-row-preserved c =
-    let inv = c.loop-row.invariant in
-    let s = rw (c.in-Some.is, c.in-Ok.is) at ((c.next.ensures.steps inv.2 inv.0).0 inv.1) in
+pub loop-preserved : goal.loop-preserved
+loop-preserved c =
+    let inv = c.loop.invariant in
+    let row = fields_of c.read_byte_record.new.row in
+    let s = rw c.in-Ok-true.field-0-test at (c.in-Ok-true.ensures.reads inv.0 inv.1) in
+    let first = rw c.in-Ok-true.is at (c.read_byte_record.ensures.ready inv.0) in
     let good : is_ok c.push.result ≡ true = search rules in
     let items = rw good at c.push.ensures.items in
-    let m = rows-more (chain_remaining (λ (s : Bor (List ℕ)). Some s.now) (λ (s : Bor (List ℕ)). Some s.now)) c.loop-row.row-iterator.rdr c.next.new.self.rdr (fields_of c.in-Ok.row) default_config st.StartRecord (strip_bom (c.args.text.now ++ c.args.tail.now)) inv.4 (map fields_of c.loop-row.rows.items) inv.3 inv.5 inv.6 s.0 in
-    (s.0.3 ∙ inv.0, inl s.1, s.2, s.0.2 ∙ inv.3, m.0, m.1, rw (items, map-append fields_of c.loop-row.rows.items (c.in-Ok.row ∷ [])) m.2)
+    let m = rows-more (chain_remaining (λ (s : Bor (List ℕ)). Some s.now) (λ (s : Bor (List ℕ)). Some s.now)) c.loop.reader c.read_byte_record.new.self row default_config st.StartRecord (strip_bom (c.args.text.now ++ c.args.tail.now)) inv.3 (map fields_of c.loop.rows.items) inv.2 inv.4 inv.5 s in
+    (s.3 ∙ inv.0, inl first, s.2 ∙ inv.2, m.0, m.1, rw (items, map-append fields_of c.loop.rows.items (c.read_byte_record.new.row ∷ [])) m.2)
 
-pub returns : goal.returns
-returns c =
-    let inv = c.loop-row.invariant in
-    let s = rw c.in-None.is at ((c.next.ensures.steps inv.2 inv.0).0 inv.1) in
-    are-all-rows (c.args.text.now ++ c.args.tail.now) (map fields_of c.loop-row.rows.items)
-    (c.loop-row.row-iterator.rdr.state, inv.4, inv.6, rows-end (chain_remaining (λ (s : Bor (List ℕ)). Some s.now) (λ (s : Bor (List ℕ)). Some s.now)) c.loop-row.row-iterator.rdr c.next.new.self.rdr [] default_config inv.4 inv.3 inv.5 s)
+pub returns-in-Ok-false : goal.returns-in-Ok-false
+returns-in-Ok-false c =
+    let inv = c.loop.invariant in
+    let s = rw c.in-Ok-false.field-0-test at (c.in-Ok-false.ensures.reads inv.0 inv.1) in
+    are-all-rows (c.args.text.now ++ c.args.tail.now) (map fields_of c.loop.rows.items)
+    (c.loop.reader.state, inv.3, inv.5, rows-end (chain_remaining (λ (s : Bor (List ℕ)). Some s.now) (λ (s : Bor (List ℕ)). Some s.now)) c.loop.reader c.read_byte_record.new.self (fields_of c.read_byte_record.new.row) default_config inv.3 inv.2 inv.4 s)

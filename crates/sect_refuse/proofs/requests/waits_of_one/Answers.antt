@@ -6,5 +6,5 @@ use Rattle.sect_refuse.proofs.requests.waits_of_one.Goals as goal
 
 pub returns-clause-few : goal.returns-clause-few
 returns-clause-few c =
-    let same : length c.asks_of.result.now ≡ length (asks_of c.args.world.now.world c.args.student) = ap length c.asks_of.ensures in
+    let same : length c.asks.result.now ≡ length (asks_of c.args.world.now.world c.args.student) = ap length c.asks.ensures in
     omega (arith, same, asks-few c.args.world.now.world c.is_kept.ensures c.args.student)

@@ -1,8 +1,10 @@
 -- Each turn takes one entry more into account.
-use Rattle.std.proofs.Common.{[], ◌∷◌, ◌+◌, ◌++◌, ◌∙◌, arith, sym, subst, take, ap}
-use Rattle.std.proofs.lemmas.List.{take_more}
+use Rattle.std.proofs.Common.{[], ◌≤◌, ◌∷◌, ◌+◌, ◌++◌, ◌∙◌, arith, length, sym, subst, take, ap}
+use Rattle.std.proofs.lemmas.List.{take_all, take_more}
 use Rattle.std.specs.Option.{option_or}
 use Rattle.sect_wait.specs.Placing.{IsBest, OthersTried}
+use Rattle.sect_wait.specs.Touched.{count_sought}
+use Rattle.sect_wait.proofs.CountLemmas.{again-at, again-both, sought-more}
 use Rattle.sect_wait.proofs.MarkLemmas.{each-at}
 use Rattle.sect_wait.proofs.next.best_of.Goals as goal
 
@@ -21,5 +23,13 @@ loop-entry-preserved g c =
     let others : OthersTried w (before ++ c.entry-item.result ∷ []) new c.args.marks.now.spent c.better.new.left = c.in_ok-better.ensures.others before c.loop-entry.invariant.1 in (
       subst (λ o. IsBest w (take (i + 1) es) o) (sym c.or-best.ensures) (subst (λ fs. IsBest w fs new) (sym more) best),
       subst (λ o. OthersTried w (take (i + 1) es) o c.args.marks.now.spent c.better.new.left) (sym c.or-best.ensures) (subst (λ fs. OthersTried w fs new c.args.marks.now.spent c.better.new.left) (sym more) others),
-      omega (arith, c.better.ensures.steps, c.loop-entry.invariant.2),
+      sought-more c.args.marks.now c.args.opened.now es i c.entry-item.result c.args.steps.now c.loop-entry.steps c.better.new.steps c.loop-entry-test.true c.entry-item.is c.loop-entry.invariant.2 c.better.ensures.steps,
+      again-both c.args.marks.now c.args.opened.now es c.args.left.now.again.items c.loop-entry.left.again.items c.better.new.left.again.items c.loop-entry.invariant.3
+          (again-at c.args.marks.now c.args.opened.now es i c.entry-item.result c.loop-entry.left.again.items c.better.new.left.again.items c.loop-entry-test.true c.entry-item.is c.in_ok-better.ensures.again),
     )
+
+pub returns-clause-steps : goal.returns-clause-steps
+returns-clause-steps g c =
+    let es = c.args.entries.now in
+    let past : length es ≤ c.loop-entry.entry-index = omega (arith, c.loop-entry-test.false) in
+    subst (λ fs. c.loop-entry.steps ≤ c.args.steps.now + count_sought c.args.marks.now c.args.opened.now fs) (take_all c.loop-entry.entry-index es past) c.loop-entry.invariant.2

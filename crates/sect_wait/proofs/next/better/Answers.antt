@@ -4,6 +4,7 @@ use Rattle.std.specs.Option.{option_map}
 use Rattle.sect_base.specs.declared.choice.Choice.{Choice}
 use Rattle.sect_wait.specs.Placing.{IsBest, OthersTried}
 use Rattle.sect_wait.proofs.NextLemmas.{best-stays, best-found, best-unplaced, tried-behind, tried-found, tried-unplaced, tried-unsought, unsought-unplaced}
+use Rattle.sect_wait.proofs.CountLemmas.{again-one}
 use Rattle.sect_wait.proofs.next.better.Goals as goal
 
 pub returns-then-is_behind-clause-best : goal.returns-then-is_behind-clause-best
@@ -42,3 +43,11 @@ returns-in-Some-clause-others g c = λ before b.
 pub returns-in-None-clause-others : goal.returns-in-None-clause-others
 returns-in-None-clause-others g c = λ before b.
     tried-unplaced c.args.world.now.world before c.args.entry.now c.args.marks.now.spent c.args.best.now c.args.left.now c.placement.new.left c.placement.ensures.kept c.in_ok-choice.ensures.others b
+
+pub returns-in-Some-clause-again : goal.returns-in-Some-clause-again
+returns-in-Some-clause-again g c =
+    again-one c.args.marks.now c.args.opened.now c.args.entry.now c.args.left.now.again.items c.placement.new.left.again.items (sym c.seeks.ensures ∙ c.if-not-seeks.false) c.in_ok-choice.ensures.again
+
+pub returns-in-None-clause-again : goal.returns-in-None-clause-again
+returns-in-None-clause-again g c =
+    again-one c.args.marks.now c.args.opened.now c.args.entry.now c.args.left.now.again.items c.placement.new.left.again.items (sym c.seeks.ensures ∙ c.if-not-seeks.false) c.in_ok-choice.ensures.again

@@ -4,7 +4,9 @@ use Rattle.sect_space.proofs.Steps.{since-both}
 use Rattle.sect_wait.specs.Placing.{OthersAfter, placed_of}
 use Rattle.sect_wait.specs.Queued.{state_of}
 use Rattle.sect_wait.proofs.PlacingLemmas.{best-fits}
-use Rattle.sect_wait.proofs.SettlingLemmas.{best-of, shorter, settling-more, settling-done, settling-counted}
+use Rattle.sect_wait.proofs.SettlingLemmas.{best-of, shorter, settling-more, settling-done}
+use Rattle.sect_wait.specs.Touched.{count_touched}
+use Rattle.sect_wait.proofs.TouchedLemmas.{counting-done, counting-more}
 use Rattle.sect_wait.proofs.UndoLemmas.{since-joins}
 use Rattle.sect_wait.proofs.settling.place_all.Goals as goal
 
@@ -43,22 +45,25 @@ rounds-preserved g c =
     let q = c.rounds.queue.queue in
     let d = c.in-Some.candidate in
     let more : c.push.new.self.items ≡ c.rounds.placed.items ++ placed_of d ∷ [] = c.in_ok-push-in-Some.ensures.items ∙ ap (λ p. c.rounds.placed.items ++ p ∷ []) c.placed_of.ensures in (
-      settling-more c.args.world.now.world c.args.queue.now.queue c.args.steps.now w q c.rounds.placed.items c.rounds.steps d c.place.new.world.world c.place.new.queue.queue c.push.new.self.items c.next.new.steps
+      settling-more c.args.world.now.world c.args.queue.now.queue w q c.rounds.placed.items d c.place.new.world.world c.place.new.queue.queue c.push.new.self.items
           c.rounds.invariant.0 (best-of w q.entries c.in_ok-candidate.field-0 (Some d) c.in-Some.is c.in_ok-candidate.ensures.best)
-          c.in_ok-place-in-Some.ensures.world c.in_ok-place-in-Some.ensures.queue more
-          c.in_ok-candidate.ensures.steps,
+          c.in_ok-place-in-Some.ensures.world c.in_ok-place-in-Some.ensures.queue more,
       since-both c.args.world.now.world w c.place.new.world.world c.args.undo.now.backs c.rounds.undo.backs c.place.new.undo.backs c.rounds.invariant.1 c.place.ensures.since,
       since-joins c.args.queue.now.queue q c.place.new.queue.queue c.args.left.now c.rounds.left c.place.new.left c.rounds.invariant.2 c.place.ensures.queue_since,
       c.place.ensures.undoable,
       c.place.ensures.queue_undoable,
       c.in_ok-place-in-Some.ensures.others,
+      counting-more c.args.world.now.world c.args.queue.now.queue c.args.marks.now c.args.opened.now.courses.items c.args.steps.now w q c.rounds.marks c.rounds.opened.courses.items c.rounds.placed.items c.rounds.steps c.rounds.invariant.6
+          c.shut.new.marks c.shut.new.opened c.next.new.steps c.in_ok-shut.ensures.only c.in_ok-candidate.ensures.steps d
+          (best-of w q.entries c.in_ok-candidate.field-0 (Some d) c.in-Some.is c.in_ok-candidate.ensures.best) c.place.new.marks c.place.new.opened.courses.items c.next.new.marks c.in_ok-candidate.ensures.only
+          c.in_ok-place-in-Some.ensures.only c.place.new.world.world c.place.new.queue.queue c.push.new.self.items c.in_ok-place-in-Some.ensures.world c.in_ok-place-in-Some.ensures.queue more,
     )
 
 pub returns-in-None-clause-settled : goal.returns-in-None-clause-settled
 returns-in-None-clause-settled g c =
     let w = c.rounds.world.world in
     let q = c.rounds.queue.queue in
-    settling-done c.args.world.now.world c.args.queue.now.queue c.args.steps.now w q c.rounds.placed.items c.rounds.steps c.next.new.steps c.rounds.invariant.0
+    settling-done c.args.world.now.world c.args.queue.now.queue w q c.rounds.placed.items c.rounds.invariant.0
     (best-of w q.entries c.in_ok-candidate.field-0 None c.in-None.is c.in_ok-candidate.ensures.best)
     ∙ ap (λ ps. record { state = state_of w q; placed = ps }) (sym c.from_vec.ensures)
 
@@ -66,13 +71,12 @@ pub returns-in-None-clause-steps : goal.returns-in-None-clause-steps
 returns-in-None-clause-steps g c =
     let w = c.rounds.world.world in
     let q = c.rounds.queue.queue in
-    subst (λ ps. c.next.new.steps ≤ c.args.steps.now + (length ps + 1) * length c.args.queue.now.queue.entries) (sym c.from_vec.ensures)
-    (settling-counted c.args.world.now.world c.args.queue.now.queue c.args.steps.now w q c.rounds.placed.items c.rounds.steps c.next.new.steps c.rounds.invariant.0
-    (best-of w q.entries c.in_ok-candidate.field-0 None c.in-None.is c.in_ok-candidate.ensures.best)
-    c.in_ok-candidate.ensures.steps)
+    subst (λ ps. c.next.new.steps ≤ c.args.steps.now + (length ps + 1) * count_touched c.args.world.now.world c.args.queue.now.queue.entries c.args.marks.now c.args.opened.now.courses.items ps) (sym c.from_vec.ensures)
+    (counting-done c.args.world.now.world c.args.queue.now.queue c.args.marks.now c.args.opened.now.courses.items c.args.steps.now w q c.rounds.marks c.rounds.opened.courses.items c.rounds.placed.items c.rounds.steps c.rounds.invariant.6
+    c.shut.new.marks c.shut.new.opened c.next.new.steps c.in_ok-shut.ensures.only c.in_ok-candidate.ensures.steps)
 
 pub next-requires-clause-others : goal.next-requires-clause-others
-next-requires-clause-others g c = c.in_ok-shut.ensures c.rounds.invariant.5
+next-requires-clause-others g c = c.in_ok-shut.ensures.others c.rounds.invariant.5
 
 pub place-requires-clause-others : goal.place-requires-clause-others
 place-requires-clause-others g c =

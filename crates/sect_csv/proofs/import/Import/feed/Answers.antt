@@ -27,7 +27,7 @@ invariant_of-self-2 c =
     let rows = map fields_of c.in-Ok.rows.items in
     let well : s.fault ≡ None = search rules in
     let going : s.ended ≡ false = search rules in
-    let step = fed_step s c.feed.new.self c.args.piece.now rows c.self.invariant going well (search rules) (search rules) in
+    let step = fed_step s c.reuse.new.self c.args.piece.now rows c.self.invariant going well (search rules) (search rules) in
     let read : c.take_rows.new.reading ≡ (rows_read s.reading rows).0 = search rules in
     let reads = read ∙ sym (ap (λ (t : Step). t.0) step) in
     record { whole = λ _. c.self.invariant.whole well; reads = λ _ _. reads; counts = c.rows-self-inside.ensures ∙ ap (λ (p : Progress). p.rows) reads; opened = c.open_row-self-inside.ensures ∙ ap (λ (p : Progress). p.open_row) reads }
@@ -39,14 +39,14 @@ returns-clause-after c =
     let rows = map fields_of c.in-Ok.rows.items in
     let well : s.fault ≡ None = search rules in
     let going : s.ended ≡ false = search rules in
-    let longer : c.feed.new.self ≡ s.records ++ piece = search rules in
-    let step = fed_step s c.feed.new.self piece rows c.self.invariant going well longer (search rules) in
+    let longer : c.reuse.new.self ≡ s.records ++ piece = search rules in
+    let step = fed_step s c.reuse.new.self piece rows c.self.invariant going well longer (search rules) in
     let read : c.take_rows.new.reading ≡ (rows_read s.reading rows).0 = search rules in
     let reads = read ∙ sym (ap (λ (t : Step). t.0) step) in
     let old_bytes = whole_bytes s.records s.unread (c.self.invariant.whole well) in
-    let new_bytes = whole_bytes c.feed.new.self s.unread (c.self.invariant.whole well) in
-    let bytes : take (length c.feed.new.self - s.unread) c.feed.new.self ≡ take (length s.records - s.unread) s.records ++ piece = cc in
-    let fed = after_fed (intake_of s) piece (take (length c.feed.new.self - s.unread) c.feed.new.self) c.take_rows.new.reading going well bytes reads in
+    let new_bytes = whole_bytes c.reuse.new.self s.unread (c.self.invariant.whole well) in
+    let bytes : take (length c.reuse.new.self - s.unread) c.reuse.new.self ≡ take (length s.records - s.unread) s.records ++ piece = cc in
+    let fed = after_fed (intake_of s) piece (take (length c.reuse.new.self - s.unread) c.reuse.new.self) c.take_rows.new.reading going well bytes reads in
     rw (← c.self.view_is, c.answer-2.ensures, c.fault-self-inside.ensures) fed
 
 pub returns-clause-given : goal.returns-clause-given
@@ -55,6 +55,6 @@ returns-clause-given c =
     let rows = map fields_of c.in-Ok.rows.items in
     let well : s.fault ≡ None = search rules in
     let going : s.ended ≡ false = search rules in
-    let step = fed_step s c.feed.new.self c.args.piece.now rows c.self.invariant going well (search rules) (search rules) in
+    let step = fed_step s c.reuse.new.self c.args.piece.now rows c.self.invariant going well (search rules) (search rules) in
     let given : c.take_rows.new.out.items ≡ c.args.out.now.items ++ (rows_read s.reading rows).1 = search rules in
     rw (← c.self.view_is) record { given = (rows_read s.reading rows).1; appended = given; new_ones = ap (λ (t : Step). t.1) step }

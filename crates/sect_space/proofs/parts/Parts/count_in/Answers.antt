@@ -3,7 +3,7 @@ use Rattle.std.proofs.Common.{sym}
 use Rattle.sect_numbers.specs.OneMore.{with_roster}
 use Rattle.sect_weeks.proofs.ToldLemmas.{enrolled-is-told}
 use Rattle.sect_space.specs.Parts.{roomed_of}
-use Rattle.sect_space.proofs.WeekLemmas.{known-in}
+use Rattle.sect_space.proofs.WeekLemmas.{known-in, credits-few}
 use Rattle.sect_space.proofs.parts.Parts.count_in.Goals as goal
 
 pub enrolled-requires : goal.enrolled-requires
@@ -22,7 +22,10 @@ pub enrolled-requires-2 : goal.enrolled-requires-2
 enrolled-requires-2 c =
     let w = (roomed_of c.args.self.now).world in
     let b = c.requires in
-    b.weeks.students c.args.enrolment.now.student (known-in w b.less c.args.enrolment.now b.is_more b.kept)
+    record {
+      row = b.weeks.students c.args.enrolment.now.student (known-in w b.less c.args.enrolment.now b.is_more b.kept);
+      few = credits-few c.args.weeks.now w b.less c.args.enrolment.now b.is_more b.kept b.weeks c.args.enrolment.now.student;
+    }
 
 pub returns-clause-weeks : goal.returns-clause-weeks
 returns-clause-weeks c =

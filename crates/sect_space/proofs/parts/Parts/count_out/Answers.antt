@@ -1,10 +1,11 @@
 -- one enrolment less than before
-use Rattle.std.proofs.Common.{sym, subst}
+use Rattle.std.proofs.Common.{sym, ap, subst, ◌≤◌, length}
+use Rattle.std.specs.Prelude.{◌==◌}
 use Rattle.sect_numbers.specs.OneMore.{with_roster}
 use Rattle.sect_weeks.specs.Enrolled.{TakesAnew}
 use Rattle.sect_weeks.proofs.ToldLemmas.{left-is-told}
 use Rattle.sect_space.specs.Parts.{roomed_of}
-use Rattle.sect_space.proofs.WeekLemmas.{known-in}
+use Rattle.sect_space.proofs.WeekLemmas.{known-in, part-few}
 use Rattle.sect_space.proofs.parts.Parts.count_out.Goals as goal
 
 pub left-requires : goal.left-requires
@@ -23,7 +24,12 @@ pub left-requires-2 : goal.left-requires-2
 left-requires-2 c =
     let w = (roomed_of c.args.self.now).world in
     let a = c.requires in
-    a.weeks.students c.args.enrolment.now.student (known-in (with_roster w a.more) w.roster c.args.enrolment.now a.is_more a.kept)
+    record {
+      row = a.weeks.students c.args.enrolment.now.student (known-in (with_roster w a.more) w.roster c.args.enrolment.now a.is_more a.kept);
+      few =
+          subst (λ n. n ≤ 1000000000) (sym (ap length c.of_student-held.ensures))
+          (part-few (with_roster w a.more) w.roster c.args.enrolment.now a.is_more a.kept (λ x. x.student.0 == c.args.enrolment.now.student.0));
+    }
 
 pub returns-clause-weeks : goal.returns-clause-weeks
 returns-clause-weeks c =

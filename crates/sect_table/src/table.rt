@@ -1,0 +1,65 @@
+// Values by numbers.
+
+ghost use Rattle.std.specs.Prelude.{◌≡◌, ℕ, ◌==◌, cond, None, Some, nat_eq, OnOk, OnErr};
+ghost use Rattle.std.specs.HashMap.{get};
+ghost use Rattle.sect_table.specs.Table.{value_at, Puts, Stays};
+
+use crate::slots;
+use sect_base::Memory;
+use std::alloc::Global;
+use std::collections::HashMap;
+
+/// Values by numbers. A number has a slot where it is small beside how many there are, so that a table takes no more than a
+/// few slots for each value; the values of the others stand in a map.
+#[derive(Drop)]
+pub struct Table<V> {
+    slots: Vec<Option<V>>,
+    others: HashMap<u32, V>,
+    bound: usize,
+}
+
+impl<V: Copy> Table<V> {
+    /// No values. It takes no memory.
+    #[tactic(auto, unfolding(crate::specs::Table::value_at))]
+    pub fn empty(alloc: Global) -> Table<V>
+        ensures { (n : ℕ) → value_at result n ≡ None }
+    {
+        Table {
+            slots: Vec::new(alloc),
+            others: HashMap::new(alloc),
+            bound: slots::FEW,
+        }
+    }
+
+    /// The value of a number. It takes no memory.
+    #[tactic(auto, unfolding(crate::specs::Table::value_at))]
+    pub fn get(&self, number: u32) -> Option<V>
+        ensures { result ≡ value_at self.now number }
+    {
+        match slots::get(self.slots.as_slice(), number as usize) {
+            Some(value) => Some(value),
+            None => self.other(number),
+        }
+    }
+
+    fn other(&self, number: u32) -> Option<V>
+        ensures { result ≡ get nat_eq self.now.others number }
+    {
+        self.others.get(&number).copied()
+    }
+
+    /// Gives a number this value. Where memory runs out, each keeps what it had.
+    #[tactic(auto, unfolding(crate::specs::Table::value_at))]
+    pub fn put(&mut self, number: u32, value: V) -> Result<(), Memory>
+        ensures ok { OnOk result (Puts self.old self.new number value) }
+        ensures err { OnErr result (Stays self.old self.new) }
+    {
+        if slots::put(&mut self.slots, self.bound, number as usize, value)? {
+            self.bound = slots::bound_after(self.bound);
+            return Ok(());
+        }
+        self.others.insert(number, value)?;
+        self.bound = slots::bound_after(self.bound);
+        Ok(())
+    }
+}
