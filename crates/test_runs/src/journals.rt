@@ -1,11 +1,11 @@
 // Runs over a journal.
 
+use crate::{RUN, run_over, script_of};
 use sect_app::Status;
 use sect_journal::{Journal, MemDisk};
 use std::alloc::{AllocGlobal, Global};
 use std::sync::Wait;
 use std::thread::Threads;
-use test_runs::{RUN, run_over, script_of};
 
 /// A journal without rows, on a disk whose call with this number, from 1, fails. None where the call is needed to make
 /// it, or memory is wanted.
