@@ -1,6 +1,7 @@
 // Scripts over a machine: each line acts, is taken back and acts again.
 
 mod acting;
+mod counting;
 mod judging;
 mod looking;
 mod many;
@@ -9,6 +10,7 @@ mod shown;
 mod surveying;
 
 use acting::answer;
+use counting::count;
 use judging::judge;
 use looking::look;
 use many::ask_each;
@@ -52,7 +54,7 @@ impl Script {
         }
         let request = self.request.as_str();
         tell(rt, alloc, &mut self.machine, request, text, &mut into)?;
-        if !text.starts_with(['+', '?', '=']) {
+        if !text.starts_with(['+', '?', '=', '%']) {
             self.request = line;
         }
         Ok(into)
@@ -73,6 +75,9 @@ fn tell(
     }
     if let Some(words) = text.strip_prefix("+ ") {
         return ask_each(alloc, machine, words, into);
+    }
+    if let Some(line) = text.strip_prefix("% ") {
+        return count(alloc, machine, line, into);
     }
     if let Some(tree) = text.strip_prefix("? ") {
         return judge(alloc, machine, request, tree, into);

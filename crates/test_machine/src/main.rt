@@ -3,8 +3,9 @@
 //!
 //! Over the machine, each line acts, is taken back and acts again, and the output has the text of its reply; in a line
 //! `{ITEM*COUNT}` is the item so many times. A line that begins with `#` begins a new machine, one with `+ FIRST..END ` is asked
-//! with each of these numbers in place of `#`, and is answered with how many were amended, and one that begins with `?` has a
-//! tree that is held against the request before it. One that begins with `=` asks for a report; `= plan STUDENT BUDGET` asks
+//! with each of these numbers in place of `#`, as are others behind ` | `, and is answered with how many were amended, one that
+//! begins with `%` acts and tells how many searches that took, and one that begins with `?` has a tree that is held against
+//! the request before it. One that begins with `=` asks for a report; `= plan STUDENT BUDGET` asks
 //! for the best whole schedule of a student, `= survey` for the survey, and `= made N` for a count of the lines of the survey
 //! of a machine of which the commands for N offerings were asked.
 //!
