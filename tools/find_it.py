@@ -30,7 +30,7 @@ BODIES = 'test_machine/stdin: '
 DATA = 'test_data/src/tests/'
 TABLES = 'Tables: `import` and `export`'
 OVER_HTTP = 'Answers over HTTP'
-HTTP_TESTS = 'test_http/src/tests/'
+HTTP_TESTS = 'test_runs/src/tests/connections/'
 STATUS = 'sect_app/specs/Status.antt: '
 ENDS = 'sect_script/specs/Statuses.antt: '
 
