@@ -1,7 +1,8 @@
 // How runs end: words, bad input, faults, openings, audits, and what is made.
 
+use super::check_ends;
 use super::found::{BEFORE_THE_FIRST, FIRST_RUN};
-use crate::{Case, RUN, ends};
+use crate::{Case, RUN};
 use sect_app::Status;
 use std::test::Fail;
 
@@ -16,8 +17,6 @@ pub const WRONG_ROWS: &str =
     "2025-09-01 r1 1 offering 1 course 1 - 3 config 1 - subpart 1 section 7 1 - - = amended
 2025-09-01 r1 2 student 11 max 18 = amended
 2025-09-01 r1 3 student 12 max 18 = refused NotYours";
-
-const NO_INPUT: Case<'static> = RUN;
 
 const BAD_LINE: Case<'static> = Case {
     script: &["r1 1 student 11 max 18 => 0 amended", "s11 x enrol 11 1"],
@@ -117,92 +116,26 @@ const MADE: Case<'static> = Case {
     ..RUN
 };
 
-#[test]
-fn nothing_is_read(rt: HostRuntime) -> Result<(), Fail> {
-    assert!(rt; ends(&rt, &NO_INPUT)?);
-    Ok(())
-}
+/// The ends, each with what it shows.
+const ENDS: &[(&str, Case<'static>)] = &[
+    ("nothing is read", RUN),
+    ("a bad line", BAD_LINE),
+    ("an unknown verb", UNKNOWN_VERB),
+    ("lines with no answer", COMMENTS),
+    ("a byte at a time", BYTES),
+    ("a word too many", EXTRA_WORD),
+    ("more than are made", TOO_MANY_MADE),
+    ("a read that fails", READ_FAULT),
+    ("a write that fails", WRITE_FAULT),
+    ("an append that fails", KEEPER_FAULT),
+    ("a row with another reply", WRONG_REPLY),
+    ("rows that go on", REOPENED),
+    ("an audit", AUDIT),
+    ("an audit of nothing", EMPTY_AUDIT),
+    ("what is made", MADE),
+];
 
 #[test]
-fn a_bad_line(rt: HostRuntime) -> Result<(), Fail> {
-    assert!(rt; ends(&rt, &BAD_LINE)?);
-    Ok(())
-}
-
-#[test]
-fn an_unknown_verb(rt: HostRuntime) -> Result<(), Fail> {
-    assert!(rt; ends(&rt, &UNKNOWN_VERB)?);
-    Ok(())
-}
-
-#[test]
-fn lines_with_no_answer(rt: HostRuntime) -> Result<(), Fail> {
-    assert!(rt; ends(&rt, &COMMENTS)?);
-    Ok(())
-}
-
-#[test]
-fn a_byte_at_a_time(rt: HostRuntime) -> Result<(), Fail> {
-    assert!(rt; ends(&rt, &BYTES)?);
-    Ok(())
-}
-
-#[test]
-fn a_word_too_many(rt: HostRuntime) -> Result<(), Fail> {
-    assert!(rt; ends(&rt, &EXTRA_WORD)?);
-    Ok(())
-}
-
-#[test]
-fn more_than_are_made(rt: HostRuntime) -> Result<(), Fail> {
-    assert!(rt; ends(&rt, &TOO_MANY_MADE)?);
-    Ok(())
-}
-
-#[test]
-fn a_read_that_fails(rt: HostRuntime) -> Result<(), Fail> {
-    assert!(rt; ends(&rt, &READ_FAULT)?);
-    Ok(())
-}
-
-#[test]
-fn a_write_that_fails(rt: HostRuntime) -> Result<(), Fail> {
-    assert!(rt; ends(&rt, &WRITE_FAULT)?);
-    Ok(())
-}
-
-#[test]
-fn an_append_that_fails(rt: HostRuntime) -> Result<(), Fail> {
-    assert!(rt; ends(&rt, &KEEPER_FAULT)?);
-    Ok(())
-}
-
-#[test]
-fn a_row_with_another_reply(rt: HostRuntime) -> Result<(), Fail> {
-    assert!(rt; ends(&rt, &WRONG_REPLY)?);
-    Ok(())
-}
-
-#[test]
-fn rows_that_go_on(rt: HostRuntime) -> Result<(), Fail> {
-    assert!(rt; ends(&rt, &REOPENED)?);
-    Ok(())
-}
-
-#[test]
-fn an_audit(rt: HostRuntime) -> Result<(), Fail> {
-    assert!(rt; ends(&rt, &AUDIT)?);
-    Ok(())
-}
-
-#[test]
-fn an_audit_of_nothing(rt: HostRuntime) -> Result<(), Fail> {
-    assert!(rt; ends(&rt, &EMPTY_AUDIT)?);
-    Ok(())
-}
-
-#[test]
-fn what_is_made(rt: HostRuntime) -> Result<(), Fail> {
-    assert!(rt; ends(&rt, &MADE)?);
-    Ok(())
+fn desks_end(rt: HostRuntime) -> Result<(), Fail> {
+    check_ends(&rt, ENDS)
 }

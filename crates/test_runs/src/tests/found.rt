@@ -1,6 +1,6 @@
 // Places that are found, full, given back and waited for.
 
-use crate::{answers, is_told};
+use super::check_answers;
 use std::test::Fail;
 
 /// One place, and who has it.
@@ -11,10 +11,10 @@ r1 3 student 12 max 18 => 2 amended
 s11 1 enrol 11 1 => 3 enrolled 1/-/1/7";
 
 /// Four decisions and one leaf.
-const FULL: &str = "s12 1 enrol 12 1 => 4 blocked 4 [[[[16:7]]]]";
+pub const FULL: &str = "s12 1 enrol 12 1 => 4 blocked 4 [[[[16:7]]]]";
 
 /// A budget of one decision too few, and one that is enough.
-const BOUNDARY: &str = "s12 2 enrol 12 1 budget 3 => 5 spent 3
+pub const BOUNDARY: &str = "s12 2 enrol 12 1 budget 3 => 5 spent 3
 s12 3 enrol 12 1 budget 4 => 6 blocked 4 [[[[16:7]]]]";
 
 /// A repeat is answered as the first time, also where the place is free by now.
@@ -71,102 +71,60 @@ const TWO_TIMES: &str =
 r1 2 student 11 max 18 => 1 amended
 s11 1 enrol 11 2 => 2 enrolled 2/-/2/21";
 
-#[test]
-fn a_first_run(rt: HostRuntime) -> Result<(), Fail> {
-    assert!(rt; answers(&rt, &[FIRST_RUN])?);
-    Ok(())
-}
-
-#[test]
-fn a_full_section(rt: HostRuntime) -> Result<(), Fail> {
-    assert!(rt; answers(&rt, &[FIRST_RUN, FULL])?);
-    Ok(())
-}
-
-#[test]
-fn a_budget_at_its_bound(rt: HostRuntime) -> Result<(), Fail> {
-    assert!(rt; answers(&rt, &[FIRST_RUN, FULL, BOUNDARY])?);
-    Ok(())
-}
-
-#[test]
-fn a_repeat_after_a_drop(rt: HostRuntime) -> Result<(), Fail> {
-    assert!(rt; answers(&rt, &[FIRST_RUN, FULL, BOUNDARY, REPEAT])?);
-    Ok(())
-}
-
-#[test]
-fn a_number_used_again(rt: HostRuntime) -> Result<(), Fail> {
-    assert!(rt; answers(&rt, &[FIRST_RUN, FULL, BOUNDARY, REPEAT, REUSED])?);
-    Ok(())
-}
-
-#[test]
-fn an_audit_of_what_was_blocked(rt: HostRuntime) -> Result<(), Fail> {
-    let text = "entries 7 blocked 2 verified 2 day 2025-09-01\n";
-    assert!(rt; is_told(&rt, &[FIRST_RUN, FULL, BOUNDARY], "audit", text)?);
-    Ok(())
-}
-
-#[test]
-fn a_budget_of_one(rt: HostRuntime) -> Result<(), Fail> {
-    let spent = "s11 1 enrol 11 1 budget 1 => 3 spent 1";
-    assert!(rt; answers(&rt, &[BEFORE_THE_FIRST, spent])?);
-    Ok(())
-}
-
-#[test]
-fn a_budget_of_four(rt: HostRuntime) -> Result<(), Fail> {
-    let enough = "s11 1 enrol 11 1 budget 4 => 3 enrolled 1/-/1/7";
-    assert!(rt; answers(&rt, &[BEFORE_THE_FIRST, enough])?);
-    Ok(())
-}
-
-#[test]
-fn a_swap(rt: HostRuntime) -> Result<(), Fail> {
-    let swapped =
-        "r1 4 offering 4 course 4 - 3 config 4 - subpart 4 section 41 - - M/0945-1040/1-15 => 3 amended
+/// It is swapped for one that overlaps it.
+const SWAPPED: &str =
+    "r1 4 offering 4 course 4 - 3 config 4 - subpart 4 section 41 - - M/0945-1040/1-15 => 3 amended
 s11 2 swap 11 give 2 take 4 => 4 swapped 4/-/4/41
 s11 3 drop 11 2 => 5 refused NotEnrolled 2";
-    assert!(rt; answers(&rt, &[TWO_TIMES, swapped])?);
-    Ok(())
-}
 
-#[test]
-fn a_swap_that_is_blocked(rt: HostRuntime) -> Result<(), Fail> {
-    let blocked =
-        "r1 4 offering 4 course 4 - 3 config 4 - subpart 4 section 41 0 - M/0945-1040/1-15 => 3 amended
+/// The one that it would be swapped for is full.
+const BLOCKED: &str =
+    "r1 4 offering 4 course 4 - 3 config 4 - subpart 4 section 41 0 - M/0945-1040/1-15 => 3 amended
 s11 2 swap 11 give 2 take 4 => 4 blocked 4 [[[[16:41]]]]
 s11 3 drop 11 2 => 5 dropped 2";
-    assert!(rt; answers(&rt, &[TWO_TIMES, blocked])?);
-    Ok(())
-}
 
-#[test]
-fn a_chain_of_who_waits(rt: HostRuntime) -> Result<(), Fail> {
-    assert!(rt; answers(&rt, &[CHAIN])?);
-    Ok(())
-}
-
-#[test]
-fn who_waits_in_order(rt: HostRuntime) -> Result<(), Fail> {
-    assert!(rt; answers(&rt, &[FIRST_RUN, IN_ORDER])?);
-    Ok(())
-}
-
-#[test]
-fn a_batch(rt: HostRuntime) -> Result<(), Fail> {
-    let batch = "r1 5 requests 11 course 1 course 9 substitute => 5 amended
+/// The substitute is met.
+const SUBSTITUTED: &str = "r1 5 requests 11 course 1 course 9 substitute => 5 amended
 r1 6 batch 11 => 6 batched 11.1 blocked 4 [[[[16:7]]]] 11.2 met 9/-/9/91
 r1 7 batch - => 7 batched";
-    assert!(rt; answers(&rt, &[BATCH, batch])?);
-    Ok(())
-}
+
+/// The first request waits, and the substitute is skipped.
+const SKIPPED: &str = "r1 5 requests 11 course 1 wait course 9 substitute => 5 amended
+r1 6 batch 11 => 6 batched 11.1 waiting 1 11.2 skipped";
+
+/// The runs, each with what it shows.
+const RUNS: &[(&str, &[&str])] = &[
+    ("a first run", &[FIRST_RUN]),
+    ("a full section", &[FIRST_RUN, FULL]),
+    ("a budget at its bound", &[FIRST_RUN, FULL, BOUNDARY]),
+    (
+        "a repeat after a drop",
+        &[FIRST_RUN, FULL, BOUNDARY, REPEAT],
+    ),
+    (
+        "a number used again",
+        &[FIRST_RUN, FULL, BOUNDARY, REPEAT, REUSED],
+    ),
+    (
+        "a budget of one",
+        &[BEFORE_THE_FIRST, "s11 1 enrol 11 1 budget 1 => 3 spent 1"],
+    ),
+    (
+        "a budget of four",
+        &[
+            BEFORE_THE_FIRST,
+            "s11 1 enrol 11 1 budget 4 => 3 enrolled 1/-/1/7",
+        ],
+    ),
+    ("a swap", &[TWO_TIMES, SWAPPED]),
+    ("a swap that is blocked", &[TWO_TIMES, BLOCKED]),
+    ("a chain of who waits", &[CHAIN]),
+    ("who waits in order", &[FIRST_RUN, IN_ORDER]),
+    ("a batch", &[BATCH, SUBSTITUTED]),
+    ("a batch that waits", &[BATCH, SKIPPED]),
+];
 
 #[test]
-fn a_batch_that_waits(rt: HostRuntime) -> Result<(), Fail> {
-    let batch = "r1 5 requests 11 course 1 wait course 9 substitute => 5 amended
-r1 6 batch 11 => 6 batched 11.1 waiting 1 11.2 skipped";
-    assert!(rt; answers(&rt, &[BATCH, batch])?);
-    Ok(())
+fn runs_answer(rt: HostRuntime) -> Result<(), Fail> {
+    check_answers(&rt, RUNS)
 }

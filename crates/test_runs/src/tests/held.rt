@@ -1,7 +1,7 @@
 // Reservations, limits and permissions.
 
+use super::check_answers;
 use super::found::FIRST_RUN;
-use crate::answers;
 use std::test::Fail;
 
 /// Two places, one of them reserved for the group of student 13.
@@ -51,46 +51,24 @@ const CREDITS: &str =
 r1 2 student 16 max 2 => 1 amended
 s16 1 enrol 16 1 => 2 blocked 1 [2:3]";
 
-#[test]
-fn a_reserved_place(rt: HostRuntime) -> Result<(), Fail> {
-    let taken = "s13 1 enrol 13 6 => 7 enrolled 6/1/6/61";
-    assert!(rt; answers(&rt, &[RESERVED, taken])?);
-    Ok(())
-}
+/// The runs, each with what it shows.
+const RUNS: &[(&str, &[&str])] = &[
+    (
+        "a reserved place",
+        &[RESERVED, "s13 1 enrol 13 6 => 7 enrolled 6/1/6/61"],
+    ),
+    ("an expiry", &[RESERVED, EXPIRED]),
+    ("over a limit", &[FIRST_RUN, OVER]),
+    ("an overlap that is permitted", &[OVERLAP]),
+    ("a restriction", &[RESTRICTED]),
+    ("credits above the most", &[CREDITS]),
+    (
+        "a most below the credits",
+        &[FIRST_RUN, "r1 4 student 11 max 2 => 4 refused LimitBelow 3"],
+    ),
+];
 
 #[test]
-fn an_expiry(rt: HostRuntime) -> Result<(), Fail> {
-    assert!(rt; answers(&rt, &[RESERVED, EXPIRED])?);
-    Ok(())
-}
-
-#[test]
-fn over_a_limit(rt: HostRuntime) -> Result<(), Fail> {
-    assert!(rt; answers(&rt, &[FIRST_RUN, OVER])?);
-    Ok(())
-}
-
-#[test]
-fn an_overlap_that_is_permitted(rt: HostRuntime) -> Result<(), Fail> {
-    assert!(rt; answers(&rt, &[OVERLAP])?);
-    Ok(())
-}
-
-#[test]
-fn a_restriction(rt: HostRuntime) -> Result<(), Fail> {
-    assert!(rt; answers(&rt, &[RESTRICTED])?);
-    Ok(())
-}
-
-#[test]
-fn credits_above_the_most(rt: HostRuntime) -> Result<(), Fail> {
-    assert!(rt; answers(&rt, &[CREDITS])?);
-    Ok(())
-}
-
-#[test]
-fn a_most_below_the_credits(rt: HostRuntime) -> Result<(), Fail> {
-    let below = "r1 4 student 11 max 2 => 4 refused LimitBelow 3";
-    assert!(rt; answers(&rt, &[FIRST_RUN, below])?);
-    Ok(())
+fn what_is_held_answers(rt: HostRuntime) -> Result<(), Fail> {
+    check_answers(&rt, RUNS)
 }

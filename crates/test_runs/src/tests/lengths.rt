@@ -21,41 +21,44 @@ fn ends_so<R: AllocGlobal + Threads + Wait + Sync>(
     Ok(ended.status == status && ended.sink.bytes() == output.as_bytes())
 }
 
-/// Whether the comment is passed over, and the request behind it answered.
-fn is_read<R: AllocGlobal + Threads + Wait + Sync>(
-    rt: &R,
-    line: (usize, &str, usize),
-) -> Result<bool, Memory> {
-    ends_so(rt, line, Status::Done, "0 amended\n")
-}
+/// The first line is no line.
+const BAD: Status = Status::BadLine { line: 1, field: 0 };
 
-/// Whether the comment is too long.
-fn is_too_long<R: AllocGlobal + Threads + Wait + Sync>(
-    rt: &R,
-    line: (usize, &str, usize),
-) -> Result<bool, Memory> {
-    ends_so(rt, line, Status::BadLine { line: 1, field: 0 }, "")
-}
-
-/// 65,536 bytes before the line feed, the last of which may be a carriage return. A piece ends before the carriage return, before
+/// Comments of so many bytes, each with what is behind it and the most bytes that a read gives: 65,536 bytes before the line feed,
+/// the last of which may be a carriage return. A piece ends before the carriage return, before
 /// the line feed, or at neither.
+const LONGEST: &[(usize, &str, usize)] = &[
+    (65_536, "\nr1 1 student 11 max 18\n", 8_192),
+    (65_536, "\nr1 1 student 11 max 18\n", 1_000),
+    (65_535, "\r\nr1 1 student 11 max 18\n", 8_192),
+    (65_535, "\r\nr1 1 student 11 max 18\n", 4_369),
+];
+
+/// One byte more.
+const TOO_LONG: &[(usize, &str, usize)] = &[
+    (65_537, "\nr1 1 student 11 max 18\n", 8_192),
+    (65_537, "\nr1 1 student 11 max 18\n", 1_000),
+    (65_536, "\r\nr1 1 student 11 max 18\n", 8_192),
+    (65_536, "\r\nr1 1 student 11 max 18\n", 4_369),
+    (65_537, "", 8_192),
+];
+
 #[test]
 fn the_longest_lines(rt: HostRuntime) -> Result<(), Fail> {
-    assert!(rt; is_read(&rt, (65_536, "\nr1 1 student 11 max 18\n", 8_192))?);
-    assert!(rt; is_read(&rt, (65_536, "\nr1 1 student 11 max 18\n", 1_000))?);
-    assert!(rt; is_read(&rt, (65_535, "\r\nr1 1 student 11 max 18\n", 8_192))?);
-    assert!(rt; is_read(&rt, (65_535, "\r\nr1 1 student 11 max 18\n", 4_369))?);
-    assert!(rt; ends_so(&rt, (65_536, "", 8_192), Status::Done, "")?);
+    for (bytes, behind, piece) in LONGEST {
+        let is_read = ends_so(&rt, (*bytes, behind, *piece), Status::Done, "0 amended\n")?;
+        assert!(rt; is_read, "{bytes} bytes, {piece} a read");
+    }
+    let is_passed_over = ends_so(&rt, (65_536, "", 8_192), Status::Done, "")?;
+    assert!(rt; is_passed_over);
     Ok(())
 }
 
-/// One byte more.
 #[test]
 fn lines_of_a_byte_too_many(rt: HostRuntime) -> Result<(), Fail> {
-    assert!(rt; is_too_long(&rt, (65_537, "\nr1 1 student 11 max 18\n", 8_192))?);
-    assert!(rt; is_too_long(&rt, (65_537, "\nr1 1 student 11 max 18\n", 1_000))?);
-    assert!(rt; is_too_long(&rt, (65_536, "\r\nr1 1 student 11 max 18\n", 8_192))?);
-    assert!(rt; is_too_long(&rt, (65_536, "\r\nr1 1 student 11 max 18\n", 4_369))?);
-    assert!(rt; is_too_long(&rt, (65_537, "", 8_192))?);
+    for (bytes, behind, piece) in TOO_LONG {
+        let is_refused = ends_so(&rt, (*bytes, behind, *piece), BAD, "")?;
+        assert!(rt; is_refused, "{bytes} bytes, {piece} a read");
+    }
     Ok(())
 }

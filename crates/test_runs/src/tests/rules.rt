@@ -1,7 +1,7 @@
 // Times, sections with parents, and what is refused.
 
+use super::check_answers;
 use super::found::FIRST_RUN;
-use crate::answers;
 use std::test::Fail;
 
 /// Meetings that touch, and one that overlaps two: the smaller id is named.
@@ -58,38 +58,17 @@ r1 5 requests 11 course 1+1 => 13 refused Row request Twice 1
 r1 6 reserve 9 1 course:8 - - => 14 refused Row reserve Foreign 8
 s11 13 enrol 11 1 => 15 blocked 1 [1:1]";
 
-#[test]
-fn touching_and_overlapping(rt: HostRuntime) -> Result<(), Fail> {
-    assert!(rt; answers(&rt, &[TOUCHING])?);
-    Ok(())
-}
+/// The runs, each with what it shows.
+const RUNS: &[(&str, &[&str])] = &[
+    ("touching and overlapping", &[TOUCHING]),
+    ("parents", &[PARENTS]),
+    ("parents whose children are full", &[FULL_CHILDREN]),
+    ("a free time", &[FREE_TIME]),
+    ("an ordinary course", &[ORDINARY]),
+    ("refusals", &[FIRST_RUN, REFUSED]),
+];
 
 #[test]
-fn parents(rt: HostRuntime) -> Result<(), Fail> {
-    assert!(rt; answers(&rt, &[PARENTS])?);
-    Ok(())
-}
-
-#[test]
-fn parents_whose_children_are_full(rt: HostRuntime) -> Result<(), Fail> {
-    assert!(rt; answers(&rt, &[FULL_CHILDREN])?);
-    Ok(())
-}
-
-#[test]
-fn a_free_time(rt: HostRuntime) -> Result<(), Fail> {
-    assert!(rt; answers(&rt, &[FREE_TIME])?);
-    Ok(())
-}
-
-#[test]
-fn an_ordinary_course(rt: HostRuntime) -> Result<(), Fail> {
-    assert!(rt; answers(&rt, &[ORDINARY])?);
-    Ok(())
-}
-
-#[test]
-fn refusals(rt: HostRuntime) -> Result<(), Fail> {
-    assert!(rt; answers(&rt, &[FIRST_RUN, REFUSED])?);
-    Ok(())
+fn rules_answer(rt: HostRuntime) -> Result<(), Fail> {
+    check_answers(&rt, RUNS)
 }

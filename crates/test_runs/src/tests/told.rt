@@ -1,14 +1,11 @@
 // What is told of a history: reports, exports and audits.
 
+use super::check_ends;
 use super::ends::{THREE_ROWS, WRONG_ROWS};
-use super::found::FIRST_RUN;
-use crate::{Case, RUN, ends, is_told};
+use super::found::{BOUNDARY, FIRST_RUN, FULL};
+use crate::{Case, RUN, is_told};
 use sect_app::Status;
-use sect_base::Memory;
-use std::alloc::AllocGlobal;
-use std::sync::Wait;
 use std::test::Fail;
-use std::thread::Threads;
 
 /// A student who waits for the place that another has.
 const WAITS: &str = "s12 1 wait 12 1 => 4 waiting 1";
@@ -21,64 +18,56 @@ const SCHEDULE: &str = "student 11 credits 3 max 18\ncourse 1 reservation - conf
 
 const STUDENTS: &str = "student,max_credits,groups,curricula\n11,18,-,-\n12,18,-,-\n";
 
-/// Whether nothing is told by these words where the first write fails, and where the keeper's third row can't stand there.
-fn is_untold<R: AllocGlobal + Threads + Wait + Sync>(rt: &R, words: &str) -> Result<bool, Memory> {
-    let unwritten = Case {
+/// What is told: the parts of the run, the words behind it, and the text.
+const TOLD: &[(&[&str], &str, &str)] = &[
+    (&[FIRST_RUN, WAITS], "report waiting", WAITING),
+    (&[FIRST_RUN], "report roll 7", ROLL),
+    (&[FIRST_RUN], "report schedule 11", SCHEDULE),
+    (&[FIRST_RUN], "export students", STUDENTS),
+    (
+        &[FIRST_RUN, FULL, BOUNDARY],
+        "audit",
+        "entries 7 blocked 2 verified 2 day 2025-09-01\n",
+    ),
+];
+
+/// The words by which nothing is told where the first write fails, and where the keeper's third row can't stand there.
+const UNTOLD: &[&str] = &["report schedule 11", "export students", "audit"];
+
+/// The words over three rows, of which the first write fails.
+fn unwritten(words: &str) -> Case<'_> {
+    Case {
         words,
         rows: THREE_ROWS,
         failing_write: 1,
         status: Status::WriteFault,
         ..RUN
-    };
-    let unopened = Case {
+    }
+}
+
+/// The words over rows of which the third can't stand there.
+fn unopened(words: &str) -> Case<'_> {
+    Case {
         words,
         rows: WRONG_ROWS,
         status: Status::BadEntry(2),
         ..RUN
-    };
-    let as_unwritten = ends(rt, &unwritten)?;
-    let as_unopened = ends(rt, &unopened)?;
-    Ok(as_unwritten && as_unopened)
+    }
 }
 
 #[test]
-fn who_waits(rt: HostRuntime) -> Result<(), Fail> {
-    assert!(rt; is_told(&rt, &[FIRST_RUN, WAITS], "report waiting", WAITING)?);
+fn what_is_told(rt: HostRuntime) -> Result<(), Fail> {
+    for (parts, words, text) in TOLD {
+        let is_as_said = is_told(&rt, parts, words, text)?;
+        assert!(rt; is_as_said, "{words}");
+    }
     Ok(())
 }
 
 #[test]
-fn who_has_a_place(rt: HostRuntime) -> Result<(), Fail> {
-    assert!(rt; is_told(&rt, &[FIRST_RUN], "report roll 7", ROLL)?);
-    Ok(())
-}
-
-#[test]
-fn a_schedule(rt: HostRuntime) -> Result<(), Fail> {
-    assert!(rt; is_told(&rt, &[FIRST_RUN], "report schedule 11", SCHEDULE)?);
-    Ok(())
-}
-
-#[test]
-fn a_table(rt: HostRuntime) -> Result<(), Fail> {
-    assert!(rt; is_told(&rt, &[FIRST_RUN], "export students", STUDENTS)?);
-    Ok(())
-}
-
-#[test]
-fn a_report_that_is_untold(rt: HostRuntime) -> Result<(), Fail> {
-    assert!(rt; is_untold(&rt, "report schedule 11")?);
-    Ok(())
-}
-
-#[test]
-fn an_export_that_is_untold(rt: HostRuntime) -> Result<(), Fail> {
-    assert!(rt; is_untold(&rt, "export students")?);
-    Ok(())
-}
-
-#[test]
-fn an_audit_that_is_untold(rt: HostRuntime) -> Result<(), Fail> {
-    assert!(rt; is_untold(&rt, "audit")?);
+fn what_is_untold(rt: HostRuntime) -> Result<(), Fail> {
+    for words in UNTOLD {
+        check_ends(&rt, &[(words, unwritten(words)), (words, unopened(words))])?;
+    }
     Ok(())
 }
