@@ -7,7 +7,7 @@ use sect_base::{Caller, Chronicle, Id};
 use sect_edge::MemKeeper;
 use sect_once::{Answer, Desk, OpenFault, Seen, Tally};
 use sect_time::Day;
-use std::alloc::{AllocError, Global};
+use std::alloc::Global;
 use std::test::Fail;
 
 /// The id with this number.
@@ -25,8 +25,11 @@ fn desk_of(
     alloc: Global,
     rows: Vec<Vec<u8>>,
     fail: Vec<u64>,
-) -> Result<Desk<Tally, MemKeeper>, (OpenFault, MemKeeper)> {
-    Desk::open(alloc, MemKeeper::new(rows, fail))
+) -> Result<Desk<Tally, MemKeeper>, OpenFault> {
+    match Desk::open(alloc, MemKeeper::new(rows, fail)) {
+        Ok(desk) => Ok(desk),
+        Err((fault, _)) => Err(fault),
+    }
 }
 
 /// Place and reply of an answer that is Done.
@@ -48,41 +51,17 @@ fn ask_ones(desk: &mut Desk<Tally, MemKeeper>, count: u64) -> u64 {
     acted
 }
 
-/// Copies of the rows.
-fn copies(alloc: Global, rows: &[Vec<u8>]) -> Result<Vec<Vec<u8>>, AllocError> {
-    let mut copies = Vec::new(alloc);
-    for row in rows {
-        copies.push(Vec::from_slice(alloc, row)?)?;
+/// The tenth day.
+fn later() -> Day {
+    match Day::new(9) {
+        Some(day) => day,
+        None => unreachable!(),
     }
-    Ok(copies)
 }
 
-/// The row with a byte in place of another.
-fn with_byte(alloc: Global, row: &[u8], place: usize, byte: u8) -> Result<Vec<u8>, AllocError> {
-    let mut copy = Vec::from_slice(alloc, row)?;
-    if let Some(cell) = copy.get_mut(place) {
-        *cell = byte;
-    }
-    Ok(copy)
-}
-
-/// Copies of the rows, of which the one at a place has a byte in place of another.
-fn copies_but(
-    alloc: Global,
-    rows: &[Vec<u8>],
-    at: usize,
-    place: usize,
-    byte: u8,
-) -> Result<Vec<Vec<u8>>, AllocError> {
-    let mut copies = Vec::new(alloc);
-    for (index, row) in rows.iter().enumerate() {
-        if index == at {
-            copies.push(with_byte(alloc, row, place, byte)?)?;
-        } else {
-            copies.push(Vec::from_slice(alloc, row)?)?;
-        }
-    }
-    Ok(copies)
+/// What is found of the request with this number.
+fn found(desk: &Desk<Tally, MemKeeper>, number: u64, count: u8) -> Seen {
+    desk.find(&id(number), &count)
 }
 
 #[test]
@@ -93,8 +72,7 @@ fn a_repeat_has_its_kept_reply(rt: HostRuntime) -> Result<(), Fail> {
     };
     assert!(rt; done(desk.ask(id(0), first_day(), 5)) == Some((0, 5)));
     assert!(rt; done(desk.ask(id(1), first_day(), 7)) == Some((1, 12)));
-    let later = Day::new(9).ok_or("there is the day")?;
-    assert!(rt; done(desk.ask(id(0), later, 5)) == Some((0, 5)));
+    assert!(rt; done(desk.ask(id(0), later(), 5)) == Some((0, 5)));
     assert!(rt; matches!(desk.ask(id(0), first_day(), 6), Answer::NumberReused(0)));
     assert_eq!(rt; desk.acted(), 2);
     assert!(rt; matches!(desk.look(&()), Ok(12)));
@@ -108,9 +86,9 @@ fn a_request_is_found(rt: HostRuntime) -> Result<(), Fail> {
         panic!(rt; "it opens")
     };
     assert_eq!(rt; ask_ones(&mut desk, 2), 2);
-    assert_eq!(rt; desk.find(&id(1), &1), Seen::Place(1));
-    assert_eq!(rt; desk.find(&id(1), &8), Seen::Reused(1));
-    assert_eq!(rt; desk.find(&id(2), &1), Seen::New);
+    assert_eq!(rt; found(&desk, 1, 1), Seen::Place(1));
+    assert_eq!(rt; found(&desk, 1, 8), Seen::Reused(1));
+    assert_eq!(rt; found(&desk, 2, 1), Seen::New);
     Ok(())
 }
 
@@ -143,23 +121,51 @@ fn three_rows(alloc: Global) -> Option<MemKeeper> {
 fn opening_fault(alloc: Global, rows: Vec<Vec<u8>>) -> Option<OpenFault> {
     match desk_of(alloc, rows, Vec::new(alloc)) {
         Ok(_) => None,
-        Err((fault, _)) => Some(fault),
+        Err(fault) => Some(fault),
     }
+}
+
+/// Puts a byte in place of another.
+fn put_byte(row: &mut Vec<u8>, place: usize, byte: u8) {
+    if let Some(cell) = row.get_mut(place) {
+        *cell = byte;
+    }
+}
+
+/// Why copies of these rows don't open, of which the one at a place has a byte in place of another.
+fn fault_of_byte(
+    alloc: Global,
+    rows: &[Vec<u8>],
+    at: usize,
+    place: usize,
+    byte: u8,
+) -> Option<OpenFault> {
+    let mut copies = rows.to_vec(alloc).ok()?;
+    if let Some(row) = copies.get_mut(at) {
+        put_byte(row, place, byte);
+    }
+    opening_fault(alloc, copies)
+}
+
+/// Why copies of these rows don't open, of which the one at a place has a byte more.
+fn fault_of_one_more(alloc: Global, rows: &[Vec<u8>], at: usize) -> Option<OpenFault> {
+    let mut copies = rows.to_vec(alloc).ok()?;
+    if let Some(row) = copies.get_mut(at) {
+        let _ = row.push(0);
+    }
+    opening_fault(alloc, copies)
 }
 
 #[test]
 fn wrong_rows_do_not_open(rt: HostRuntime) -> Result<(), Fail> {
     let alloc = rt.alloc();
     let keeper = three_rows(alloc).ok_or("no rows")?;
-    let wrong = copies_but(alloc, keeper.rows(), 2, 25, 4)?;
-    assert_eq!(rt; opening_fault(alloc, wrong), Some(OpenFault::BadEntry(2)));
-    let twice = copies_but(alloc, keeper.rows(), 1, 16, 0)?;
-    assert_eq!(rt; opening_fault(alloc, twice), Some(OpenFault::BadEntry(1)));
-    let mut spelled = copies(alloc, keeper.rows())?;
-    if let Some(row) = spelled.get_mut(1) {
-        row.push(0)?;
-    }
-    assert_eq!(rt; opening_fault(alloc, spelled), Some(OpenFault::BadEntry(1)));
+    let changed = fault_of_byte(alloc, keeper.rows(), 2, 25, 4);
+    assert!(rt; changed == Some(OpenFault::BadEntry(2)));
+    let twice = fault_of_byte(alloc, keeper.rows(), 1, 16, 0);
+    assert!(rt; twice == Some(OpenFault::BadEntry(1)));
+    let spelled = fault_of_one_more(alloc, keeper.rows(), 1);
+    assert!(rt; spelled == Some(OpenFault::BadEntry(1)));
     Ok(())
 }
 

@@ -108,47 +108,72 @@ fn place_of<K: Keeper, R: Wait>(
     }
 }
 
+/// Both ends of a connection without a byte.
+fn ends(alloc: Global) -> Result<(MemSource, MemSink), AllocError> {
+    match MemSink::new(alloc, 1, 1, Vec::new(alloc)) {
+        Ok(sink) => Ok((MemSource::new(Vec::new(alloc), 1, Vec::new(alloc)), sink)),
+        Err(_) => Err(AllocError),
+    }
+}
+
 /// A link with one connection to come.
 fn a_link(alloc: Global) -> Result<MemLink, AllocError> {
-    let source = MemSource::new(Vec::new(alloc), 1, Vec::new(alloc));
-    let Ok(sink) = MemSink::new(alloc, 1, 1, Vec::new(alloc)) else {
-        return Err(AllocError);
-    };
-    Ok(MemLink::new(vec![in alloc; (source, sink)]?, Vec::new(alloc)))
+    let talks = vec![in alloc; ends(alloc)?]?;
+    Ok(MemLink::new(talks, Vec::new(alloc)))
+}
+
+/// A teller at a gate, with a link.
+fn a_teller<'a, G>(
+    alloc: Global,
+    gate: &'a G,
+    caller: u32,
+    count: u64,
+) -> Result<Teller<'a, G>, AllocError> {
+    Ok(Teller {
+        link: a_link(alloc)?,
+        alloc,
+        gate,
+        caller,
+        count,
+    })
 }
 
 /// As many tellers at one gate.
+fn all_tellers<'a, G>(
+    alloc: Global,
+    gate: &'a G,
+    callers: u32,
+    count: u64,
+) -> Result<Vec<Teller<'a, G>>, AllocError> {
+    let mut works = Vec::new(alloc);
+    for caller in 0..callers {
+        works.push(a_teller(alloc, gate, caller, count)?)?;
+    }
+    Ok(works)
+}
+
+/// As many tellers at one gate, and no more than 64.
 fn tellers<'a, G>(
     alloc: Global,
     gate: &'a G,
     callers: u32,
     count: u64,
 ) -> Result<Vec<Teller<'a, G>>, AllocError>
-    ensures { IfOk result (λ works. vec_len works ≤ callers) }
+    ensures { IfOk result (λ works. vec_len works ≤ 64) }
 {
-    let mut works = Vec::new(alloc);
-    for caller in 0..callers {
-        works.push(Teller {
-            alloc,
-            gate,
-            link: a_link(alloc)?,
-            caller,
-            count,
-        })?;
-    }
+    let mut works = all_tellers(alloc, gate, callers, count)?;
+    works.truncate(64);
     Ok(works)
 }
 
-/// Runs as many tellers at an office, and then once more, and gives the places of both times and the desk.
+/// Runs as many tellers at an office, no more than 64, and then once more. The places of both times, and the desk.
 fn run_twice<G: Gate + Sync, R: Threads + Wait + Sync>(
     rt: &R,
     alloc: Global,
     gate: &G,
     callers: u32,
     count: u64,
-) -> Result<(Vec<Vec<u32>>, Vec<Vec<u32>>, Desk<Tally, MemKeeper>), AllocError>
-    requires { callers ≤ 64 }
-{
+) -> Result<(Vec<Vec<u32>>, Vec<Vec<u32>>, Desk<Tally, MemKeeper>), AllocError> {
     let keeper = MemKeeper::new(Vec::new(alloc), Vec::new(alloc));
     let Ok(desk) = Desk::<Tally, MemKeeper>::open(alloc, keeper) else {
         return Err(AllocError);
@@ -166,46 +191,54 @@ fn run_twice<G: Gate + Sync, R: Threads + Wait + Sync>(
     }
 }
 
-/// Whether the places are the numbers below the total, each once.
-fn are_each_once(alloc: Global, places: &[Vec<u32>], total: usize) -> Result<bool, AllocError> {
-    let mut seen = vec![in alloc; 0u8; total]?;
-    let mut count = 0usize;
+/// Whether a number is among the places.
+fn has_place(places: &[Vec<u32>], number: u32) -> bool {
     for each in places {
-        for place in each.as_slice() {
-            match seen.get_mut(*place as usize) {
-                Some(times) => {
-                    if *times != 0 {
-                        return Ok(false);
-                    }
-                    *times = 1;
-                    count = count.wrapping_add(1);
-                }
-                None => return Ok(false),
-            }
+        if each.contains(&number) {
+            return true;
         }
     }
-    Ok(count == total)
+    false
+}
+
+/// How many places there are.
+fn count_of(places: &[Vec<u32>]) -> usize {
+    let mut count = 0usize;
+    for each in places {
+        count = count.wrapping_add(each.len());
+    }
+    count
+}
+
+/// Whether the places are the numbers below the total, each once.
+fn are_each_once(places: &[Vec<u32>], total: u32) -> bool {
+    for number in 0..total {
+        if !has_place(places, number) {
+            return false;
+        }
+    }
+    count_of(places) == total as usize
+}
+
+/// Whether the request at a place acted, and has this reply.
+fn has_reply(desk: &Desk<Tally, MemKeeper>, place: u32, reply: u64) -> bool {
+    place < desk.acted() && desk.entry(place).reply == reply
 }
 
 #[test]
 fn two_threads_share_one_history(rt: HostRuntime) -> Result<(), Fail> {
-    let alloc = rt.alloc();
-    let (first, second, desk) = run_twice(&rt, alloc, &OpenGate, 2, 100)?;
-    assert!(rt; are_each_once(alloc, &first, 200)?);
+    let (first, second, desk) = run_twice(&rt, rt.alloc(), &OpenGate, 2, 100)?;
+    assert!(rt; are_each_once(&first, 200));
     assert!(rt; first == second);
     assert_eq!(rt; desk.len(), 200);
-    if desk.acted() < 200 {
-        panic!(rt; "two hundred acted")
-    }
-    assert_eq!(rt; desk.entry(199).reply, 200);
+    assert!(rt; has_reply(&desk, 199, 200));
     Ok(())
 }
 
 #[test]
 fn many_threads_share_one_history(rt: HostRuntime) -> Result<(), Fail> {
-    let alloc = rt.alloc();
-    let (first, second, desk) = run_twice(&rt, alloc, &OpenGate, 64, 10)?;
-    assert!(rt; are_each_once(alloc, &first, 640)?);
+    let (first, second, desk) = run_twice(&rt, rt.alloc(), &OpenGate, 64, 10)?;
+    assert!(rt; are_each_once(&first, 640));
     assert!(rt; first == second);
     assert_eq!(rt; desk.len(), 640);
     Ok(())
@@ -215,7 +248,7 @@ fn many_threads_share_one_history(rt: HostRuntime) -> Result<(), Fail> {
 fn two_workers_run_at_once(rt: HostRuntime) -> Result<(), Fail> {
     let gate = Meeting::new();
     let (first, _, _) = run_twice(&rt, rt.alloc(), &gate, 2, 100)?;
-    assert!(rt; are_each_once(rt.alloc(), &first, 200)?);
+    assert!(rt; are_each_once(&first, 200));
     assert!(rt; !gate.was_late());
     Ok(())
 }
