@@ -10,24 +10,130 @@ use std::alloc::Global;
 
 /// Sections, each with its parent, and the subpart that has them.
 #[derive(Clone, Copy)]
-struct Part<'a> {
+struct Part {
     id: u32,
-    sections: &'a [(u32, Option<u32>)],
+    sections: &'static [(u32, Option<SectionId>)],
 }
 
+const FIRST: Part = Part {
+    id: 1,
+    sections: &[(1, None), (2, None)],
+};
+
+const LECTURE: Part = Part {
+    id: 2,
+    sections: &[(3, None)],
+};
+
+const KNOWN: Part = Part {
+    id: 2,
+    sections: &[(2, None)],
+};
+
+const DOUBLE: Part = Part {
+    id: 2,
+    sections: &[(3, None), (3, None)],
+};
+
+const BARE: Part = Part {
+    id: 2,
+    sections: &[],
+};
+
+const SEMINARS: Part = Part {
+    id: 3,
+    sections: &[(4, Some(SectionId(3)))],
+};
+
+const MIXED: Part = Part {
+    id: 4,
+    sections: &[(3, None), (4, Some(SectionId(3)))],
+};
+
+/// A row of the offering 2 beside the offering 1 of the course 1 with the sections 1 and 2, and its fault.
+#[derive(Clone, Copy)]
+struct Case {
+    courses: &'static [u32],
+    parts: &'static [Part],
+    fault: Option<CatalogFault>,
+}
+
+const KNOWN_AND_MISSING: [Case; 7] = [
+    Case {
+        courses: &[2],
+        parts: &[LECTURE],
+        fault: None,
+    },
+    Case {
+        courses: &[1],
+        parts: &[LECTURE],
+        fault: Some(CatalogFault::Known(1)),
+    },
+    Case {
+        courses: &[2],
+        parts: &[KNOWN],
+        fault: Some(CatalogFault::Known(2)),
+    },
+    Case {
+        courses: &[2],
+        parts: &[DOUBLE],
+        fault: Some(CatalogFault::Known(3)),
+    },
+    Case {
+        courses: &[],
+        parts: &[LECTURE],
+        fault: Some(CatalogFault::NoCourse),
+    },
+    Case {
+        courses: &[2],
+        parts: &[],
+        fault: Some(CatalogFault::NoSubpart(2)),
+    },
+    Case {
+        courses: &[2],
+        parts: &[BARE],
+        fault: Some(CatalogFault::NoSection(2)),
+    },
+];
+
+const PARENTS_AND_COUNTS: [Case; 4] = [
+    Case {
+        courses: &[2],
+        parts: &[LECTURE, SEMINARS],
+        fault: None,
+    },
+    Case {
+        courses: &[2],
+        parts: &[SEMINARS, LECTURE],
+        fault: Some(CatalogFault::BadParent(4)),
+    },
+    Case {
+        courses: &[2],
+        parts: &[MIXED],
+        fault: Some(CatalogFault::BadParent(4)),
+    },
+    Case {
+        courses: &[2, 3, 4, 5, 6, 7, 8, 9, 10, 11, 12],
+        parts: &[LECTURE],
+        fault: Some(CatalogFault::TooMany(11)),
+    },
+];
+
+/// A section of 30 places.
+fn section_row(alloc: Global, id: u32, parent: Option<SectionId>) -> SectionRow {
+    SectionRow {
+        id: SectionId(id),
+        limit: Limit::Places(30),
+        parent,
+        meetings: Items::from_vec(Vec::new(alloc)),
+    }
+}
+
+/// The subpart of a part.
 fn subpart(alloc: Global, part: &Part) -> Result<SubpartRow, Memory> {
     let mut sections = Vec::new(alloc);
     for section in part.sections {
-        let parent = match section.1 {
-            Some(id) => Some(SectionId(id)),
-            None => None,
-        };
-        sections.push(SectionRow {
-            id: SectionId(section.0),
-            limit: Limit::Places(30),
-            parent,
-            meetings: Items::from_vec(Vec::new(alloc)),
-        })?;
+        sections.push(section_row(alloc, section.0, section.1))?;
     }
     Ok(SubpartRow {
         id: SubpartId(part.id),
@@ -35,6 +141,7 @@ fn subpart(alloc: Global, part: &Part) -> Result<SubpartRow, Memory> {
     })
 }
 
+/// A configuration of the parts.
 fn config(alloc: Global, id: u32, parts: &[Part]) -> Result<ConfigRow, Memory> {
     let mut subparts = Vec::new(alloc);
     for part in parts {
@@ -58,6 +165,7 @@ fn row(alloc: Global, id: u32, courses: &[u32], parts: &[Part]) -> Result<Offeri
     })
 }
 
+/// Courses of three credits.
 fn course_rows(alloc: Global, courses: &[u32]) -> Result<Items<CourseRow>, Memory> {
     let mut rows = Vec::new(alloc);
     for course in courses {
@@ -70,182 +178,165 @@ fn course_rows(alloc: Global, courses: &[u32]) -> Result<Items<CourseRow>, Memor
     Ok(Items::from_vec(rows))
 }
 
-/// The fault of such a row beside the offering 1 of the course 1 with the sections 1 and 2.
-fn fault(
-    alloc: Global,
-    id: u32,
-    courses: &[u32],
-    parts: &[Part],
-) -> Result<Option<CatalogFault>, AddFault> {
+/// A catalogue of this row alone.
+fn holding(alloc: Global, row: OfferingRow) -> Result<Catalogue, AddFault> {
     let mut catalogue = Catalogue::empty(alloc);
-    let sections = [(1, None), (2, None)];
-    let part = Part {
-        id: 1,
-        sections: &sections,
-    };
-    catalogue.add_offering(row(alloc, 1, &[1], &[part])?)?;
-    let next = row(alloc, id, courses, parts)?;
-    match catalogue.add_offering(next) {
+    catalogue.add_offering(row)?;
+    Ok(catalogue)
+}
+
+/// The catalogue of the offering 1 of the course 1 with the sections 1 and 2.
+fn first(alloc: Global) -> Result<Catalogue, AddFault> {
+    let offering = row(alloc, 1, &[1], &[FIRST])?;
+    holding(alloc, offering)
+}
+
+/// The fault of a row that is added to a catalogue of one row.
+fn fault_of(catalogue: &mut Catalogue, row: OfferingRow) -> Result<Option<CatalogFault>, AddFault> {
+    match catalogue.add_offering(row) {
         Ok(()) => Ok(None),
         Err(AddFault::Row(fault)) if catalogue.rows().len() == 1 => Ok(Some(fault)),
         Err(other) => Err(other),
     }
 }
 
+/// The fault of a case's row.
+fn fault(alloc: Global, case: &Case) -> Result<Option<CatalogFault>, AddFault> {
+    let mut catalogue = first(alloc)?;
+    let next = row(alloc, 2, case.courses, case.parts)?;
+    fault_of(&mut catalogue, next)
+}
+
 #[test]
 fn tells_known_ids_and_missing_parts(rt: HostRuntime) {
     let alloc = rt.alloc();
-    let lecture = [(3, None)];
-    let taken = [(2, None)];
-    let twice = [(3, None), (3, None)];
-    let new = Part {
-        id: 2,
-        sections: &lecture,
-    };
-    let known = Part {
-        id: 2,
-        sections: &taken,
-    };
-    let double = Part {
-        id: 2,
-        sections: &twice,
-    };
-    let bare = Part {
-        id: 2,
-        sections: &[],
-    };
-    assert_eq!(rt; fault(alloc, 2, &[2], &[new]), Ok(None));
-    assert_eq!(rt;
-        fault(alloc, 2, &[1], &[new]),
-        Ok(Some(CatalogFault::Known(1)))
-    );
-    assert_eq!(rt;
-        fault(alloc, 2, &[2], &[known]),
-        Ok(Some(CatalogFault::Known(2)))
-    );
-    assert_eq!(rt;
-        fault(alloc, 2, &[2], &[double]),
-        Ok(Some(CatalogFault::Known(3)))
-    );
-    assert_eq!(rt;
-        fault(alloc, 2, &[], &[new]),
-        Ok(Some(CatalogFault::NoCourse))
-    );
-    assert_eq!(rt;
-        fault(alloc, 2, &[2], &[]),
-        Ok(Some(CatalogFault::NoSubpart(2)))
-    );
-    assert_eq!(rt;
-        fault(alloc, 2, &[2], &[bare]),
-        Ok(Some(CatalogFault::NoSection(2)))
-    );
+    for case in KNOWN_AND_MISSING.iter() {
+        assert_eq!(rt; fault(alloc, case), Ok(case.fault));
+    }
 }
 
 #[test]
 fn tells_bad_parents_and_counts(rt: HostRuntime) {
     let alloc = rt.alloc();
-    let lecture = [(3, None)];
-    let after = [(4, Some(3))];
-    let beside = [(3, None), (4, Some(3))];
-    let lectures = Part {
-        id: 2,
-        sections: &lecture,
+    for case in PARENTS_AND_COUNTS.iter() {
+        assert_eq!(rt; fault(alloc, case), Ok(case.fault));
+    }
+}
+
+/// The fault of an offering that has no configuration.
+fn bare_fault(alloc: Global) -> Result<Option<CatalogFault>, Memory> {
+    let bare = OfferingRow {
+        id: OfferingId(1),
+        courses: course_rows(alloc, &[1])?,
+        configs: Items::from_vec(Vec::new(alloc)),
     };
-    let seminars = Part {
-        id: 3,
-        sections: &after,
-    };
-    let mixed = Part {
-        id: 4,
-        sections: &beside,
-    };
-    let many = [2, 3, 4, 5, 6, 7, 8, 9, 10, 11, 12];
-    assert_eq!(rt; fault(alloc, 2, &[2], &[lectures, seminars]), Ok(None));
-    assert_eq!(rt;
-        fault(alloc, 2, &[2], &[seminars, lectures]),
-        Ok(Some(CatalogFault::BadParent(4)))
-    );
-    assert_eq!(rt;
-        fault(alloc, 2, &[2], &[mixed]),
-        Ok(Some(CatalogFault::BadParent(4)))
-    );
-    assert_eq!(rt;
-        fault(alloc, 2, &many, &[lectures]),
-        Ok(Some(CatalogFault::TooMany(11)))
-    );
+    Ok(Catalogue::empty(alloc).check(&bare).err())
 }
 
 #[test]
 fn tells_that_no_configuration_is_there(rt: HostRuntime) {
-    let alloc = rt.alloc();
-    let catalogue = Catalogue::empty(alloc);
-    let courses = course_rows(alloc, &[1]).expect(&rt, "memory");
-    let bare = OfferingRow {
-        id: OfferingId(1),
-        courses,
-        configs: Items::from_vec(Vec::new(alloc)),
-    };
-    assert_eq!(rt; catalogue.check(&bare), Err(CatalogFault::NoConfig));
+    assert_eq!(rt; bare_fault(rt.alloc()), Ok(Some(CatalogFault::NoConfig)));
 }
 
 /// The offering 5 of the courses 8 and 3, with the sections 1 and 2.
 fn added(alloc: Global) -> Result<Catalogue, AddFault> {
-    let mut catalogue = Catalogue::empty(alloc);
-    let sections = [(1, None), (2, None)];
-    let part = Part {
-        id: 1,
-        sections: &sections,
-    };
-    let offering = row(alloc, 5, &[8, 3], &[part])?.copy(alloc)?;
-    catalogue.add_offering(offering)?;
-    Ok(catalogue)
+    let offering = row(alloc, 5, &[8, 3], &[FIRST])?;
+    holding(alloc, offering.copy(alloc)?)
+}
+
+/// The id and the limit of the section that is found by this id.
+fn section_of(catalogue: &Catalogue, id: SectionId) -> Option<(SectionId, Limit)> {
+    match catalogue.section(id) {
+        Some(section) => Some((section.id, section.limit)),
+        None => None,
+    }
+}
+
+/// The offering and the credits of a course.
+fn course_of(catalogue: &Catalogue, id: u32) -> Option<(OfferingId, u8)> {
+    match catalogue.course(CourseId(id)) {
+        Some((row, course)) => Some((row.id, course.credits)),
+        None => None,
+    }
+}
+
+/// How many subparts a configuration has.
+fn subparts_of(catalogue: &Catalogue, id: u32) -> Option<usize> {
+    match catalogue.config(ConfigId(id)) {
+        Some(config) => Some(config.subparts.len()),
+        None => None,
+    }
+}
+
+/// How many courses an offering has.
+fn courses_of(catalogue: &Catalogue, id: u32) -> Option<usize> {
+    match catalogue.offering(OfferingId(id)) {
+        Some(row) => Some(row.courses.len()),
+        None => None,
+    }
 }
 
 #[test]
 fn finds_what_was_added(rt: HostRuntime) {
     let catalogue = added(rt.alloc()).expect(&rt, "memory");
-    let ids = [CourseId(3), CourseId(8)];
-    assert!(rt; catalogue.course_ids() == ids.as_slice());
-    assert!(rt;
-        matches!(catalogue.section(SectionId(2)), Some(section) if section.id == SectionId(2))
+    assert_eq!(rt;
+        catalogue.course_ids(),
+        [CourseId(3), CourseId(8)].as_slice()
     );
-    assert!(rt; catalogue.section(SectionId(3)).is_none());
-    assert!(rt;
-        matches!(catalogue.course(CourseId(3)), Some((row, course)) if row.id == OfferingId(5) && course.credits == 3)
+    assert_eq!(rt;
+        section_of(&catalogue, SectionId(2)),
+        Some((SectionId(2), Limit::Places(30)))
     );
-    assert!(rt;
-        matches!(catalogue.config(ConfigId(5)), Some(config) if config.subparts.len() == 1)
-    );
-    assert!(rt; matches!(catalogue.offering(OfferingId(5)), Some(row) if row.courses.len() == 2));
+    assert_eq!(rt; section_of(&catalogue, SectionId(3)), None);
+    assert_eq!(rt; course_of(&catalogue, 3), Some((OfferingId(5), 3)));
+    assert_eq!(rt; subparts_of(&catalogue, 5), Some(1));
+    assert_eq!(rt; courses_of(&catalogue, 5), Some(2));
+}
+
+/// The limit that the section 2 had, once it has 9 places.
+fn put_limit(catalogue: &mut Catalogue) -> Option<Limit> {
+    match catalogue.section(SectionId(2)) {
+        Some(_) => Some(catalogue.set_limit(Cap::Section(SectionId(2)), Limit::Places(9))),
+        None => None,
+    }
+}
+
+/// The offering of the last row, which is taken back.
+fn take_back(catalogue: &mut Catalogue) -> Option<OfferingId> {
+    if catalogue.rows().is_empty() {
+        return None;
+    }
+    let row = catalogue.remove_last();
+    Some(row.id)
 }
 
 #[test]
 fn puts_a_limit_and_takes_a_row_back(rt: HostRuntime) {
     let mut catalogue = added(rt.alloc()).expect(&rt, "memory");
-    let cap = Cap::Section(SectionId(2));
-    assert!(rt; catalogue.section(SectionId(2)).is_some());
+    assert_eq!(rt; put_limit(&mut catalogue), Some(Limit::Places(30)));
     assert_eq!(rt;
-        catalogue.set_limit(cap, Limit::Places(9)),
-        Limit::Places(30)
+        section_of(&catalogue, SectionId(2)),
+        Some((SectionId(2), Limit::Places(9)))
     );
-    assert!(rt;
-        matches!(catalogue.section(SectionId(2)), Some(section) if section.limit == Limit::Places(9))
-    );
-    assert!(rt; catalogue.rows().len() > 0);
-    let last = catalogue.remove_last();
-    assert!(rt; last.id == OfferingId(5));
-    assert!(rt; catalogue.section(SectionId(2)).is_none());
-    assert!(rt; catalogue.course_ids().len() == 0);
+    assert_eq!(rt; take_back(&mut catalogue), Some(OfferingId(5)));
+    assert_eq!(rt; section_of(&catalogue, SectionId(2)), None);
+    assert!(rt; catalogue.course_ids().is_empty());
+}
+
+/// Whether the section 2 is cancelled before it is, once it is, and once that is taken back.
+fn cancelled(catalogue: &mut Catalogue) -> Option<(bool, bool, bool)> {
+    let id = SectionId(2);
+    let before = catalogue.is_cancelled(id);
+    if catalogue.section(id).is_none() || before || catalogue.cancel(id).is_err() {
+        return None;
+    }
+    let between = catalogue.is_cancelled(id);
+    catalogue.uncancel_last();
+    Some((before, between, catalogue.is_cancelled(id)))
 }
 
 #[test]
 fn cancels_and_takes_it_back(rt: HostRuntime) {
     let mut catalogue = added(rt.alloc()).expect(&rt, "memory");
-    assert!(rt; catalogue.section(SectionId(2)).is_some());
-    assert!(rt; !catalogue.is_cancelled(SectionId(2)));
-    if catalogue.cancel(SectionId(2)).is_ok() {
-        assert!(rt; catalogue.is_cancelled(SectionId(2)));
-        catalogue.uncancel_last();
-        assert!(rt; !catalogue.is_cancelled(SectionId(2)));
-    }
+    assert_eq!(rt; cancelled(&mut catalogue), Some((false, true, false)));
 }

@@ -1,6 +1,6 @@
 // Students put, changed and taken off, and each fault of requests.
 
-use sect_base::{CourseId, Duplicate, Items, StudentId};
+use sect_base::{CourseId, Duplicate, Items, Memory, StudentId};
 use sect_people::{Ask, CourseAsk, People, RequestFault, StudentRow, check_asks};
 use sect_time::Meeting;
 use std::alloc::Global;
@@ -8,6 +8,14 @@ use std::test::Fail;
 
 const KNOWN: [CourseId; 3] = [CourseId(10), CourseId(20), CourseId(30)];
 
+/// Nothing, a course twice, and a course that isn't known.
+const BAD: [&[CourseId]; 3] = [
+    &[],
+    &[CourseId(20), CourseId(10), CourseId(20)],
+    &[CourseId(30), CourseId(25)],
+];
+
+/// A student's row with no groups.
 fn student(alloc: Global, id: u32, max_credits: u16) -> StudentRow {
     StudentRow {
         id: StudentId(id),
@@ -17,7 +25,8 @@ fn student(alloc: Global, id: u32, max_credits: u16) -> StudentRow {
     }
 }
 
-fn ask(alloc: Global, courses: &[CourseId]) -> Result<Ask, Fail> {
+/// A request for one of the courses.
+fn ask(alloc: Global, courses: &[CourseId]) -> Result<Ask, Memory> {
     Ok(Ask::Course(CourseAsk {
         courses: Items::from_vec(Vec::from_slice(alloc, courses)?),
         wait: true,
@@ -25,59 +34,97 @@ fn ask(alloc: Global, courses: &[CourseId]) -> Result<Ask, Fail> {
     }))
 }
 
-/// Nothing, a course twice, and a course that isn't known.
-fn bad_asks(alloc: Global) -> Result<Vec<Ask>, Fail> {
+/// The requests that each have a fault.
+fn bad_asks(alloc: Global) -> Result<Vec<Ask>, Memory> {
     let mut asks = Vec::new(alloc);
-    asks.push(ask(alloc, &[])?)?;
-    asks.push(ask(alloc, &[CourseId(20), CourseId(10), CourseId(20)])?)?;
-    asks.push(ask(alloc, &[CourseId(30), CourseId(25)])?)?;
+    for courses in BAD.iter() {
+        asks.push(ask(alloc, courses)?)?;
+    }
     Ok(asks)
 }
 
-fn free_times(alloc: Global, count: usize) -> Result<Vec<Ask>, Fail> {
+/// Requests for a free time, one as the other.
+fn free_times(alloc: Global, time: Meeting, count: usize) -> Result<Vec<Ask>, Memory> {
     let mut asks = Vec::new(alloc);
-    if let Some(meeting) = Meeting::new(1, 96, 12, 1) {
-        for _ in 0..count {
-            asks.push(Ask::Free(meeting))?;
-        }
+    for _ in 0..count {
+        asks.push(Ask::Free(time))?;
     }
     Ok(asks)
+}
+
+/// The first fault of so many of the requests.
+fn fault(asks: &[Ask], count: usize) -> Option<Result<(), RequestFault>> {
+    match asks.get(..count) {
+        Some(asks) => Some(check_asks(asks, &KNOWN)),
+        None => None,
+    }
+}
+
+/// Puts a student's row, and tells the most credits of the row that it takes the place of.
+fn put(
+    alloc: Global,
+    people: &mut People,
+    id: u32,
+    max_credits: u16,
+) -> Result<Option<u16>, Memory> {
+    let old = people.put_student(student(alloc, id, max_credits))?;
+    Ok(old.map(|row| row.max_credits))
+}
+
+/// The most credits of a student.
+fn credits(people: &People, id: u32) -> Option<u16> {
+    people.row(StudentId(id)).map(|row| row.max_credits)
+}
+
+/// Takes the last student off, and tells the id.
+fn take_last(people: &mut People) -> Option<StudentId> {
+    match people.students().is_empty() {
+        false => Some(people.remove_last().id),
+        true => None,
+    }
 }
 
 #[test]
-fn students_are_found_by_id(rt: HostRuntime) -> Result<(), Fail> {
+fn students_are_found_by_id(rt: HostRuntime) {
     let alloc = rt.alloc();
     let mut people = People::empty(alloc);
     for id in [30, 10, 20] {
-        let put = people.put_student(student(alloc, id, 12))?;
-        assert!(rt; put.is_none());
+        assert_eq!(rt; put(alloc, &mut people, id, 12), Ok(None));
     }
     assert!(rt; people.ids() == [StudentId(10), StudentId(20), StudentId(30)].as_slice());
-    assert!(rt; people.row(StudentId(25)).is_none());
-    if !people.students().is_empty() {
-        assert_eq!(rt; people.remove_last().id.0, 20);
-    }
-    assert!(rt; people.row(StudentId(20)).is_none());
+    assert_eq!(rt; credits(&people, 25), None);
+    assert_eq!(rt; take_last(&mut people), Some(StudentId(20)));
+    assert_eq!(rt; credits(&people, 20), None);
     assert!(rt; people.ids() == [StudentId(10), StudentId(30)].as_slice());
-    Ok(())
+}
+
+/// Puts the requests of the student 10, and tells how many there were before.
+fn put_asks(people: &mut People, asks: Vec<Ask>) -> Option<usize> {
+    match people.row(StudentId(10)) {
+        Some(_) => Some(
+            people
+                .set_requests(StudentId(10), Items::from_vec(asks))
+                .len(),
+        ),
+        None => None,
+    }
+}
+
+/// How many requests a student has.
+fn count_of_asks(people: &People, id: u32) -> Option<usize> {
+    people.asks(StudentId(id)).map(|asks| asks.len())
 }
 
 #[test]
 fn requests_outlive_a_change_of_the_row(rt: HostRuntime) -> Result<(), Fail> {
     let alloc = rt.alloc();
+    let asks = bad_asks(alloc)?;
     let mut people = People::empty(alloc);
-    let _ = people.put_student(student(alloc, 10, 12))?;
-    let asks = Items::from_vec(bad_asks(alloc)?);
-    if people.row(StudentId(10)).is_some() {
-        assert_eq!(rt; people.set_requests(StudentId(10), asks).len(), 0);
-    }
-    let old = people.put_student(student(alloc, 10, 18))?;
-    assert_eq!(rt; old.map(|row| row.max_credits), Some(12));
-    assert_eq!(rt; people.asks(StudentId(10)).map(|asks| asks.len()), Some(3));
-    assert_eq!(rt;
-        people.row(StudentId(10)).map(|row| row.max_credits),
-        Some(18)
-    );
+    assert_eq!(rt; put(alloc, &mut people, 10, 12), Ok(None));
+    assert_eq!(rt; put_asks(&mut people, asks), Some(0));
+    assert_eq!(rt; put(alloc, &mut people, 10, 18), Ok(Some(12)));
+    assert_eq!(rt; count_of_asks(&people, 10), Some(3));
+    assert_eq!(rt; credits(&people, 10), Some(18));
     Ok(())
 }
 
@@ -85,41 +132,41 @@ fn requests_outlive_a_change_of_the_row(rt: HostRuntime) -> Result<(), Fail> {
 fn the_first_fault_is_told(rt: HostRuntime) -> Result<(), Fail> {
     let asks = bad_asks(rt.alloc())?;
     assert_eq!(rt; asks.len(), 3);
-    assert_eq!(rt;
-        check_asks(&asks[..3], &KNOWN),
-        Err(RequestFault::UnknownCourse(25))
-    );
-    assert_eq!(rt;
-        check_asks(&asks[..2], &KNOWN),
-        Err(RequestFault::Twice(20))
-    );
-    assert_eq!(rt;
-        check_asks(&asks[..1], &KNOWN),
-        Err(RequestFault::TooMany(0))
-    );
-    assert_eq!(rt; check_asks(&asks[..0], &KNOWN), Ok(()));
+    assert_eq!(rt; fault(&asks, 3), Some(Err(RequestFault::UnknownCourse(25))));
+    assert_eq!(rt; fault(&asks, 2), Some(Err(RequestFault::Twice(20))));
+    assert_eq!(rt; fault(&asks, 1), Some(Err(RequestFault::TooMany(0))));
+    assert_eq!(rt; fault(&asks, 0), Some(Ok(())));
     Ok(())
 }
 
 #[test]
 fn more_than_twenty_requests_are_refused(rt: HostRuntime) -> Result<(), Fail> {
-    let asks = free_times(rt.alloc(), 21)?;
+    let time = Meeting::new(1, 96, 12, 1).ok_or("no such time")?;
+    let asks = free_times(rt.alloc(), time, 21)?;
     assert_eq!(rt; asks.len(), 21);
-    assert_eq!(rt;
-        check_asks(&asks[..21], &KNOWN),
-        Err(RequestFault::TooMany(21))
-    );
-    assert_eq!(rt; check_asks(&asks[1..], &KNOWN), Ok(()));
+    assert_eq!(rt; fault(&asks, 21), Some(Err(RequestFault::TooMany(21))));
+    assert_eq!(rt; fault(&asks[1..], 20), Some(Ok(())));
     Ok(())
 }
 
-#[test]
-fn copies_are_made(rt: HostRuntime) -> Result<(), Fail> {
-    let alloc = rt.alloc();
+/// The most credits of a copied row.
+fn copied_credits(alloc: Global) -> Result<u16, Memory> {
     let row = student(alloc, 7, 15).copy(alloc)?;
-    assert_eq!(rt; row.max_credits, 15);
-    if let Ask::Course(copy) = ask(alloc, &[CourseId(10), CourseId(20)])?.copy(alloc)? {
-        assert_eq!(rt; copy.courses.len(), 2);
+    Ok(row.max_credits)
+}
+
+/// How many courses a copied request has.
+fn copied_courses(alloc: Global) -> Result<usize, Memory> {
+    let ask = ask(alloc, &[CourseId(10), CourseId(20)])?;
+    match ask.copy(alloc)? {
+        Ask::Course(copy) => Ok(copy.courses.len()),
+        Ask::Free(_) => Ok(0),
     }
-    Ok(())
+}
+
+#[test]
+fn copies_are_made(rt: HostRuntime) {
+    let alloc = rt.alloc();
+    assert_eq!(rt; copied_credits(alloc), Ok(15));
+    assert_eq!(rt; copied_courses(alloc), Ok(2));
 }
