@@ -10,7 +10,9 @@ test_machine: a line `== machine`, `== tables` or `== bodies` tells what the lin
 machine: in a line `{ITEM*COUNT}` is the item so many times. A line that begins with `#` begins a new machine, one with
 `+ FIRST..END ` is asked with each of these numbers in place of `#`, one with `= ` asks for a report, `plan STUDENT BUDGET`,
 `survey`, or `made N` for the lines of the survey of what `make N` makes; one with `? ` has a tree that is held against the
-request before it; each other line is a request.
+request before it; one with `% ` is a request of which the searches are counted, and each other line a request. The second
+computation tries everybody who waits each time, so it gives no count (`--write` writes `?` there), and leaves out the
+scripts in which several lines with ` | ` between them are asked again and again.
 tables: a line `# NAME` begins a new machine and a new keeper, `< TABLE` and `< TABLE FIRST PIECE READ WRITE` begin a
 text of that table, whose lines follow, `> TABLE` asks for an export.
 test_usage: each line is a list of words with bars between them, and `(none)` is the list without words; its answer ends
@@ -104,14 +106,41 @@ def ask_each(texts, machine, words):
     return f"{sum(texts.print_reply(reply) == 'amended' for reply in replies)} amended\n"
 
 
+def left_out(lines):
+    """The titles of the scripts that ask several lines again and again."""
+    titles, title = set(), ""
+    for line in lines:
+        if line.startswith("#"):
+            title = line
+        elif line.startswith("+ ") and " | " in line:
+            titles.add(title)
+    return titles
+
+
+def comparable(stored, titles):
+    """The stored answers without the scripts of these titles, and without counts of searches."""
+    kept, is_kept = [], True
+    for line in stored.split("\n"):
+        if line.startswith(("#", "== ")):
+            is_kept = line not in titles
+        if is_kept:
+            kept.append(re.sub(r", searches [0-9]+$", ", searches ?", line))
+    return "\n".join(kept)
+
+
 def machine_answers(lines):
     import texts
     from machine import Machine
-    machine, last = Machine(), ""
+    machine, last, titles, is_kept = Machine(), "", left_out(lines), True
     for line in lines:
         if line.startswith("#"):
-            machine = Machine()
-            yield line + "\n"
+            machine, is_kept = Machine(), line not in titles
+            if is_kept:
+                yield line + "\n"
+        elif not is_kept:
+            continue
+        elif line.startswith("% "):
+            yield texts.print_reply(machine.step(*request_of(texts, line[2:]))) + ", searches ?\n"
         elif line.startswith("= "):
             yield report(machine, line[2:])
         elif line.startswith("+ "):
@@ -308,10 +337,11 @@ def main():
         write(crate, "stdin", read(crate, "stdin") + "".join(more))
     status = 0
     for crate, answers in ANSWERS.items():
-        told = "".join(answers(read(crate, "stdin").split("\n")[:-1]))
+        lines = read(crate, "stdin").split("\n")[:-1]
+        told = "".join(answers(lines))
         if given.write or given.add:
             write(crate, "stdout", told)
-        elif told != read(crate, "stdout"):
+        elif told != comparable(read(crate, "stdout"), left_out(lines)):
             print(f"{crate}: the answers differ from those that are stored")
             status = 1
     return status
