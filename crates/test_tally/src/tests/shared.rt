@@ -139,12 +139,14 @@ fn a_teller<'a, G>(
 }
 
 /// As many tellers at one gate.
-fn all_tellers<'a, G>(
+fn tellers<'a, G>(
     alloc: Global,
     gate: &'a G,
     callers: u32,
     count: u64,
-) -> Result<Vec<Teller<'a, G>>, AllocError> {
+) -> Result<Vec<Teller<'a, G>>, AllocError>
+    ensures { IfOk result (λ works. vec_len works ≤ callers) }
+{
     let mut works = Vec::new(alloc);
     for caller in 0..callers {
         works.push(a_teller(alloc, gate, caller, count)?)?;
@@ -152,28 +154,16 @@ fn all_tellers<'a, G>(
     Ok(works)
 }
 
-/// As many tellers at one gate, and no more than 64.
-fn tellers<'a, G>(
-    alloc: Global,
-    gate: &'a G,
-    callers: u32,
-    count: u64,
-) -> Result<Vec<Teller<'a, G>>, AllocError>
-    ensures { IfOk result (λ works. vec_len works ≤ 64) }
-{
-    let mut works = all_tellers(alloc, gate, callers, count)?;
-    works.truncate(64);
-    Ok(works)
-}
-
-/// Runs as many tellers at an office, no more than 64, and then once more. The places of both times, and the desk.
+/// Runs as many tellers at an office, and then once more, and gives the places of both times and the desk.
 fn run_twice<G: Gate + Sync, R: Threads + Wait + Sync>(
     rt: &R,
     alloc: Global,
     gate: &G,
     callers: u32,
     count: u64,
-) -> Result<(Vec<Vec<u32>>, Vec<Vec<u32>>, Desk<Tally, MemKeeper>), AllocError> {
+) -> Result<(Vec<Vec<u32>>, Vec<Vec<u32>>, Desk<Tally, MemKeeper>), AllocError>
+    requires { callers ≤ 64 }
+{
     let keeper = MemKeeper::new(Vec::new(alloc), Vec::new(alloc));
     let Ok(desk) = Desk::<Tally, MemKeeper>::open(alloc, keeper) else {
         return Err(AllocError);
