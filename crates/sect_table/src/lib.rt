@@ -3,5 +3,7 @@
 
 pub mod slots;
 mod table;
+mod test;
 
 pub use table::Table;
+pub use test::Test;

@@ -1,8 +1,9 @@
 // Slots by place, each with a value or with none.
 
-ghost use Rattle.std.specs.Prelude.{◌≡◌, ℕ, ◌==◌, ◌<◌, ◌≤◌, cond, length, true, false, None, Some, IfOk, OnOk, OnErr};
-ghost use Rattle.sect_table.specs.Slots.{slot_at, SlotsStay, SlotsPut};
+ghost use Rattle.std.specs.Prelude.{◌≡◌, ℕ, ◌+◌, ◌-◌, ◌^◌, ◌==◌, ◌<◌, ◌≤◌, cond, length, min, true, false, None, Some, IfOk, OnOk, OnErr};
+ghost use Rattle.sect_table.specs.Slots.{slot_at, SlotsStay, SlotsPut, SlotsClear, SlotsKeep, kept as kept_of};
 
+use crate::test::Test;
 use sect_base::Memory;
 
 /// How many slots there may be at least.
@@ -12,7 +13,9 @@ pub const FEW: usize = 1024;
 const MORE: usize = 4;
 
 /// How many slots there may be behind one value more.
-pub fn bound_after(bound: usize) -> usize {
+pub fn bound_after(bound: usize) -> usize
+    ensures { result ≡ min (bound + 4) (2 ^ 64 - 1) }
+{
     bound.saturating_add(MORE)
 }
 
@@ -57,4 +60,32 @@ fn grow<V: Copy>(slots: &mut Vec<Option<V>>, len: usize) -> Result<(), Memory>
         slots.push(None)?;
     }
     Ok(())
+}
+
+/// Empties the slot at a place. It takes no memory.
+pub fn clear<V: Copy>(slots: &mut [Option<V>], place: usize)
+    ensures { SlotsClear slots.old slots.new place }
+{
+    if place < slots.len() {
+        slots[place] = None;
+    }
+}
+
+/// Empties the slots whose values don't pass. It takes no memory.
+pub fn keep<V: Copy, T: Test<V>>(slots: &mut [Option<V>], test: &T)
+    ensures { SlotsKeep (T.passes test.now) slots.old slots.new }
+{
+    'slots: for place in 0..slots.len() {
+        slots[place] = kept(slots[place], test);
+    }
+}
+
+fn kept<V: Copy, T: Test<V>>(slot: Option<V>, test: &T) -> Option<V>
+    ensures { result ≡ kept_of (T.passes test.now) slot }
+{
+    let value = slot?;
+    if test.passes(value) {
+        return Some(value);
+    }
+    None
 }

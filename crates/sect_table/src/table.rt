@@ -1,10 +1,13 @@
 // Values by numbers.
 
 ghost use Rattle.std.specs.Prelude.{◌≡◌, ℕ, ◌==◌, cond, None, Some, nat_eq, OnOk, OnErr};
+ghost use Rattle.std.specs.Option.{is_none};
 ghost use Rattle.std.specs.HashMap.{get};
-ghost use Rattle.sect_table.specs.Table.{value_at, Puts, Stays};
+ghost use Rattle.sect_table.specs.Slots.{slot_at, kept};
+ghost use Rattle.sect_table.specs.Table.{value_at, Puts, Stays, Removes, Keeps};
 
 use crate::slots;
+use crate::test::Test;
 use sect_base::Memory;
 use std::alloc::Global;
 use std::collections::HashMap;
@@ -62,4 +65,36 @@ impl<V: Copy> Table<V> {
         self.bound = slots::bound_after(self.bound);
         Ok(())
     }
+
+    /// Takes a number's value away. It takes no memory.
+    #[tactic(auto, unfolding(crate::specs::Table::value_at))]
+    pub fn remove(&mut self, number: u32)
+        ensures { Removes self.old self.new number }
+    {
+        slots::clear(&mut self.slots, number as usize);
+        self.others.remove(&number);
+    }
+
+    /// Takes away the values that don't pass. It takes no memory.
+    #[tactic(auto, unfolding(crate::specs::Table::value_at))]
+    pub fn keep<T: Test<V>>(&mut self, test: &T)
+        ensures { Keeps (T.passes test.now) self.old self.new }
+    {
+        keep_seen(&mut self.others, self.slots.as_slice());
+        keep_passing(&mut self.others, test);
+        slots::keep(&mut self.slots, test);
+    }
+}
+
+/// Forgets the values of numbers that have one in their slot.
+fn keep_seen<V: Copy>(others: &mut HashMap<u32, V>, slots: &[Option<V>])
+    ensures { (n : ℕ) → get nat_eq others.new n ≡ cond (is_none (slot_at slots.now n)) (get nat_eq others.old n) None }
+{
+    others.retain(|number, _| slots::get(slots, *number as usize).is_none());
+}
+
+fn keep_passing<V: Copy, T: Test<V>>(others: &mut HashMap<u32, V>, test: &T)
+    ensures { (n : ℕ) → get nat_eq others.new n ≡ kept (T.passes test.now) (get nat_eq others.old n) }
+{
+    others.retain(|_, value| test.passes(*value));
 }
