@@ -19,7 +19,8 @@ use Rattle.sect_catalog.specs.declared.row.CatalogFault.{CatalogFault}
 use Rattle.sect_catalog.specs.declared.place.Place.{Place}
 use Rattle.sect_catalog.specs.Catalogue.{Catalogue, sections_in, all_courses, all_configs, all_subparts, all_sections}
 use Rattle.sect_catalog.specs.Fault.{same_kind, known_id, bad_parent, fault_of, are_checked_after}
-use Rattle.sect_catalog.specs.Place.{Entry, placed, section_entry, subpart_entries, config_entries, course_entry, at_row, row_entries, all_entries, Index, place_in, IsIndex, Notes, KeepsFirst, first_only}
+use Rattle.sect_catalog.specs.declared.index.Index.{Index}
+use Rattle.sect_catalog.specs.Place.{Entry, placed, section_entry, subpart_entries, config_entries, course_entry, at_row, row_entries, all_entries, place_in, IsIndex, Notes, KeepsFirst, first_only}
 use Rattle.sect_catalog.specs.Search.{missing_part, count_fault, too_many_of}
 use Rattle.sect_catalog.specs.Rising.{put_all_rising, rising_courses, Keeps}
 use Rattle.sect_catalog.proofs.CheckLemmas.{map-append}

@@ -10,7 +10,8 @@ use Rattle.sect_catalog.specs.declared.row.SubpartRow.{SubpartRow}
 use Rattle.sect_catalog.specs.Catalogue.{Catalogue}
 use Rattle.sect_catalog.specs.declared.place.Place.{Place}
 use Rattle.sect_catalog.specs.Fault.{same_kind, subpart_ids, config_ids, row_ids, stands_twice, known_id}
-use Rattle.sect_catalog.specs.Place.{Entry, placed, section_entry, subpart_entries, config_entries, course_entry, at_row, row_entries, all_entries, Index, place_of, IsIndex, is_taken}
+use Rattle.sect_catalog.specs.declared.index.Index.{Index}
+use Rattle.sect_catalog.specs.Place.{Entry, placed, section_entry, subpart_entries, config_entries, course_entry, at_row, row_entries, all_entries, place_of, IsIndex, is_taken}
 
 pub map-append : {X Y : Type 0} (f : X → Y) (xs ys : List X) → map f (xs ++ ys) ≡ map f xs ++ map f ys
 map-append f [] ys = refl

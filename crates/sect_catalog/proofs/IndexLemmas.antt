@@ -1,21 +1,14 @@
 -- What the index tells after a note, and after some rows are forgotten.
-use Rattle.std.specs.Prelude.{◌≡◌, ℕ, ◌+◌, ◌<◌, nat_lt, Bool, true, false, ◌==◌, ◌&&◌, cond, List, [], ◌∷◌, ◌++◌, length, filter, Option, Some, None, refl}
+use Rattle.std.specs.Prelude.{◌≡◌, ℕ, ◌+◌, ◌<◌, Bool, true, false, ◌==◌, ◌&&◌, cond, List, [], ◌∷◌, ◌++◌, length, Option, Some, None, refl}
 use Rattle.std.specs.Option.{option_or, is_some}
-use Rattle.std.specs.Cmp.{IsEquivalence}
-use Rattle.std.specs.HashMap.{IsUnique}
-use Rattle.std.specs.Map.{lookup}
 use Rattle.std.proofs.Common.{sym, ◌∙◌, ap, arith, take, get_or}
 use Rattle.std.proofs.lemmas.Bool.{eqb-true}
 use Rattle.std.proofs.lemmas.Bool.Decides.{nat_tests}
-use Rattle.std.proofs.lemmas.Cmp.{nat_eq_equiv, on_equiv, and_equiv}
-use Rattle.std.proofs.lemmas.Map.Entries.{option_filter, lookup-filter-values}
 use Rattle.sect_catalog.specs.declared.place.Place.{Place}
 use Rattle.sect_catalog.specs.Fault.{same_kind}
-use Rattle.sect_catalog.specs.Place.{Entry, Index, place_of, place_in, Notes, KeepsFirst, first_only}
+use Rattle.sect_catalog.specs.declared.index.Index.{Index}
+use Rattle.sect_catalog.specs.Place.{Entry, place_of, place_in, Notes}
 use Rattle.sect_catalog.proofs.TimesLemmas.{take_more}
-
-same_kind_equiv : IsEquivalence same_kind
-same_kind_equiv = and_equiv (on_equiv (λ id. id.0) nat_eq_equiv) (on_equiv (λ id. id.1) nat_eq_equiv)
 
 both-left : (a b : Bool) → a && b ≡ true → a ≡ true
 both-left true b h = refl
@@ -86,14 +79,3 @@ notes-new m n key at h after id = after id ∙ ap (λ t. cond t (Some at) (place
     by_test : (b : Bool) → same_kind id key ≡ b → cond b (Some at) (place_of m id) ≡ option_or (place_of m id) (cond b (Some at) None)
     by_test true t = put (place_of m id) (ap (λ k. is_some (place_of m k)) (one_id id key t) ∙ h)
     by_test false t = or-none (place_of m id)
-
--- the index of the entries that a test of the places keeps
-pub kept-first : (m n : Index) (rows : ℕ) → IsUnique same_kind m → n.entries ≡ filter (λ e. nat_lt e.1.row rows) m.entries → KeepsFirst rows m n
-kept-first m n rows unique e id =
-    ap (lookup (same_kind id)) e
-    ∙ lookup-filter-values same_kind_equiv (λ at. nat_lt at.row rows) id m.entries unique
-    ∙ same (place_of m id)
-  where
-    same : (o : Option Place) → option_filter (λ at. nat_lt at.row rows) o ≡ first_only rows o
-    same None = refl
-    same (Some x) = refl

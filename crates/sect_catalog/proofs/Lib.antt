@@ -8,6 +8,7 @@ pub mod RisingLemmas
 pub mod KnownLemmas
 pub mod CheckLemmas
 pub mod AppendLemmas
+pub mod KindLemmas
 pub mod Outcomes
 pub mod LookupLemmas
 pub mod LookupMore

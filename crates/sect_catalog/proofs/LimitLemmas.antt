@@ -19,7 +19,8 @@ use Rattle.sect_catalog.specs.declared.place.Place.{Place}
 use Rattle.sect_catalog.specs.Fault.{fault_of, are_checked_after, row_ids, config_ids, subpart_ids, same_kind, stands_twice, known_id, is_empty, bad_parent_after, bad_parent, above, too_many}
 use Rattle.sect_catalog.specs.Catalogue.{all_courses, all_configs, all_subparts, all_sections, sections_in}
 use Rattle.sect_catalog.specs.Limits.{with_limit, capped_course, capped_config, capped_subpart, capped_section}
-use Rattle.sect_catalog.specs.Place.{Entry, placed, section_entry, subpart_entries, config_entries, course_entry, at_row, row_entries, all_entries, Index, place_in}
+use Rattle.sect_catalog.specs.declared.index.Index.{Index}
+use Rattle.sect_catalog.specs.Place.{Entry, placed, section_entry, subpart_entries, config_entries, course_entry, at_row, row_entries, all_entries, place_in}
 use Rattle.sect_catalog.specs.Rising.{put_all_rising, Keeps}
 
 -- ---- plain lists and options

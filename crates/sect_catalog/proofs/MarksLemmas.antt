@@ -1,12 +1,12 @@
--- The set of cancelled sections, as one comes and as the last one goes.
-use Rattle.std.specs.Prelude.{◌≡◌, ℕ, nat_eq, Bool, true, false, not, ◌==◌, ◌||◌, cond, List, [], ◌∷◌, ◌++◌, refl}
+-- The marks of cancelled sections, as one comes and as the last one goes.
+use Rattle.std.specs.Prelude.{◌≡◌, ℕ, Bool, true, false, not, ◌==◌, ◌||◌, cond, List, [], ◌∷◌, ◌++◌, Option, Some, None, refl}
 use Rattle.std.specs.List.{list_any}
-use Rattle.std.specs.HashSet.{HashSet, contains}
-use Rattle.std.specs.declared.hash.BuildHasherDefault.{BuildHasherDefault}
-use Rattle.std.specs.declared.hash.FoldHasher.{FoldHasher}
+use Rattle.std.specs.Option.{is_some}
 use Rattle.std.proofs.Common.{sym, ◌∙◌, ap, append_assoc}
 use Rattle.std.proofs.lemmas.Bool.{eqb-true}
 use Rattle.std.proofs.lemmas.List.{append-nil}
+use Rattle.sect_table.specs.declared.table.Table.{Table}
+use Rattle.sect_table.specs.Table.{value_at, Puts, Stays, Removes}
 use Rattle.sect_base.specs.declared.ids.SectionId.{SectionId}
 use Rattle.sect_catalog.specs.Rising.{are_apart_after, Marks}
 use Rattle.sect_catalog.proofs.AppendLemmas.{both, both-left, both-right}
@@ -33,11 +33,22 @@ apart-less before (s ∷ ss) id h =
       ap (list_any (λ t. t.0 == id.0)) (sym (append_assoc before (s ∷ []) ss)) ∙ rest.1,
     )
 
-pub marks-more : (ss : List SectionId) (id : SectionId) (old new : HashSet ℕ (BuildHasherDefault FoldHasher)) → Marks ss old → list_any (λ s. s.0 == id.0) ss ≡ false
-    → ((q : ℕ) → contains nat_eq new q ≡ cond (id.0 == q) true (contains nat_eq old q)) → Marks (ss ++ id ∷ []) new
+is-put : (b : Bool) (o : Option (Unit {0})) → is_some (cond b (Some tt) o) ≡ cond b true (is_some o)
+is-put true o = refl
+is-put false o = refl
+
+is-removed : (b : Bool) (o : Option (Unit {0})) → is_some (cond b None o) ≡ cond b false (is_some o)
+is-removed true o = refl
+is-removed false o = refl
+
+pub marks-stay : (ss : List SectionId) (old new : Table (Unit {0})) → Marks ss old → Stays old new → Marks ss new
+marks-stay ss old new k stays = record { apart = k.apart; has = λ q. ap is_some (stays q) ∙ k.has q }
+
+pub marks-more : (ss : List SectionId) (id : SectionId) (old new : Table (Unit {0})) → Marks ss old → list_any (λ s. s.0 == id.0) ss ≡ false
+    → Puts old new id.0 tt → Marks (ss ++ id ∷ []) new
 marks-more ss id old new k fresh after = record {
   apart = apart-more [] ss id k.apart fresh;
-  has = λ q. after q ∙ ap (cond (id.0 == q) true) (k.has q) ∙ by_test (id.0 == q) (list_any (λ s. s.0 == q) ss) ∙ sym (any-append (λ s. s.0 == q) ss (id ∷ []));
+  has = λ q. ap is_some (after q) ∙ is-put (id.0 == q) (value_at old q) ∙ ap (cond (id.0 == q) true) (k.has q) ∙ by_test (id.0 == q) (list_any (λ s. s.0 == q) ss) ∙ sym (any-append (λ s. s.0 == q) ss (id ∷ []));
 }
   where
     by_test : (b a : Bool) → cond b true a ≡ a || (b || false)
@@ -46,14 +57,14 @@ marks-more ss id old new k fresh after = record {
     by_test false true = refl
     by_test false false = refl
 
-pub marks-less : (ss : List SectionId) (id : SectionId) (old new : HashSet ℕ (BuildHasherDefault FoldHasher)) → Marks (ss ++ id ∷ []) old
-    → ((q : ℕ) → contains nat_eq new q ≡ cond (id.0 == q) false (contains nat_eq old q)) → Marks ss new
+pub marks-less : (ss : List SectionId) (id : SectionId) (old new : Table (Unit {0})) → Marks (ss ++ id ∷ []) old
+    → Removes old new id.0 → Marks ss new
 marks-less ss id old new k after =
     let apart : (are_apart_after [] ss ≡ true) × (list_any (λ t. t.0 == id.0) ss ≡ false) = apart-less [] ss id k.apart in
     record {
       apart = apart.0;
       has = λ q.
-          after q ∙ ap (cond (id.0 == q) false) (k.has q) ∙ ap (cond (id.0 == q) false) (any-append (λ s. s.0 == q) ss (id ∷ []))
+          ap is_some (after q) ∙ is-removed (id.0 == q) (value_at old q) ∙ ap (cond (id.0 == q) false) (k.has q) ∙ ap (cond (id.0 == q) false) (any-append (λ s. s.0 == q) ss (id ∷ []))
           ∙ by_test q (id.0 == q) refl (list_any (λ s. s.0 == q) ss) refl apart.1;
     }
   where

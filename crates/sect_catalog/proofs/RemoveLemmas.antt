@@ -13,7 +13,8 @@ use Rattle.sect_catalog.specs.declared.row.CatalogFault.{CatalogFault}
 use Rattle.sect_catalog.specs.declared.row.CatalogFault.TheVariants.{Known, BadParent}
 use Rattle.sect_catalog.specs.Catalogue.{Catalogue, all_courses, all_sections}
 use Rattle.sect_catalog.specs.Fault.{same_kind, config_ids, row_ids, stands_twice, known_id, bad_parent, fault_of, are_checked_after, are_checked}
-use Rattle.sect_catalog.specs.Place.{row_entries, all_entries, Index, place_in, IsIndex, KeepsFirst, first_only}
+use Rattle.sect_catalog.specs.declared.index.Index.{Index}
+use Rattle.sect_catalog.specs.Place.{row_entries, all_entries, place_in, IsIndex, KeepsFirst, first_only}
 use Rattle.sect_catalog.specs.Rising.{put_rising, put_all_rising, rising_courses, Keeps}
 use Rattle.sect_catalog.proofs.AppendLemmas.{both, both-left, both-right, all-row, all-rows, forgotten, row-parts, courses-of-more, row_sections, sections-more, counts-pass}
 use Rattle.sect_catalog.proofs.CountLemmas.{fault-parts}

@@ -1,10 +1,9 @@
 -- Where the ids of rows stand: each id with its kind and its place, in the rows' order.
-use Rattle.std.specs.Prelude.{◌≡◌, ℕ, suc, nat_lt, Bool, ◌||◌, slice_get, cond, List, [], ◌∷◌, ◌++◌, Option, Some, None}
+use Rattle.std.specs.Prelude.{◌≡◌, ℕ, zero, suc, nat_lt, Bool, ◌||◌, slice_get, cond, List, [], ◌∷◌, ◌++◌, Option, Some, None}
 use Rattle.std.specs.Option.{option_or, option_map, option_and_then, is_some}
-use Rattle.std.specs.HashMap.{HashMap, get}
 use Rattle.std.specs.Map.{lookup}
-use Rattle.std.specs.declared.hash.BuildHasherDefault.{BuildHasherDefault}
-use Rattle.std.specs.declared.hash.FoldHasher.{FoldHasher}
+use Rattle.sect_table.specs.Table.{value_at}
+use Rattle.sect_catalog.specs.declared.index.Index.{Index}
 use Rattle.sect_catalog.specs.declared.row.OfferingRow.{OfferingRow}
 use Rattle.sect_catalog.specs.declared.row.CourseRow.{CourseRow}
 use Rattle.sect_catalog.specs.declared.row.ConfigRow.{ConfigRow}
@@ -58,13 +57,18 @@ all_entries rows = placed row_entries 0 rows
 abbrev pub place_in : List Entry → ℕ × ℕ → Option Place
 place_in entries id = lookup (same_kind id) entries
 
--- ids of kinds, each with a place
-abbrev pub Index : Type 0
-Index = HashMap (ℕ × ℕ) Place (BuildHasherDefault FoldHasher)
+-- whether there is such a kind
+abbrev pub has_kind : Entry → Bool
+has_kind entry = nat_lt entry.0.0 5
 
 -- the place that an index has for an id of a kind
 abbrev pub place_of : Index → ℕ × ℕ → Option Place
-place_of index id = get same_kind index id
+place_of index (zero, id) = value_at index.offerings id
+place_of index (suc zero, id) = value_at index.courses id
+place_of index (suc (suc zero), id) = value_at index.configs id
+place_of index (suc (suc (suc zero)), id) = value_at index.subparts id
+place_of index (suc (suc (suc (suc zero))), id) = value_at index.sections id
+place_of index (suc (suc (suc (suc (suc kind)))), id) = None
 
 -- the index tells the first place of each id, and no more
 abbrev pub IsIndex : Index → List OfferingRow → Type 0

@@ -13,15 +13,15 @@ ghost use Rattle.sect_catalog.specs.Added.{with_row, row_fault};
 use crate::count::{count_fault, sections};
 use crate::fault::{bad_parent, missing_part};
 use crate::find::{config_at, course_at, offering_at, section_at};
-use crate::index::{self, Index};
+use crate::index::Index;
 use crate::known::known_id;
 use crate::limit::{cap_key, put_at};
-use crate::place::{Key, Kind, Place, key, note_row};
+use crate::place::{Key, Place, note_row};
 use crate::rising::{drop_courses, put_courses};
 use crate::row::{AddFault, CatalogFault, ConfigRow, CourseRow, OfferingRow, SectionRow};
 use sect_base::{Cap, ConfigId, CourseId, Limit, Memory, OfferingId, SectionId};
+use sect_table::Table;
 use std::alloc::Global;
-use std::collections::{HashMap, HashSet};
 use std::marker::Model;
 
 /// Checked rows, and the sections that are cancelled, each in the order of its coming.
@@ -30,7 +30,7 @@ pub struct Catalogue {
     rows: Vec<OfferingRow>,
     cancelled: Vec<SectionId>,
     /// The ids of the cancelled sections.
-    marks: HashSet<u32>,
+    marks: Table<()>,
     /// The place of each id.
     places: Index,
     /// The ids of all courses, in rising order.
@@ -58,8 +58,8 @@ impl Catalogue {
         Catalogue {
             rows: Vec::new(alloc),
             cancelled: Vec::new(alloc),
-            marks: HashSet::new(alloc),
-            places: HashMap::new(alloc),
+            marks: Table::empty(alloc),
+            places: Index::empty(alloc),
             courses: Vec::new(alloc),
             sections: 0,
         }
@@ -108,30 +108,21 @@ impl Catalogue {
     pub fn section(&self, id: SectionId) -> Option<&SectionRow>
         ensures { option_copied result ≡ find_section self.now.rows id }
     {
-        section_at(
-            &self.rows,
-            index::place(&self.places, key(Kind::Section, id.0)),
-        )
+        section_at(&self.rows, self.places.section(id.0))
     }
 
     /// The configuration of an id. It takes no memory.
     pub fn config(&self, id: ConfigId) -> Option<&ConfigRow>
         ensures { option_copied result ≡ find_config self.now.rows id }
     {
-        config_at(
-            &self.rows,
-            index::place(&self.places, key(Kind::Config, id.0)),
-        )
+        config_at(&self.rows, self.places.config(id.0))
     }
 
     /// The offering of an id. It takes no memory.
     pub fn offering(&self, id: OfferingId) -> Option<&OfferingRow>
         ensures { option_copied result ≡ find_offering self.now.rows id }
     {
-        offering_at(
-            &self.rows,
-            index::place(&self.places, key(Kind::Offering, id.0)),
-        )
+        offering_at(&self.rows, self.places.offering(id.0))
     }
 
     /// The course of an id, with the offering that has it. It takes no memory.
@@ -139,30 +130,21 @@ impl Catalogue {
         ensures course { option_map (λ found. found.1.now) result ≡ find_course self.now.rows id }
         ensures offering { option_map (λ found. found.0.now) result ≡ offering_of_course self.now.rows id }
     {
-        course_at(
-            &self.rows,
-            index::place(&self.places, key(Kind::Course, id.0)),
-        )
+        course_at(&self.rows, self.places.course(id.0))
     }
 
     /// The offering that has a configuration. It takes no memory.
     pub fn offering_of_config(&self, id: ConfigId) -> Option<&OfferingRow>
         ensures { option_copied result ≡ offering_of_config self.now.rows id }
     {
-        offering_at(
-            &self.rows,
-            index::place(&self.places, key(Kind::Config, id.0)),
-        )
+        offering_at(&self.rows, self.places.config(id.0))
     }
 
     /// The offering in which a section stands. It takes no memory.
     pub fn offering_of_section(&self, id: SectionId) -> Option<&OfferingRow>
         ensures { option_copied result ≡ offering_of_section self.now.rows id }
     {
-        offering_at(
-            &self.rows,
-            index::place(&self.places, key(Kind::Section, id.0)),
-        )
+        offering_at(&self.rows, self.places.section(id.0))
     }
 
     /// The ids of all courses in rising order.
@@ -176,7 +158,7 @@ impl Catalogue {
     pub fn is_cancelled(&self, id: SectionId) -> bool
         ensures { result ≡ cancelled_in self.now id }
     {
-        self.marks.contains(&id.0)
+        self.marks.get(id.0).is_some()
     }
 
     /// Cancels a section that stands in a row and isn't cancelled. Where memory runs out, the
@@ -188,7 +170,7 @@ impl Catalogue {
         ensures err { OnErr result (self.new ≡ self.old) }
     {
         self.cancelled.reserve(1)?;
-        self.marks.insert(id.0)?;
+        self.marks.put(id.0, ())?;
         self.cancelled.push_reserved(id);
         Ok(())
     }
@@ -199,7 +181,7 @@ impl Catalogue {
         ensures { self.new ≡ record { rows = self.old.rows; cancelled = take (length self.old.cancelled - 1) self.old.cancelled } }
     {
         if let Some(id) = self.cancelled.pop() {
-            self.marks.remove(&id.0);
+            self.marks.remove(id.0);
         }
     }
 
@@ -229,7 +211,7 @@ impl Catalogue {
             Some(old) => old,
             None => unreachable!(),
         };
-        if let Some(at) = index::place(&self.places, cap_key(cap)) {
+        if let Some(at) = self.places.place(cap_key(cap)) {
             put_at(&mut self.rows, cap, limit, at);
         }
         old
@@ -255,7 +237,7 @@ impl Catalogue {
             Some(row) => row,
             None => unreachable!(),
         };
-        index::keep_first(&mut self.places, self.rows.len());
+        self.places.keep_first(self.rows.len());
         drop_courses(&mut self.courses, row.courses.as_slice());
         self.sections -= sections(row.configs.as_slice());
         row
@@ -272,8 +254,8 @@ impl Catalogue {
         let entries = entries_of(*self.rows.allocator(), at, &row)?;
         self.rows.reserve(1)?;
         self.courses.reserve(row.courses.len())?;
-        if index::note(&mut self.places, &entries).is_err() {
-            index::keep_first(&mut self.places, at);
+        if self.places.note(&entries).is_err() {
+            self.places.keep_first(at);
             return Err(Memory);
         }
         put_courses(&mut self.courses, row.courses.as_slice());

@@ -7,7 +7,7 @@ ghost use Rattle.sect_catalog.specs.Apart.{AreApart};
 ghost use Rattle.sect_catalog.specs.Place.{is_taken as taken_of};
 
 use crate::apart::ids_rise;
-use crate::index::{Index, has};
+use crate::index::Index;
 use crate::place::Key;
 use crate::row::{ConfigRow, CourseRow, OfferingRow, SectionRow, SubpartRow};
 use crate::times::times_in_row;
@@ -31,7 +31,7 @@ fn is_taken(index: &Index, row: &OfferingRow, apart: bool, id: Key) -> bool
     requires { apart ≡ true → AreApart row.now }
     ensures { result ≡ taken_of index.now row.now id }
 {
-    has(index, id) || !apart && times_in_row(row, id) > 1
+    index.has(id) || !apart && times_in_row(row, id) > 1
 }
 
 fn known_course(index: &Index, row: &OfferingRow, apart: bool, courses: &[CourseRow]) -> Option<u32>

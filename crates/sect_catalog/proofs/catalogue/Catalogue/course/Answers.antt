@@ -4,7 +4,7 @@ use Rattle.std.specs.Option.{option_map, option_and_then}
 use Rattle.sect_catalog.specs.declared.row.OfferingRow.{OfferingRow}
 use Rattle.sect_catalog.specs.declared.row.CourseRow.{CourseRow}
 use Rattle.sect_catalog.specs.Catalogue.{find_course, offering_of_course}
-use Rattle.sect_catalog.specs.Place.{place_of, course_at}
+use Rattle.sect_catalog.specs.Place.{course_at}
 use Rattle.sect_catalog.proofs.LookupMore.{course-found, course-offering-found}
 use Rattle.sect_catalog.proofs.catalogue.Catalogue.course.Goals as goal
 
@@ -21,7 +21,7 @@ returns-clause-course c =
     let i = c.self.inside in
     second c.course_at.result
     ∙ ap (option_map (λ found. found.1)) (c.course_at.ensures
-    ∙ (λ j. option_and_then (course_at (c.deref.ensures.value j)) ((c.place.ensures ∙ ap (place_of i.places) c.key.ensures ∙ c.self.invariant.0.places (1, c.args.id.0)) j)))
+    ∙ (λ j. option_and_then (course_at (c.deref.ensures.value j)) ((c.course.ensures ∙ c.self.invariant.0.places (1, c.args.id.0)) j)))
     ∙ course-found c.args.id.0 i.rows.items
     ∙ ap (λ now. find_course now.rows c.args.id) c.self.view_is
 
@@ -30,6 +30,6 @@ returns-clause-offering c =
     let i = c.self.inside in
     first c.course_at.result
     ∙ ap (option_map (λ found. found.0)) (c.course_at.ensures
-    ∙ (λ j. option_and_then (course_at (c.deref.ensures.value j)) ((c.place.ensures ∙ ap (place_of i.places) c.key.ensures ∙ c.self.invariant.0.places (1, c.args.id.0)) j)))
+    ∙ (λ j. option_and_then (course_at (c.deref.ensures.value j)) ((c.course.ensures ∙ c.self.invariant.0.places (1, c.args.id.0)) j)))
     ∙ course-offering-found c.args.id.0 i.rows.items
     ∙ ap (λ now. offering_of_course now.rows c.args.id) c.self.view_is
