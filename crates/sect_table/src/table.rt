@@ -48,6 +48,9 @@ impl<V: Copy> Table<V> {
     fn other(&self, number: u32) -> Option<V>
         ensures { result ≡ get nat_eq self.now.others number }
     {
+        if self.others.is_empty() {
+            return None;
+        }
         self.others.get(&number).copied()
     }
 
