@@ -104,10 +104,12 @@ impl<O: TextObject, K: Keeper, C: Clock> Handler for Asker<O, K, C> {
     }
 }
 
-/// The request of a line that isn't passed over. `Bad` comes exactly where it is none.
+/// The request of a line that isn't passed over, which may be asked of a desk: its id and its command have texts. `Bad` comes
+/// exactly where it is none.
 pub fn read_request(alloc: Global, line: &[u8]) -> Result<LineAsk, LineFault>
     requires { is_passed_over line.now ≡ false }
     ensures found { IfOk result (λ ask. IsLine line.now ask) }
+    ensures fits { IfOk result (λ ask. FitsId ask.id × FitsCommand ask.command) }
     ensures bad { IsErrOf result faults.Bad → IsKnown line.now → ⊥ }
 {
     match read_line(alloc, line) {

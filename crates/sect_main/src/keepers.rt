@@ -2,13 +2,13 @@
 
 use crate::end::End;
 use sect_app::Status;
-use sect_edge::{KeepFault, MemKeeper};
+use sect_edge::KeepFault;
 use sect_journal::{Journal, JournalFault};
 use sect_real::{AnyKeeper, FileDisk, SqliteKeeper};
 use sect_usage::Paths;
 use std::io;
 
-/// The keeper over the file that is named, or one without rows where none is.
+/// The keeper over the file that is named, or none where no file is.
 pub fn keeper_of(rt: HostRuntime, paths: Paths) -> Result<AnyKeeper, End> {
     let Paths { db, journal } = paths;
     if let Some(path) = db {
@@ -17,8 +17,7 @@ pub fn keeper_of(rt: HostRuntime, paths: Paths) -> Result<AnyKeeper, End> {
     if let Some(path) = journal {
         return open_journal(rt, path.as_str());
     }
-    let alloc = rt.alloc();
-    Ok(AnyKeeper::Memory(MemKeeper::new(Vec::new(alloc), Vec::new(alloc))))
+    Ok(AnyKeeper::Nowhere)
 }
 
 fn open_database(rt: HostRuntime, path: &str) -> Result<AnyKeeper, End> {

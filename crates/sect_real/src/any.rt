@@ -1,16 +1,16 @@
 // The keeper that the words name.
 ghost use Rattle.std.specs.Prelude.{None};
-ghost use Rattle.sect_edge.specs.Memory.{keeper_faults};
 ghost use Rattle.sect_real.specs.Kept.{faults_of};
 
 use crate::SqliteKeeper;
-use sect_edge::{KeepFault, Keeper, MemKeeper};
+use sect_edge::{KeepFault, Keeper};
 use sect_journal::Journal;
 use sect_system::FileDisk;
 
-/// One of the keepers. It doesn't tell its rows.
+/// One of the keepers, or none. It doesn't tell its rows.
 pub enum AnyKeeper {
-    Memory(MemKeeper),
+    /// No file is named: no row is kept, and the history ends with the program.
+    Nowhere,
     Sqlite(SqliteKeeper),
     Journal(Journal<FileDisk>),
 }
@@ -20,7 +20,7 @@ impl AnyKeeper {
     pub fn close(self) -> Result<(), KeepFault> {
         match self {
             AnyKeeper::Sqlite(keeper) => keeper.close(),
-            AnyKeeper::Memory(_) => Ok(()),
+            AnyKeeper::Nowhere => Ok(()),
             AnyKeeper::Journal(_) => Ok(()),
         }
     }
@@ -33,7 +33,7 @@ impl Keeper for AnyKeeper {
 
     fn append(&mut self, row: &[u8]) -> Result<(), KeepFault> {
         match self {
-            AnyKeeper::Memory(keeper) => keeper.append(row),
+            AnyKeeper::Nowhere => Ok(()),
             AnyKeeper::Sqlite(keeper) => keeper.append(row),
             AnyKeeper::Journal(keeper) => keeper.append(row),
         }
@@ -41,7 +41,7 @@ impl Keeper for AnyKeeper {
 
     fn row(&mut self, at: u64, into: &mut Vec<u8>) -> Result<bool, KeepFault> {
         match self {
-            AnyKeeper::Memory(keeper) => keeper.row(at, into),
+            AnyKeeper::Nowhere => Ok(false),
             AnyKeeper::Sqlite(keeper) => keeper.row(at, into),
             AnyKeeper::Journal(keeper) => keeper.row(at, into),
         }
@@ -49,7 +49,7 @@ impl Keeper for AnyKeeper {
 
     fn len(&mut self) -> Result<u64, KeepFault> {
         match self {
-            AnyKeeper::Memory(keeper) => keeper.len(),
+            AnyKeeper::Nowhere => Ok(0),
             AnyKeeper::Sqlite(keeper) => keeper.len(),
             AnyKeeper::Journal(keeper) => keeper.len(),
         }

@@ -1,5 +1,6 @@
 // Runs with the answers that the rules give, worked by hand.
 
+mod calling;
 mod connections;
 mod ends;
 mod found;
