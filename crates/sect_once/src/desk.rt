@@ -11,6 +11,7 @@ use sect_base::Id;
 use sect_edge::Keeper;
 use std::alloc::Global;
 use std::marker::Model;
+use std::mem::forget;
 use std::snapshot::Snapshot;
 
 /// An object with the log of what it was asked, over a keeper that has the row of each entry.
@@ -48,6 +49,25 @@ impl<O: Object, K: Keeper> Desk<O, K> {
             keeper,
             opened: _,
         } = self;
+        keeper
+    }
+
+    /// The keeper, with the rows that it has, as `close` gives it back, for a process that is about to end: nothing is
+    /// freed, so the memory of the history stays taken until then.
+    pub fn leave(self) -> K
+    where
+        O: Drop,
+        ensures { result ≡ self.keeper }
+    {
+        let Desk {
+            alloc: _,
+            past,
+            marks,
+            keeper,
+            opened: _,
+        } = self;
+        forget(past);
+        forget(marks);
         keeper
     }
 

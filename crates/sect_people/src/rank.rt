@@ -1,14 +1,55 @@
 // Searches in lists of ids in rising order.
 
-ghost use Rattle.std.specs.Prelude.{◌≡◌, ◌==◌};
+ghost use Rattle.std.specs.Prelude.{◌≡◌, ◌==◌, ◌≤◌, length, IsTrue};
 ghost use Rattle.std.specs.List.{list_any};
 ghost use Rattle.std.specs.List.Sorted.{IsNonDecreasingBy};
 ghost use Rattle.sect_people.specs.Index.{rank as rank_of};
 
 use sect_base::{CourseId, StudentId};
 
-/// The number of ids below this one, which is where it stands or would stand.
+/// The number of ids below this one, which is where it stands or would stand. It takes no search where each id between the
+/// first and this one is there, or where this one is above the last.
 pub fn rank(ids: &[StudentId], id: StudentId) -> usize
+    requires { IsNonDecreasingBy (λ d. d.0) ids.now }
+    ensures { result ≡ rank_of (λ d. d.0) id.0 ids.now }
+{
+    let place = guess(ids, id);
+    if reaches(ids, id, place) && passes(ids, id, place) {
+        place
+    } else {
+        searched(ids, id)
+    }
+}
+
+/// Where the id stands if each between the first and this one is there, but no farther than the end.
+fn guess(ids: &[StudentId], id: StudentId) -> usize
+    ensures { result ≤ length ids.now }
+{
+    match ids {
+        [] => 0,
+        [first, ..] => (id.0.saturating_sub(first.0) as usize).min(ids.len()),
+    }
+}
+
+/// Whether the id at the place isn't below this one.
+fn reaches(ids: &[StudentId], id: StudentId, place: usize) -> bool
+    requires { place ≤ length ids.now }
+    ensures { IsTrue result → rank_of (λ d. d.0) id.0 ids.now ≤ place }
+{
+    place == ids.len() || id.0 <= ids[place].0
+}
+
+/// Whether the id before the place is below this one.
+fn passes(ids: &[StudentId], id: StudentId, place: usize) -> bool
+    requires rising { IsNonDecreasingBy (λ d. d.0) ids.now }
+    requires within { place ≤ length ids.now }
+    ensures { IsTrue result → place ≤ rank_of (λ d. d.0) id.0 ids.now }
+{
+    place == 0 || ids[place - 1].0 < id.0
+}
+
+/// The number of ids below this one, found by halves.
+fn searched(ids: &[StudentId], id: StudentId) -> usize
     requires { IsNonDecreasingBy (λ d. d.0) ids.now }
     ensures { result ≡ rank_of (λ d. d.0) id.0 ids.now }
 {

@@ -32,6 +32,7 @@ ghost use Rattle.sect_script.specs.Lines.{IsOneLine, without_return};
 ghost use Rattle.sect_script.specs.Reading.{LINE_LIMIT, Moves, ReadsLine};
 
 use crate::write::{Unwritten, write_out};
+use memchr::memchr;
 use sect_edge::{Failed, Sink, Source};
 use std::alloc::{AllocError, AllocFailed, Global};
 use std::marker::Model;
@@ -192,7 +193,7 @@ fn line_feed_at(bytes: &[u8]) -> Option<usize>
     ensures before { IfSome result (λ at. IsOneLine (take at bytes.now)) }
     ensures none { IfNone result (IsOneLine bytes.now) }
 {
-    bytes.iter().position(|&byte| byte == b'\n')
+    memchr(b'\n', bytes)
 }
 
 fn drop_return(line: &mut Vec<u8>)

@@ -1,7 +1,7 @@
 -- the rank lies between the two ends
 use Rattle.std.proofs.Common.{◌-◌, ◌≤◌, length}
 use Rattle.sect_people.specs.Index.{rank as rank_of}
-use Rattle.sect_people.proofs.rank.rank.Given as goal
+use Rattle.sect_people.proofs.rank.searched.Given as goal
 
 abbrev pub invariant-loop-low : goal.invariant-loop-low
 invariant-loop-low l =

@@ -1,7 +1,7 @@
 -- The middle tells on which side the rank lies.
 use Rattle.std.proofs.Common.{arith, length, ◌<◌, ◌+◌, ◌-◌, ◌/◌}
 use Rattle.sect_people.proofs.RankLemmas.{rank_le-length, rank_le, lt_rank, less, not_less}
-use Rattle.sect_people.proofs.rank.rank.Goals as goal
+use Rattle.sect_people.proofs.rank.searched.Goals as goal
 
 pub loop-low-init : goal.loop-low-init
 loop-low-init c = (omega arith, rank_le-length (λ d. d.0) c.args.id.0 c.args.ids.now, omega arith)
