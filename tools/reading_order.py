@@ -23,7 +23,7 @@ def model(*names):
 CHAPTERS = [
     ('Lists and counts',
      'Small words used throughout.',
-     ['sect_base/specs/Told.antt', 'sect_base/specs/Padded.antt', 'sect_people/specs/Order.antt']),
+     ['sect_base/specs/Capped.antt', 'sect_base/specs/Padded.antt', 'sect_people/specs/Order.antt']),
     ('Times',
      'A day is a number from 1970-01-01. A meeting is a set of weekdays, a first slot of five minutes, a number of '
      'slots and a set of weeks.',

@@ -36,7 +36,7 @@ fn ask<
     into: &mut Vec<u8>,
 ) -> Result<Page, Memory>
     requires turn { IsPassOf (λ d. d.log) (λ d. d.base) office.now.turn pass.old }
-    requires idle { IsIdle pass.old }
+    requires between_turns { IsIdle pass.old }
     requires askable { (day : ℕ) → FitsDay day → O.may_ask id day command }
     requires empty { into.old.items ≡ [] }
     requires room { 64 ≤ vec_capacity into.old }
@@ -63,7 +63,7 @@ fn look<
     into: &mut Vec<u8>,
 ) -> Result<Page, Memory>
     requires turn { IsPassOf (λ d. d.log) (λ d. d.base) office.now.turn pass.old }
-    requires idle { IsIdle pass.old }
+    requires between_turns { IsIdle pass.old }
     requires empty { into.old.items ≡ [] }
     ensures turn { IsPassOf (λ d. d.log) (λ d. d.base) office.now.turn pass.new × IsIdle pass.new }
     ensures same { (share pass.new ≡ share pass.old) × (opening pass.new ≡ opening pass.old) }
@@ -96,7 +96,7 @@ pub fn act<
     into: &mut Vec<u8>,
 ) -> Result<Page, Memory>
     requires turn { IsPassOf (λ d. d.log) (λ d. d.base) office.now.turn pass.old }
-    requires idle { IsIdle pass.old }
+    requires between_turns { IsIdle pass.old }
     requires askable { MayDo O.may_ask errand }
     requires empty { into.old.items ≡ [] }
     requires room { 64 ≤ vec_capacity into.old }

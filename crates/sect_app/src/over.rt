@@ -98,7 +98,7 @@ fn make_on<T: Sink, C: Clock + Drop>(
     clock: C,
 ) -> Status
     requires first { 1 ≤ offerings }
-    requires few { offerings ≤ 100 }
+    requires bound { offerings ≤ 100 }
     ensures makes { Makes offerings (C.days clock) (T.taken sink.old) (T.taken sink.new) result }
     ensures write_fault { result ≡ Status.WriteFault → Rose (T.faults sink.old) (T.faults sink.new) }
     ensures others { result ≢ Status.BadWords × (result ≢ Status.LinkFault) × (result ≢ Status.ReadFault) × (result ≢ Status.KeeperFault) }

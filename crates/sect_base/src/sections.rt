@@ -45,7 +45,7 @@ impl Sections {
     /// How many there are, at most six.
     pub fn len(&self) -> usize
         ensures count { result ≡ length self.now }
-        ensures few { result ≤ 6 }
+        ensures bound { result ≤ 6 }
     {
         usize::from(self.len)
     }

@@ -7,7 +7,7 @@ use Rattle.std.proofs.Common.{sym, ◌∙◌, ap, subst, arith, get_or}
 use Rattle.std.proofs.lemmas.Bool.Decides.{nat_tests}
 use Rattle.std.proofs.lemmas.List.{take_more, map-append}
 use Rattle.std.proofs.lemmas.List.FromFn.{length-enumerate_from, get_or-enumerate_from}
-use Rattle.sect_base.specs.Told.{told}
+use Rattle.sect_base.specs.Capped.{capped}
 use Rattle.sect_base.specs.declared.ids.StudentId.{StudentId}
 use Rattle.sect_people.specs.Student.{Student, find_student}
 use Rattle.sect_people.specs.Fault as requests
@@ -59,10 +59,10 @@ few-asks w k student = by_found (find_student w.students student) refl
     passed : (asks : List Ask) → is_none (requests.fault_of asks (course_ids w)) ≡ true → length asks ≤ 20
     passed asks h =
         let counts = option_or (then_some (nat_lt 20 (length asks)) (length asks)) (requests.first_bad_length asks) in
-        let rest = none-right (option_map (λ c. UnknownCourse c.0) (find (requests.is_unknown (course_ids w)) (requests.courses_of_all asks))) (option_or (option_map Twice (requests.repeated_after [] (requests.courses_of_all asks))) (option_map (λ n. TooMany (told n)) counts)) h in
-        let sizes = none-right (option_map Twice (requests.repeated_after [] (requests.courses_of_all asks))) (option_map (λ n. TooMany (told n)) counts) rest in
+        let rest = none-right (option_map (λ c. UnknownCourse c.0) (find (requests.is_unknown (course_ids w)) (requests.courses_of_all asks))) (option_or (option_map Twice (requests.repeated_after [] (requests.courses_of_all asks))) (option_map (λ n. TooMany (capped n)) counts)) h in
+        let sizes = none-right (option_map Twice (requests.repeated_after [] (requests.courses_of_all asks))) (option_map (λ n. TooMany (capped n)) counts) rest in
         few (length asks) (not_said (nat_lt 20 (length asks)) (length asks)
-        (none-left (then_some (nat_lt 20 (length asks)) (length asks)) (requests.first_bad_length asks) (sym (none-map (λ n. TooMany (told n)) counts) ∙ sizes)))
+        (none-left (then_some (nat_lt 20 (length asks)) (length asks)) (requests.first_bad_length asks) (sym (none-map (λ n. TooMany (capped n)) counts) ∙ sizes)))
 
     by_found : (o : Option Student) → find_student w.students student ≡ o → length (option_map_or (λ s. s.asks) o []) ≤ 20
     by_found None e = omega arith
@@ -164,7 +164,7 @@ pub told-on : (student : StudentId) (asks : List Ask) (w_old : World) (l_old : L
 told-on student asks w_old l_old n w l v m few told more b t =
     let one = ask-more asks n few in
     let before = take n (enumerate_from 1 asks) in
-    subst (Tells v m) (sym (ap (batch_asks b student) one.2 ∙ batch_asks-append before ((n + 1, one.0) ∷ []) b student)) (more (batch_asks b student before) one.0 one.1 (told b t))
+    subst (Tells v m) (sym (ap (batch_asks b student) one.2 ∙ batch_asks-append before ((n + 1, one.0) ∷ []) b student)) (more (batch_asks b student before) one.0 one.1 (capped b t))
 
 take_all : {X : Type 0} (n : ℕ) (xs : List X) → length xs ≤ n → take n xs ≡ xs
 take_all zero [] few = refl
@@ -175,7 +175,7 @@ take_all (suc n) (x ∷ xs) few = ap (λ ys. x ∷ ys) (take_all n xs (omega (ar
 pub told-all : (student : StudentId) (asks : List Ask) (w_old : World) (l_old : Lines) (n : ℕ) (w : World) (l : Lines) → length asks ≤ n → ToldAsks student asks w_old l_old n w l
     → (b : Batched) → Tells w_old l_old b → Tells w l (batch_asks b student (enumerate_from 1 asks))
 told-all student asks w_old l_old n w l all told b t =
-    subst (λ xs. Tells w l (batch_asks b student xs)) (take_all n (enumerate_from 1 asks) (enough (length (enumerate_from 1 asks)) (length asks) (length-enumerate_from 1 asks) all)) (told b t)
+    subst (λ xs. Tells w l (batch_asks b student xs)) (take_all n (enumerate_from 1 asks) (enough (length (enumerate_from 1 asks)) (length asks) (length-enumerate_from 1 asks) all)) (capped b t)
   where
     enough : (k j : ℕ) → k ≡ j → j ≤ n → k ≤ n
     enough k j e h = omega (arith, e, h)

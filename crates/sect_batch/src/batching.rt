@@ -87,7 +87,7 @@ fn all_or_none<L: Ledger>(
     ensures since { Since world.old.world undo.old.backs world.new.world undo.new.backs }
     ensures undoable { Undoable world.new undo.new.backs }
 {
-    world.is_kept();
+    world.recall_kept();
     let made = undo.len();
     let lines = all_lines(alloc, world, students, undo, steps);
     if lines.is_err() {
@@ -162,7 +162,7 @@ fn ask_line<L: Ledger>(
     ensures since { Since world.old.world undo.old.backs world.new.world undo.new.backs }
     ensures undoable { Undoable world.new undo.new.backs }
 {
-    world.is_kept();
+    world.recall_kept();
     match answer_at(alloc, world, student, place, lines, steps)? {
         Some(answer) => add(world, student, rank(place), answer, lines, undo),
         None => Ok(()),
@@ -185,7 +185,7 @@ fn answer_at<L: Ledger>(
         → answer ≡ answer_to_ask b student (place + 1) ask) }
     ensures met { IfOk result (λ answer. IfSome answer (λ a. MetFits world.now.world student a.result)) }
 {
-    world.is_kept();
+    world.recall_kept();
     match world.asks(student).get(place) {
         Some(ask) => answer_ask(alloc, world, student, place, ask, lines, steps),
         None => Ok(None),

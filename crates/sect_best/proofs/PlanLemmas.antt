@@ -5,7 +5,7 @@ use Rattle.std.specs.Bool.{then_some}
 use Rattle.std.specs.Option.{is_some, is_none, option_map, option_map_or, option_or}
 use Rattle.std.proofs.Common.{sym, ◌∙◌, ap, arith, length-append}
 use Rattle.std.proofs.lemmas.Bool.Decides.{nat_tests}
-use Rattle.sect_base.specs.Told.{told}
+use Rattle.sect_base.specs.Capped.{capped}
 use Rattle.sect_people.specs.Student.{Student, find_student}
 use Rattle.sect_people.specs.Fault as requests
 use Rattle.sect_people.specs.declared.row.RequestFault.TheVariants.{UnknownCourse, Twice, TooMany}
@@ -57,10 +57,10 @@ few-asks w k student = by_found (find_student w.students student) refl
     passed : (asks : List Ask) → is_none (requests.fault_of asks (course_ids w)) ≡ true → length asks ≤ 20
     passed asks h =
         let counts = option_or (then_some (nat_lt 20 (length asks)) (length asks)) (requests.first_bad_length asks) in
-        let rest = none-right (option_map (λ c. UnknownCourse c.0) (find (requests.is_unknown (course_ids w)) (requests.courses_of_all asks))) (option_or (option_map Twice (requests.repeated_after [] (requests.courses_of_all asks))) (option_map (λ n. TooMany (told n)) counts)) h in
-        let sizes = none-right (option_map Twice (requests.repeated_after [] (requests.courses_of_all asks))) (option_map (λ n. TooMany (told n)) counts) rest in
+        let rest = none-right (option_map (λ c. UnknownCourse c.0) (find (requests.is_unknown (course_ids w)) (requests.courses_of_all asks))) (option_or (option_map Twice (requests.repeated_after [] (requests.courses_of_all asks))) (option_map (λ n. TooMany (capped n)) counts)) h in
+        let sizes = none-right (option_map Twice (requests.repeated_after [] (requests.courses_of_all asks))) (option_map (λ n. TooMany (capped n)) counts) rest in
         few (length asks) (not_said (nat_lt 20 (length asks)) (length asks)
-        (none-left (then_some (nat_lt 20 (length asks)) (length asks)) (requests.first_bad_length asks) (sym (none-map (λ n. TooMany (told n)) counts) ∙ sizes)))
+        (none-left (then_some (nat_lt 20 (length asks)) (length asks)) (requests.first_bad_length asks) (sym (none-map (λ n. TooMany (capped n)) counts) ∙ sizes)))
 
     by_found : (o : Option Student) → find_student w.students student ≡ o → length (option_map_or (λ s. s.asks) o []) ≤ 20
     by_found None e = omega arith

@@ -84,7 +84,7 @@ fn plan<L: Ledger>(
     ensures planned { IfOk result (λ planned. planned ≡ planned_of world.now.world student budget) }
     ensures told { IfOk result (λ planned. AreTold planned.verdicts) }
 {
-    world.is_kept();
+    world.recall_kept();
     let wants = wants_of(alloc, world.asks(student))?;
     plan_wants(alloc, world, student, budget, wants, steps)
 }
@@ -100,7 +100,7 @@ fn plan_wants<L: Ledger>(
 ) -> Result<Planned, Memory>
     requires known { IsTrue (is_some (find_student world.now.world.students student)) }
     requires fit { IsTrue (list_all (want_fits world.now.world) wants.items) }
-    requires few { length wants.items ≤ 20 }
+    requires bound { length wants.items ≤ 20 }
     ensures planned { IfOk result (λ planned. planned ≡ plan_asks world.now.world student budget nothing_planned wants.items) }
     ensures told { IfOk result (λ planned. AreTold planned.verdicts) }
 {
@@ -124,7 +124,7 @@ fn plan_want<L: Ledger>(
     requires known { IsTrue (is_some (find_student world.now.world.students student)) }
     requires kept { IsTrue (list_all (want_fits world.now.world) planned.kept) }
     requires fits { IsTrue (want_fits world.now.world want) }
-    requires few { length planned.kept < 20 }
+    requires bound { length planned.kept < 20 }
     requires told { AreTold planned.verdicts }
     ensures planned { IfOk result (λ more. more ≡ plan_ask world.now.world student budget planned want) }
     ensures told { IfOk result (λ more. AreTold more.verdicts) }

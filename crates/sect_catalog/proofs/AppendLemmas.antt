@@ -6,7 +6,7 @@ use Rattle.std.proofs.Common.{sym, ◌∙◌, ap, arith, subst, take, append_ass
 use Rattle.std.proofs.lemmas.Bool.Decides.{nat_tests}
 use Rattle.std.proofs.lemmas.Grind.{flat_map-append}
 use Rattle.std.proofs.lemmas.List.{append-nil}
-use Rattle.sect_base.specs.Told.{told}
+use Rattle.sect_base.specs.Capped.{capped}
 use Rattle.sect_base.specs.declared.ids.CourseId.{CourseId}
 use Rattle.sect_base.specs.declared.ids.SectionId.{SectionId}
 use Rattle.sect_catalog.specs.declared.row.OfferingRow.{OfferingRow}
@@ -181,7 +181,7 @@ counts-pass c o h = within (length (all_sections c.rows) + row_sections o) last
     within : (n : ℕ) → too_many_of 20000 (n ∷ []) ≡ None → n ≤ 20000
     within n e = by_test (nat_lt 20000 n) refl e
       where
-        by_test : (b : Bool) → nat_lt 20000 n ≡ b → option_map {T = ℕ} {U = CatalogFault} (λ n. TooMany (told n)) (cond b (Some n) None) ≡ None → n ≤ 20000
+        by_test : (b : Bool) → nat_lt 20000 n ≡ b → option_map {T = ℕ} {U = CatalogFault} (λ n. TooMany (capped n)) (cond b (Some n) None) ≡ None → n ≤ 20000
         by_test true t e = cc
         by_test false t e = grind (arith, nat_tests)
 

@@ -5,7 +5,7 @@ use Rattle.std.specs.Bool.{then_some}
 use Rattle.std.proofs.Common.{◌∙◌, ap}
 use Rattle.std.proofs.lemmas.Grind.{flat_map-append}
 use Rattle.std.proofs.lemmas.List.Folds.{find-append}
-use Rattle.sect_base.specs.Told.{told}
+use Rattle.sect_base.specs.Capped.{capped}
 use Rattle.sect_catalog.specs.declared.row.OfferingRow.{OfferingRow}
 use Rattle.sect_catalog.specs.declared.row.ConfigRow.{ConfigRow}
 use Rattle.sect_catalog.specs.declared.row.SubpartRow.{SubpartRow}
@@ -29,8 +29,8 @@ or-or (Some x) b c = refl
 
 counts-append : {X : Type 0} (limit : ℕ) (count : X → ℕ) (xs ys : List X) → too_many_of limit (map count (xs ++ ys)) ≡ option_or (too_many_of limit (map count xs)) (too_many_of limit (map count ys))
 counts-append limit count xs ys =
-    ap (too_many_of limit) (map-append count xs ys) ∙ ap (option_map (λ n. TooMany (told n))) (find-append (nat_lt limit) (map count xs) (map count ys))
-    ∙ map-or (λ n. TooMany (told n)) (above limit (map count xs)) (above limit (map count ys))
+    ap (too_many_of limit) (map-append count xs ys) ∙ ap (option_map (λ n. TooMany (capped n))) (find-append (nat_lt limit) (map count xs) (map count ys))
+    ∙ map-or (λ n. TooMany (capped n)) (above limit (map count xs)) (above limit (map count ys))
 
 pub counts-parts : {X Y : Type 0} (limit : ℕ) (count : Y → ℕ) (f : X → List Y) (x : X) (xs : List X)
     → too_many_of limit (map count (flat_map f (x ∷ xs))) ≡ option_or (too_many_of limit (map count (f x))) (too_many_of limit (map count (flat_map f xs)))
@@ -44,16 +44,16 @@ meetings-parts x xs =
     ∙ counts-append 8 (λ s. length s.meetings) (sections_in x.subparts) (sections_in (flat_map (λ g. g.subparts) xs))
 
 -- the counts of a row against their limits are the last fault
-counts-last : (c : Catalogue) (o : OfferingRow) → option_map (λ n. TooMany (told n)) (too_many c o) ≡ count_fault (length (all_sections c.rows)) o
+counts-last : (c : Catalogue) (o : OfferingRow) → option_map (λ n. TooMany (capped n)) (too_many c o) ≡ count_fault (length (all_sections c.rows)) o
 counts-last c o =
     six (above 10 (length o.courses ∷ [])) (above 10 (length o.configs ∷ [])) (above 6 (map (λ g. length g.subparts) o.configs))
     (above 200 (map (λ p. length p.sections) (flat_map (λ g. g.subparts) o.configs)))
     (above 8 (map (λ s. length s.meetings) (sections_in (flat_map (λ g. g.subparts) o.configs))))
     (above 20000 ((length (all_sections c.rows) + length (sections_in (flat_map (λ g. g.subparts) o.configs))) ∷ []))
   where
-    six : (p q r s t u : Option ℕ) → option_map (λ n. TooMany (told n)) (option_or p (option_or q (option_or r (option_or s (option_or t u)))))
-        ≡ option_or (option_map (λ n. TooMany (told n)) p) (option_or (option_map (λ n. TooMany (told n)) q) (option_or (option_map (λ n. TooMany (told n)) r)
-        (option_or (option_map (λ n. TooMany (told n)) s) (option_or (option_map (λ n. TooMany (told n)) t) (option_map (λ n. TooMany (told n)) u)))))
+    six : (p q r s t u : Option ℕ) → option_map (λ n. TooMany (capped n)) (option_or p (option_or q (option_or r (option_or s (option_or t u)))))
+        ≡ option_or (option_map (λ n. TooMany (capped n)) p) (option_or (option_map (λ n. TooMany (capped n)) q) (option_or (option_map (λ n. TooMany (capped n)) r)
+        (option_or (option_map (λ n. TooMany (capped n)) s) (option_or (option_map (λ n. TooMany (capped n)) t) (option_map (λ n. TooMany (capped n)) u)))))
     six (Some n) q r s t u = refl
     six None (Some n) r s t u = refl
     six None None (Some n) s t u = refl

@@ -5,7 +5,7 @@ use Rattle.std.specs.Option.{option_map, option_map_or, option_or, is_none}
 use Rattle.std.specs.Bool.{then_some}
 use Rattle.std.proofs.Common.{sym, ◌∙◌, ap, arith}
 use Rattle.std.proofs.lemmas.List.{map-append}
-use Rattle.sect_base.specs.Told.{told}
+use Rattle.sect_base.specs.Capped.{capped}
 use Rattle.sect_base.specs.declared.limit.Cap.{Cap}
 use Rattle.sect_base.specs.declared.limit.Limit.{Limit}
 use Rattle.sect_base.specs.declared.ids.CourseId.{CourseId}
@@ -173,7 +173,7 @@ module _ (cap : Cap) (limit : Limit) where
       (option_or (no_subpart i)
       (option_or (no_section i)
       (option_or (option_map BadParent (bad_parent-same o.configs i))
-      (option_map (λ n. TooMany (told n)) (too_many-same before o i)))))))
+      (option_map (λ n. TooMany (capped n)) (too_many-same before o i)))))))
     where
       known : known_id (record { rows = map offering before; cancelled = [] }) (offering o) ≡ known_id (record { rows = before; cancelled = [] }) o
       known = λ i. option_map (λ id. id.1) (find (λ id. list_any (same_kind id) (parts-same row_ids offering before row_ids-after i) || stands_twice (row_ids-after o i) id) (row_ids-after o i))

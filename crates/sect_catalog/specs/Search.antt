@@ -3,7 +3,7 @@ use Rattle.std.specs.Prelude.{ℕ, min, not, Bool, ◌==◌, ◌+◌, false, Lis
 use Rattle.std.specs.List.{list_any}
 use Rattle.std.specs.Option.{option_or, option_map, option_map_or}
 use Rattle.std.specs.Bool.{then_some}
-use Rattle.sect_base.specs.Told.{told}
+use Rattle.sect_base.specs.Capped.{capped}
 use Rattle.sect_catalog.specs.declared.row.OfferingRow.{OfferingRow}
 use Rattle.sect_catalog.specs.declared.row.ConfigRow.{ConfigRow}
 use Rattle.sect_catalog.specs.declared.row.SectionRow.{SectionRow}
@@ -37,7 +37,7 @@ missing_part o =
 
 -- the first of the counts that is above the limit, as a fault
 abbrev pub too_many_of : ℕ → List ℕ → Option CatalogFault
-too_many_of limit counts = option_map (λ n. TooMany (told n)) (above limit counts)
+too_many_of limit counts = option_map (λ n. TooMany (capped n)) (above limit counts)
 
 -- the first count of the row that is above its limit, beside so many sections
 abbrev pub count_fault : ℕ → OfferingRow → Option CatalogFault

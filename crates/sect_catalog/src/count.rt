@@ -1,7 +1,7 @@
 // The counts of a row against their limits.
 
 ghost use Rattle.std.specs.Prelude.{◌≡◌, ℕ, ◌+◌, ◌-◌, ◌^◌, min, List, ◌∷◌, [], length, map, flat_map, ◌≤◌};
-ghost use Rattle.sect_base.specs.Told.{told as told_as};
+ghost use Rattle.sect_base.specs.Capped.{capped as capped_of};
 ghost use Rattle.sect_catalog.specs.Catalogue.{sections_in};
 ghost use Rattle.sect_catalog.specs.Search.{too_many_of, count_fault as fault_of_counts};
 
@@ -49,14 +49,14 @@ fn above(limit: usize, count: usize) -> Option<CatalogFault>
     ensures { result ≡ too_many_of limit (count ∷ []) }
 {
     if limit < count {
-        return Some(CatalogFault::TooMany(told(count)));
+        return Some(CatalogFault::TooMany(capped(count)));
     }
     None
 }
 
 /// A count of at most 2^32 - 1.
-fn told(count: usize) -> u32
-    ensures { result ≡ told_as count }
+fn capped(count: usize) -> u32
+    ensures { result ≡ capped_of count }
 {
     count.min(u32::MAX as usize) as u32
 }

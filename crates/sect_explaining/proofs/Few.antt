@@ -4,7 +4,7 @@ use Rattle.std.specs.Prelude.{nat_lt, not, ⊤}
 use Rattle.std.specs.Bool.{then_some}
 use Rattle.std.specs.Option.{option_or}
 use Rattle.std.proofs.lemmas.Bool.Decides.{nat_tests}
-use Rattle.sect_base.specs.Told.{told}
+use Rattle.sect_base.specs.Capped.{capped}
 use Rattle.sect_base.specs.Tree.{Tree}
 use Rattle.sect_base.specs.declared.choice.Move.{Move}
 use Rattle.sect_base.specs.declared.limit.Caller.{Caller}
@@ -38,7 +38,7 @@ few_by n false refusal is none = grind (arith, nat_tests, is)
 few_by n true refusal is none = absurd cc
 
 few : (n : ℕ) → too_many 4 n ≡ None → n ≤ 4
-few n none = few_by n (nat_lt 4 n) (TooMany (told n)) refl none
+few n none = few_by n (nat_lt 4 n) (TooMany (capped n)) refl none
 
 -- the wants of a move that is this one
 as_taken : (a b : Move) → Some a ≡ Some b → length a.take ≤ 4 → length b.take ≤ 4

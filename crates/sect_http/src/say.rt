@@ -67,7 +67,7 @@ fn say<
     into: &mut Vec<u8>,
 ) -> Result<Page, Memory>
     requires turn { IsPassOf (λ d. d.log) (λ d. d.base) office.now.turn pass.old }
-    requires idle { IsIdle pass.old }
+    requires between_turns { IsIdle pass.old }
     requires texts { TakesTexts O.may_ask }
     requires wished { (asked : Asked) × Wishes asked wish }
     requires empty { into.old.items ≡ [] }
@@ -102,7 +102,7 @@ pub(crate) fn say_ready<
     out: &mut Vec<u8>,
 ) -> Result<Page, Memory>
     requires turn { IsPassOf (λ d. d.log) (λ d. d.base) office.now.turn pass.old }
-    requires idle { IsIdle pass.old }
+    requires between_turns { IsIdle pass.old }
     requires texts { TakesTexts O.may_ask }
     requires wished { (asked : Asked) × Wishes asked wish }
     ensures turn { IsPassOf (λ d. d.log) (λ d. d.base) office.now.turn pass.new × IsIdle pass.new }

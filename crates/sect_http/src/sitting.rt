@@ -73,7 +73,7 @@ pub fn talk<
     bench: &mut Bench,
 ) -> End
     requires turn { IsPassOf (λ d. d.log) (λ d. d.base) office.now.turn pass.old }
-    requires idle { IsIdle pass.old }
+    requires between_turns { IsIdle pass.old }
     requires texts { TakesTexts O.may_ask }
     requires step { step.old ≤ 2 ^ 63 }
     ensures turn { IsPassOf (λ d. d.log) (λ d. d.base) office.now.turn pass.new × IsIdle pass.new }
@@ -132,7 +132,7 @@ pub fn session<
     step: &mut u64,
 ) -> End
     requires turn { IsPassOf (λ d. d.log) (λ d. d.base) office.now.turn pass.old }
-    requires idle { IsIdle pass.old }
+    requires between_turns { IsIdle pass.old }
     requires texts { TakesTexts O.may_ask }
     requires step { step.old ≤ 2 ^ 63 }
     ensures turn { IsPassOf (λ d. d.log) (λ d. d.base) office.now.turn pass.new × IsIdle pass.new }

@@ -64,7 +64,7 @@ fn respond<
     number: u32,
 ) -> Result<bool, Failed>
     requires turn { IsPassOf (λ d. d.log) (λ d. d.base) office.now.turn pass.old }
-    requires idle { IsIdle pass.old }
+    requires between_turns { IsIdle pass.old }
     requires texts { TakesTexts O.may_ask }
     requires heard { (pending : List ℕ) × (asked : Asked) × IsHeard pending heard asked }
     ensures turn { IsPassOf (λ d. d.log) (λ d. d.base) office.now.turn pass.new × IsIdle pass.new }
@@ -112,7 +112,7 @@ pub(crate) fn turn<
     number: u32,
 ) -> Option<End>
     requires turn { IsPassOf (λ d. d.log) (λ d. d.base) office.now.turn pass.old }
-    requires idle { IsIdle pass.old }
+    requires between_turns { IsIdle pass.old }
     requires texts { TakesTexts O.may_ask }
     requires number { number ≤ LAST_REQUEST }
     requires step { step.old < 2 ^ 64 - 2 }

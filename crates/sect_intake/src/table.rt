@@ -81,7 +81,7 @@ fn turn<O: TextObject, K: Keeper, C: Clock, S: Source, T: Sink>(
     sink: &mut T,
     next: &mut Option<u64>,
 ) -> Option<RunEnd>
-    requires few { total.old ≤ TABLE_LIMIT }
+    requires bound { total.old ≤ TABLE_LIMIT }
     requires room { 0 < length buffer.old.items }
     ensures ran { (table : Tables) (term : Option ℕ) (first : ℕ) (left taken : Option (List ℕ)) (old : Sitting O.State Command Reply K)
         → Underway (AnswersNumbered O.stepped O.is_row K.rows K.faults) table term first left (S.left source.old) taken
@@ -90,7 +90,7 @@ fn turn<O: TextObject, K: Keeper, C: Clock, S: Source, T: Sink>(
         (T.taken sink.new) old asker.new import.new next.new total.new)
         (RanTable (AnswersNumbered O.stepped O.is_row K.rows K.faults) table term first left (S.left source.new) taken
         (T.taken sink.new) old asker.new) result }
-    ensures few { total.new ≤ TABLE_LIMIT }
+    ensures bound { total.new ≤ TABLE_LIMIT }
     ensures more { IfNone result (total.old < total.new) }
     ensures room { 0 < length buffer.new.items }
     ensures end { result ≡ Some ends.Done → IsAtEnd (S.left source.new) }

@@ -148,7 +148,7 @@ impl<D: Disk> Journal<D> {
     }
 
     /// What the type keeps.
-    fn is_sound(&self)
+    fn recall_sound(&self)
         ensures { LeavesNow self.now.rows self.now.loose (D.told self.now.disk) }
     {
         let _ = &self.alloc;
@@ -236,7 +236,7 @@ impl<D: Disk> Journal<D> {
         ensures moments { Stays (D.told self.old.disk) (D.told self.new.disk) (Leaves self.old.rows (self.old.loose ++ map (λ row. row.now) rows.now ∷ [])) }
         ensures cause { HasCauseFor DiskFault.Failed (D.faults self.old.disk) (D.faults self.new.disk) result }
     {
-        self.is_sound();
+        self.recall_sound();
         fill(text, rows)?;
         self.make_room(rows.len())?;
         self.settle()?;
@@ -262,9 +262,9 @@ impl<D: Disk> Journal<D> {
         ensures appends { Appends D.told [] (is_ok result) self.old self.new }
         ensures cause { HasCauseFor DiskFault.Failed (D.faults self.old.disk) (D.faults self.new.disk) result }
     {
-        self.is_sound();
+        self.recall_sound();
         let result = self.settle();
-        self.is_sound();
+        self.recall_sound();
         result
     }
 
@@ -278,7 +278,7 @@ impl<D: Disk> Journal<D> {
         let mut text = self.take_buffer();
         let result = self.add(&mut text, rows);
         self.give_buffer(text);
-        self.is_sound();
+        self.recall_sound();
         result
     }
 }

@@ -7,13 +7,13 @@ ghost use Rattle.serde_json.specs.View.{view};
 ghost use Rattle.sect_words.specs.Reading.{Means};
 ghost use Rattle.sect_json.specs.Values.{has_only, optional, ranged, required};
 
-use crate::told::{Told, ranged};
+use crate::from_json::{FromJson, ranged};
 use sect_words::Fault;
 use serde_json::Value;
 use std::alloc::Global;
 
 /// The value of a member that has to be there.
-pub(crate) fn required<T: Told>(alloc: Global, value: &Value, name: &str) -> Result<T, Fault>
+pub(crate) fn required<T: FromJson>(alloc: Global, value: &Value, name: &str) -> Result<T, Fault>
     ensures { Means result (required T.reads name.now (view value.now)) }
 {
     match value.get(name) {
@@ -23,7 +23,7 @@ pub(crate) fn required<T: Told>(alloc: Global, value: &Value, name: &str) -> Res
 }
 
 /// The value of a member, or the default where it isn't there.
-pub(crate) fn optional<T: Told>(
+pub(crate) fn optional<T: FromJson>(
     alloc: Global,
     value: &Value,
     name: &str,

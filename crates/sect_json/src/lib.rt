@@ -4,8 +4,8 @@
 mod answer;
 mod body;
 mod field;
+mod from_json;
 mod law;
-mod told;
 mod verbs;
 
 pub use answer::print_answer;

@@ -24,7 +24,7 @@ ghost use Rattle.sect_json.specs.Bodies.{
 };
 
 use crate::field::{has_only, optional, required, stated};
-use crate::told::Told;
+use crate::from_json::FromJson;
 use sect_base::{Budget, Items, Want};
 use sect_command::Command;
 use sect_read::{WireFault, read_command};
@@ -69,7 +69,7 @@ fn verb_of(name: &str) -> Option<Verb>
     None
 }
 
-impl Told for Verb {
+impl FromJson for Verb {
     ghost reads = { verb_in };
 
     fn read(_alloc: Global, value: &Value) -> Result<Verb, Fault> {
@@ -120,7 +120,7 @@ fn want(alloc: Global, value: &Value) -> Result<Want, Fault>
 }
 
 #[tactic(auto, unfolding(crate::specs::Bodies::take_in))]
-impl Told for Want {
+impl FromJson for Want {
     ghost reads = { take_in };
 
     fn read(alloc: Global, value: &Value) -> Result<Want, Fault> {

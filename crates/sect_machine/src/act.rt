@@ -26,16 +26,16 @@ pub fn act<L: Ledger>(
     queue: &mut Queue,
     command: &Command,
     undo: &mut Undo,
-    left: &mut QueueUndo,
+    queue_undo: &mut QueueUndo,
     steps: &mut Steps<L>,
 ) -> Result<Reply, Memory>
     requires fits { CommandFits world.old.world command.now }
     requires undoable { Undoable world.old undo.old.backs }
-    requires queue_undoable { QueueUndoable queue.old left.old }
+    requires queue_undoable { QueueUndoable queue.old queue_undo.old }
     ensures acted { IfOk result (λ reply. act_of (state_of world.old.world queue.old.queue) command.now
         ≡ record { state = state_of world.new.world queue.new.queue; reply = reply }) }
     ensures recorded { OnOk result (RecordsLimit world.old.world command.now undo.old.backs undo.new.backs) }
-    ensures tracked { Tracked world.old undo.old.backs queue.old left.old world.new undo.new.backs queue.new left.new }
+    ensures tracked { Tracked world.old undo.old.backs queue.old queue_undo.old world.new undo.new.backs queue.new queue_undo.new }
 {
     match command {
         Command::Offering(row) => amended(rows::offering(alloc, world, row, undo)),
@@ -73,10 +73,19 @@ pub fn act<L: Ledger>(
             want,
             give,
             class,
-        } => waits::wait(alloc, queue, *student, want, *give, *class, left),
-        Command::Unwait { student: _, ticket } => amended(waits::unwait(queue, *ticket, left)),
+        } => waits::wait(alloc, queue, *student, want, *give, *class, queue_undo),
+        Command::Unwait { student: _, ticket } => amended(waits::unwait(
+            queue, *ticket, queue_undo,
+        )),
         Command::Batch { students } => {
-            let lines = lines::batch_lines(alloc, world, queue, students.as_slice(), undo, left)?;
+            let lines = lines::batch_lines(
+                alloc,
+                world,
+                queue,
+                students.as_slice(),
+                undo,
+                queue_undo,
+            )?;
             Ok(Reply::Batched(lines))
         }
     }

@@ -57,7 +57,7 @@ fn mark_flip(
 ) -> Result<(), Memory>
     ensures { OnOk result (MarksMore (flip_opens world.now.world day row.now) queue.now.queue.entries marks.old marks.new) }
 {
-    world.is_kept();
+    world.recall_kept();
     if flips(world, day, row) {
         mark(queue, None, world.catalogue().offering(row.offering), marks)
     } else {

@@ -44,17 +44,17 @@ pub fn batch_lines(
     queue: &mut Queue,
     students: &[StudentId],
     undo: &mut Undo,
-    left: &mut QueueUndo,
+    queue_undo: &mut QueueUndo,
 ) -> Result<Items<Line>, Memory>
     requires known { IsTrue (list_all (λ s. is_some (find_student world.old.world.students s)) students.now) }
     requires undoable { Undoable world.old undo.old.backs }
-    requires queue_undoable { QueueUndoable queue.old left.old }
+    requires queue_undoable { QueueUndoable queue.old queue_undo.old }
     ensures acted { IfOk result (λ lines. batched (state_of world.old.world queue.old.queue) students.now
         ≡ record { state = state_of world.new.world queue.new.queue; reply = Batched lines }) }
-    ensures tracked { Tracked world.old undo.old.backs queue.old left.old world.new undo.new.backs queue.new left.new }
+    ensures tracked { Tracked world.old undo.old.backs queue.old queue_undo.old world.new undo.new.backs queue.new queue_undo.new }
 {
     let lines = batch(alloc, world, students, undo)?;
-    join_lines(alloc, world, queue, lines.into_vec(), left)
+    join_lines(alloc, world, queue, lines.into_vec(), queue_undo)
 }
 
 /// The lines, of which those wait that are unmet and whose requests are wait-listed. Where memory runs out, some have joined.
@@ -63,19 +63,19 @@ fn join_lines(
     world: &World,
     queue: &mut Queue,
     lines: Vec<Line>,
-    left: &mut QueueUndo,
+    queue_undo: &mut QueueUndo,
 ) -> Result<Items<Line>, Memory>
-    requires undoable { QueueUndoable queue.old left.old }
+    requires undoable { QueueUndoable queue.old queue_undo.old }
     ensures joined { IfOk result (λ joined. joined_by_all
         (record { state = state_of world.now.world queue.old.queue; lines = [] })
         (map (answered_of world.now.world) lines.items)
         ≡ record { state = state_of world.now.world queue.new.queue; lines = joined }) }
-    ensures since { QueueSince queue.old.queue left.old queue.new.queue left.new }
-    ensures undoable { QueueUndoable queue.new left.new }
+    ensures since { QueueSince queue.old.queue queue_undo.old queue.new.queue queue_undo.new }
+    ensures undoable { QueueUndoable queue.new queue_undo.new }
 {
     let mut lines = lines;
     for place in 0..lines.len() {
-        let ticket = join_line(alloc, world, queue, &lines[place], left)?;
+        let ticket = join_line(alloc, world, queue, &lines[place], queue_undo)?;
         set_ticket(&mut lines, place, ticket);
     }
     Ok(Items::from_vec(lines))
@@ -97,9 +97,9 @@ fn join_line(
     world: &World,
     queue: &mut Queue,
     line: &Line,
-    left: &mut QueueUndo,
+    queue_undo: &mut QueueUndo,
 ) -> Result<Option<u64>, Memory>
-    requires undoable { QueueUndoable queue.old left.old }
+    requires undoable { QueueUndoable queue.old queue_undo.old }
     ensures joined { IfOk result (λ ticket. (lines : List BatchLine)
         → joined_by (record { state = state_of world.now.world queue.old.queue; lines = lines })
         (answered_of world.now.world line.now) ≡ record {
@@ -107,11 +107,11 @@ fn join_line(
           lines = lines
               ++ waiting_line line.now ticket ∷ [];
         }) }
-    ensures since { QueueSince queue.old.queue left.old queue.new.queue left.new }
-    ensures undoable { QueueUndoable queue.new left.new }
+    ensures since { QueueSince queue.old.queue queue_undo.old queue.new.queue queue_undo.new }
+    ensures undoable { QueueUndoable queue.new queue_undo.new }
 {
     match world.asks(line.student).get(place(line.rank)) {
-        Some(ask) => join_ask(alloc, queue, line, ask, left),
+        Some(ask) => join_ask(alloc, queue, line, ask, queue_undo),
         None => Ok(None),
     }
 }
@@ -129,18 +129,18 @@ fn join_ask(
     queue: &mut Queue,
     line: &Line,
     ask: &Ask,
-    left: &mut QueueUndo,
+    queue_undo: &mut QueueUndo,
 ) -> Result<Option<u64>, Memory>
-    requires undoable { QueueUndoable queue.old left.old }
+    requires undoable { QueueUndoable queue.old queue_undo.old }
     ensures joined { IfOk result (λ ticket. (w : SectionedWorld) (lines : List BatchLine)
         → joined_by (record { state = state_of w queue.old.queue; lines = lines })
         (record { line = line.now; ask = course_ask ask.now })
         ≡ record { state = state_of w queue.new.queue; lines = lines ++ waiting_line line.now ticket ∷ [] }) }
-    ensures since { QueueSince queue.old.queue left.old queue.new.queue left.new }
-    ensures undoable { QueueUndoable queue.new left.new }
+    ensures since { QueueSince queue.old.queue queue_undo.old queue.new.queue queue_undo.new }
+    ensures undoable { QueueUndoable queue.new queue_undo.new }
 {
     match ask {
-        Ask::Course(ask) => join_course(alloc, queue, line, ask, left),
+        Ask::Course(ask) => join_course(alloc, queue, line, ask, queue_undo),
         Ask::Free(_) => Ok(None),
     }
 }
@@ -151,17 +151,17 @@ fn join_course(
     queue: &mut Queue,
     line: &Line,
     ask: &CourseAsk,
-    left: &mut QueueUndo,
+    queue_undo: &mut QueueUndo,
 ) -> Result<Option<u64>, Memory>
-    requires undoable { QueueUndoable queue.old left.old }
+    requires undoable { QueueUndoable queue.old queue_undo.old }
     ensures joined { IfOk result (λ ticket. (w : SectionedWorld) (lines : List BatchLine)
         → joined_by (record { state = state_of w queue.old.queue; lines = lines }) (record { line = line.now; ask = ask.now })
         ≡ record { state = state_of w queue.new.queue; lines = lines ++ waiting_line line.now ticket ∷ [] }) }
-    ensures since { QueueSince queue.old.queue left.old queue.new.queue left.new }
-    ensures undoable { QueueUndoable queue.new left.new }
+    ensures since { QueueSince queue.old.queue queue_undo.old queue.new.queue queue_undo.new }
+    ensures undoable { QueueUndoable queue.new queue_undo.new }
 {
     if is_unmet(&line.result) && ask.wait {
-        let ticket = ticket_or_join(alloc, queue, line, ask, left)?;
+        let ticket = ticket_or_join(alloc, queue, line, ask, queue_undo)?;
         Ok(Some(ticket))
     } else {
         Ok(None)
@@ -174,21 +174,21 @@ fn ticket_or_join(
     queue: &mut Queue,
     line: &Line,
     ask: &CourseAsk,
-    left: &mut QueueUndo,
+    queue_undo: &mut QueueUndo,
 ) -> Result<u64, Memory>
-    requires undoable { QueueUndoable queue.old left.old }
+    requires undoable { QueueUndoable queue.old queue_undo.old }
     ensures joined { IfOk result (λ ticket. (w : SectionedWorld) (lines : List BatchLine)
         → waits_by (record { state = state_of w queue.old.queue; lines = lines }) (record { line = line.now; ask = ask.now })
         (least_ticket (state_of w queue.old.queue) line.now.student ask.now.courses)
         ≡ record { state = state_of w queue.new.queue; lines = lines ++ with_result line.now (Waiting ticket) ∷ [] }) }
-    ensures since { QueueSince queue.old.queue left.old queue.new.queue left.new }
-    ensures undoable { QueueUndoable queue.new left.new }
+    ensures since { QueueSince queue.old.queue queue_undo.old queue.new.queue queue_undo.new }
+    ensures undoable { QueueUndoable queue.new queue_undo.new }
 {
     match ticket_of(queue.entries(), line.student, ask.courses.as_slice()) {
         Some(ticket) => Ok(ticket),
         None => {
             let want = want_for(alloc, line.rank, ask)?;
-            queue.join(line.student, want, None, BATCH_CLASS, left)
+            queue.join(line.student, want, None, BATCH_CLASS, queue_undo)
         }
     }
 }

@@ -69,12 +69,12 @@ fn counted<L: Ledger>(
 
 impl Machine {
     /// Does nothing: the contract tells what holds of every machine.
-    pub fn is_kept(&self)
+    pub fn recall_kept(&self)
         ensures kept { KeptState (state_in self.now) }
         ensures settled { IsTrue (is_settled (state_in self.now)) }
     {
-        self.world.is_kept();
-        self.queue.is_kept();
+        self.world.recall_kept();
+        self.queue.recall_kept();
     }
 
     /// The world. It takes no memory.
@@ -115,7 +115,7 @@ impl Machine {
         ensures undo { IfOk result (λ r. Restores r.undo self.new (state_in self.old)) }
         ensures err { OnErr result (state_in self.new ≡ state_in self.old) }
     {
-        self.is_kept();
+        self.recall_kept();
         step(
             self.alloc,
             &mut self.world,

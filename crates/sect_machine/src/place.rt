@@ -21,7 +21,7 @@ pub fn places(
     requires { IsTrue (own_places world.now.world offering (flat_map (place_of world.now.world) sections.now)) }
     ensures { IfOk result (λ places. places ≡ flat_map (place_of world.now.world) sections.now) }
 {
-    world.is_kept();
+    world.recall_kept();
     let mut places = Vec::new(alloc);
     for section in sections {
         add_place(world, offering, *section, &mut places)?;

@@ -33,7 +33,7 @@ impl Machine {
             → refutes ≡ covers (on_day (state_in self.old) day).world mv tree.now) }
         ensures state { state_in self.new ≡ state_in self.old }
     {
-        self.is_kept();
+        self.recall_kept();
         refutes_then(self.alloc, &mut self.world, day, command, tree)
     }
 }
@@ -52,7 +52,7 @@ fn refutes_then(
         → refutes ≡ covers (put_day world.old.world (max world.old.world.day day)) mv tree.now) }
     ensures world { world.new.world ≡ world.old.world }
 {
-    world.is_kept();
+    world.recall_kept();
     let mut undo = Undo::empty(alloc);
     let refutes = refutes_on(alloc, world, day, command, tree, &mut undo);
     world.undo(undo);

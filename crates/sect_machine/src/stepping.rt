@@ -56,12 +56,21 @@ pub fn step<L: Ledger>(
     ensures queue_err { OnErr result (queue.new.queue ≡ queue.old.queue) }
     ensures others { OthersNeedNoSearch world.new.world queue.new.queue.entries marks.new }
 {
-    world.is_kept();
-    queue.is_kept();
+    world.recall_kept();
+    queue.recall_kept();
     let mut undo = Undo::empty(alloc);
-    let mut left = QueueUndo::empty(alloc);
+    let mut queue_undo = QueueUndo::empty(alloc);
     let stepped = settled(
-        alloc, world, queue, marks, day, caller, command, &mut undo, &mut left, steps,
+        alloc,
+        world,
+        queue,
+        marks,
+        day,
+        caller,
+        command,
+        &mut undo,
+        &mut queue_undo,
+        steps,
     );
     match stepped {
         Ok((reply, placed)) => Ok(ToldStep {
@@ -69,12 +78,12 @@ pub fn step<L: Ledger>(
             placed,
             undo: MachineUndo {
                 world: undo,
-                queue: left,
+                queue: queue_undo,
             },
         }),
         Err(memory) => {
             world.undo(undo);
-            queue.undo(left);
+            queue.undo(queue_undo);
             marks.mark_all();
             Err(memory)
         }
@@ -91,20 +100,20 @@ fn settled<L: Ledger>(
     caller: Caller,
     command: &Command,
     undo: &mut Undo,
-    left: &mut QueueUndo,
+    queue_undo: &mut QueueUndo,
     steps: &mut Steps<L>,
 ) -> Result<(Reply, Items<Placed>), Memory>
     requires kept { KeptState (state_of world.old.world queue.old.queue) }
     requires others { OthersNeedNoSearch world.old.world queue.old.queue.entries marks.old }
     requires undoable { Undoable world.old undo.old.backs }
-    requires queue_undoable { QueueUndoable queue.old left.old }
+    requires queue_undoable { QueueUndoable queue.old queue_undo.old }
     ensures acted { IfOk result (λ told. step_of (state_of world.old.world queue.old.queue) day caller command.now
         ≡ record { state = state_of world.new.world queue.new.queue; reply = told.0 }) }
     ensures placed { IfOk result (λ told. told.1 ≡ placements (state_of world.old.world queue.old.queue) day caller command.now) }
-    ensures tracked { Tracked world.old undo.old.backs queue.old left.old world.new undo.new.backs queue.new left.new }
+    ensures tracked { Tracked world.old undo.old.backs queue.old queue_undo.old world.new undo.new.backs queue.new queue_undo.new }
     ensures others { OnOk result (OthersNeedNoSearch world.new.world queue.new.queue.entries marks.new) }
 {
-    world.is_kept();
+    world.recall_kept();
     mark_day(world, queue, day, marks)?;
     set_day(world, day, undo)?;
     let mut opened = Opened::none(alloc);
@@ -117,7 +126,7 @@ fn settled<L: Ledger>(
         caller,
         command,
         undo,
-        left,
+        queue_undo,
         steps,
     )?;
     place_all(
@@ -128,7 +137,7 @@ fn settled<L: Ledger>(
         &mut opened,
         reply,
         undo,
-        left,
+        queue_undo,
         steps,
     )
 }
@@ -143,21 +152,21 @@ fn place_all<L: Ledger>(
     opened: &mut Opened,
     reply: Reply,
     undo: &mut Undo,
-    left: &mut QueueUndo,
+    queue_undo: &mut QueueUndo,
     steps: &mut Steps<L>,
 ) -> Result<(Reply, Items<Placed>), Memory>
     requires fit { IsTrue (list_all (entry_fits world.old.world) queue.old.queue.entries) }
     requires others { OthersBut world.old.world queue.old.queue.entries marks.old opened.old }
     requires undoable { Undoable world.old undo.old.backs }
-    requires queue_undoable { QueueUndoable queue.old left.old }
+    requires queue_undoable { QueueUndoable queue.old queue_undo.old }
     ensures settled { IfOk result (λ told. settled_after
         (record { state = state_of world.old.world queue.old.queue; reply = reply })
         ≡ record { state = state_of world.new.world queue.new.queue; reply = told.0 }) }
     ensures placed { IfOk result (λ told. told.1 ≡ (settled_from (state_of world.old.world queue.old.queue)).placed) }
-    ensures tracked { Tracked world.old undo.old.backs queue.old left.old world.new undo.new.backs queue.new left.new }
+    ensures tracked { Tracked world.old undo.old.backs queue.old queue_undo.old world.new undo.new.backs queue.new queue_undo.new }
     ensures others { OnOk result (OthersNeedNoSearch world.new.world queue.new.queue.entries marks.new) }
 {
-    let placed = settle_opened(alloc, world, queue, marks, opened, undo, left, steps)?;
+    let placed = settle_opened(alloc, world, queue, marks, opened, undo, queue_undo, steps)?;
     let told = reply_after(reply, placed.as_slice());
     Ok((told, placed))
 }
@@ -172,23 +181,23 @@ fn answer<L: Ledger>(
     caller: Caller,
     command: &Command,
     undo: &mut Undo,
-    left: &mut QueueUndo,
+    queue_undo: &mut QueueUndo,
     steps: &mut Steps<L>,
 ) -> Result<Reply, Memory>
     requires kept { KeptState (state_of world.old.world queue.old.queue) }
     requires others { OthersNeedNoSearch world.old.world queue.old.queue.entries marks.old }
     requires undoable { Undoable world.old undo.old.backs }
-    requires queue_undoable { QueueUndoable queue.old left.old }
+    requires queue_undoable { QueueUndoable queue.old queue_undo.old }
     ensures acted { IfOk result (λ reply. answered (state_of world.old.world queue.old.queue) caller command.now
         ≡ record { state = state_of world.new.world queue.new.queue; reply = reply }) }
-    ensures tracked { Tracked world.old undo.old.backs queue.old left.old world.new undo.new.backs queue.new left.new }
+    ensures tracked { Tracked world.old undo.old.backs queue.old queue_undo.old world.new undo.new.backs queue.new queue_undo.new }
     ensures others { OnOk result (OthersBut world.new.world queue.new.queue.entries marks.new opened.new) }
 {
-    world.is_kept();
+    world.recall_kept();
     match refusal(world, queue.entries(), caller, command) {
         Some(refusal) => Ok(Reply::Refused(refusal)),
         None => marked_act(
-            alloc, world, queue, marks, opened, command, undo, left, steps,
+            alloc, world, queue, marks, opened, command, undo, queue_undo, steps,
         ),
     }
 }
@@ -202,24 +211,24 @@ fn marked_act<L: Ledger>(
     opened: &mut Opened,
     command: &Command,
     undo: &mut Undo,
-    left: &mut QueueUndo,
+    queue_undo: &mut QueueUndo,
     steps: &mut Steps<L>,
 ) -> Result<Reply, Memory>
     requires kept { KeptState (state_of world.old.world queue.old.queue) }
     requires fits { CommandFits world.old.world command.now }
     requires others { OthersNeedNoSearch world.old.world queue.old.queue.entries marks.old }
     requires undoable { Undoable world.old undo.old.backs }
-    requires queue_undoable { QueueUndoable queue.old left.old }
+    requires queue_undoable { QueueUndoable queue.old queue_undo.old }
     ensures acted { IfOk result (λ reply. act_of (state_of world.old.world queue.old.queue) command.now
         ≡ record { state = state_of world.new.world queue.new.queue; reply = reply }) }
-    ensures tracked { Tracked world.old undo.old.backs queue.old left.old world.new undo.new.backs queue.new left.new }
+    ensures tracked { Tracked world.old undo.old.backs queue.old queue_undo.old world.new undo.new.backs queue.new queue_undo.new }
     ensures others { OnOk result (OthersBut world.new.world queue.new.queue.entries marks.new opened.new) }
 {
     match command {
         Command::Drop { student, course } => {
             dropped(alloc, world, queue, *student, *course, marks, opened, undo)
         }
-        _ => all_marked_act(alloc, world, queue, marks, command, undo, left, steps),
+        _ => all_marked_act(alloc, world, queue, marks, command, undo, queue_undo, steps),
     }
 }
 
@@ -256,21 +265,21 @@ fn all_marked_act<L: Ledger>(
     marks: &mut Marks,
     command: &Command,
     undo: &mut Undo,
-    left: &mut QueueUndo,
+    queue_undo: &mut QueueUndo,
     steps: &mut Steps<L>,
 ) -> Result<Reply, Memory>
     requires kept { KeptState (state_of world.old.world queue.old.queue) }
     requires fits { CommandFits world.old.world command.now }
     requires others { OthersNeedNoSearch world.old.world queue.old.queue.entries marks.old }
     requires undoable { Undoable world.old undo.old.backs }
-    requires queue_undoable { QueueUndoable queue.old left.old }
+    requires queue_undoable { QueueUndoable queue.old queue_undo.old }
     ensures acted { IfOk result (λ reply. act_of (state_of world.old.world queue.old.queue) command.now
         ≡ record { state = state_of world.new.world queue.new.queue; reply = reply }) }
-    ensures tracked { Tracked world.old undo.old.backs queue.old left.old world.new undo.new.backs queue.new left.new }
+    ensures tracked { Tracked world.old undo.old.backs queue.old queue_undo.old world.new undo.new.backs queue.new queue_undo.new }
     ensures others { OnOk result (OthersNeedNoSearch world.new.world queue.new.queue.entries marks.new) }
 {
     mark_before(world, queue, command, marks)?;
-    let reply = act(alloc, world, queue, command, undo, left, steps)?;
+    let reply = act(alloc, world, queue, command, undo, queue_undo, steps)?;
     mark_after(world, queue, command, &reply, undo, marks)?;
     Ok(reply)
 }

@@ -1,7 +1,7 @@
 // Who waits: a student joins the waiting list, or leaves it.
 
 ghost use Rattle.std.specs.Prelude.{◌≡◌, IfOk, OnOk};
-ghost use Rattle.sect_wait.specs.Queued.{joined, left as queue_without};
+ghost use Rattle.sect_wait.specs.Queued.{joined, queue_undo as queue_without};
 ghost use Rattle.sect_wait.specs.Undo.{Since as QueueSince, Undoable as QueueUndoable};
 ghost use Rattle.sect_command.specs.declared.reply.Reply.TheVariants.{Waiting as waiting_by};
 
@@ -18,26 +18,26 @@ pub fn wait(
     want: &Want,
     give: Option<CourseId>,
     class: u8,
-    left: &mut QueueUndo,
+    queue_undo: &mut QueueUndo,
 ) -> Result<Reply, Memory>
-    requires undoable { QueueUndoable queue.old left.old }
+    requires undoable { QueueUndoable queue.old queue_undo.old }
     ensures reply { IfOk result (λ reply. reply ≡ waiting_by queue.old.queue.next) }
     ensures ok { OnOk result (queue.new.queue ≡ joined queue.old.queue student want.now give class) }
-    ensures since { QueueSince queue.old.queue left.old queue.new.queue left.new }
-    ensures undoable { QueueUndoable queue.new left.new }
+    ensures since { QueueSince queue.old.queue queue_undo.old queue.new.queue queue_undo.new }
+    ensures undoable { QueueUndoable queue.new queue_undo.new }
 {
     let want = want.copy(alloc)?;
-    let ticket = queue.join(student, want, give, class, left)?;
+    let ticket = queue.join(student, want, give, class, queue_undo)?;
     Ok(Reply::Waiting(ticket))
 }
 
 /// The entry of a ticket leaves.
-pub fn unwait(queue: &mut Queue, ticket: u64, left: &mut QueueUndo) -> Result<(), Memory>
-    requires undoable { QueueUndoable queue.old left.old }
+pub fn unwait(queue: &mut Queue, ticket: u64, queue_undo: &mut QueueUndo) -> Result<(), Memory>
+    requires undoable { QueueUndoable queue.old queue_undo.old }
     ensures ok { OnOk result (queue.new.queue ≡ queue_without queue.old.queue ticket) }
-    ensures since { QueueSince queue.old.queue left.old queue.new.queue left.new }
-    ensures undoable { QueueUndoable queue.new left.new }
+    ensures since { QueueSince queue.old.queue queue_undo.old queue.new.queue queue_undo.new }
+    ensures undoable { QueueUndoable queue.new queue_undo.new }
 {
-    let _ = queue.leave(ticket, left)?;
+    let _ = queue.leave(ticket, queue_undo)?;
     Ok(())
 }

@@ -26,7 +26,7 @@ use std::alloc::Global;
 /// Offering `i`, from 1, with its four sections.
 pub(crate) fn offering(alloc: Global, i: u32) -> Result<Command, Memory>
     requires first { 1 ≤ i }
-    requires few { i ≤ 100 }
+    requires bound { i ≤ 100 }
     ensures { IfOk result (λ command. command ≡ offering_command i) }
 {
     let config = ConfigRow {
@@ -66,7 +66,7 @@ fn one_config(alloc: Global, config: ConfigRow) -> Result<Items<ConfigRow>, Memo
 /// The subparts of offering `i`.
 fn subparts(alloc: Global, i: u32) -> Result<Items<SubpartRow>, Memory>
     requires first { 1 ≤ i }
-    requires few { i ≤ 100 }
+    requires bound { i ≤ 100 }
     ensures { IfOk result (λ subparts. subparts ≡ subparts_of i) }
 {
     let mut subparts = Vec::new(alloc);
@@ -94,7 +94,7 @@ fn pair(alloc: Global, first: SectionRow, second: SectionRow) -> Result<Items<Se
 /// A section of the first subpart.
 fn parent(alloc: Global, i: u32, k: u32) -> Result<SectionRow, Memory>
     requires first { 1 ≤ i }
-    requires few { i ≤ 100 }
+    requires bound { i ≤ 100 }
     requires two { k ≤ 1 }
     ensures { IfOk result (λ section. section ≡ first_section i k) }
 {
@@ -109,7 +109,7 @@ fn parent(alloc: Global, i: u32, k: u32) -> Result<SectionRow, Memory>
 /// A section of the second subpart, whose parent is that of the first with its number.
 fn child(alloc: Global, i: u32, k: u32) -> Result<SectionRow, Memory>
     requires first { 1 ≤ i }
-    requires few { i ≤ 100 }
+    requires bound { i ≤ 100 }
     requires two { k ≤ 1 }
     ensures { IfOk result (λ section. section ≡ second_section i k) }
 {
@@ -174,7 +174,7 @@ pub(crate) fn student(alloc: Global, s: u32) -> Command
 /// The requests of student `s`, where there are `n` courses: three, or as many as there are courses.
 pub(crate) fn requests(alloc: Global, n: u32, s: u32) -> Result<Command, Memory>
     requires first { 1 ≤ n }
-    requires few { s ≤ 2000 }
+    requires bound { s ≤ 2000 }
     ensures { IfOk result (λ command. command ≡ requests_command n s) }
 {
     Ok(Command::Requests {
@@ -186,7 +186,7 @@ pub(crate) fn requests(alloc: Global, n: u32, s: u32) -> Result<Command, Memory>
 /// The first requests of student `s`.
 fn asks(alloc: Global, n: u32, s: u32, count: u32) -> Result<Items<Ask>, Memory>
     requires first { 1 ≤ n }
-    requires few { s ≤ 2000 }
+    requires bound { s ≤ 2000 }
     requires three { count ≤ 3 }
     ensures { IfOk result (λ asks. asks ≡ made_of (ask_of n s) count) }
 {
@@ -200,7 +200,7 @@ fn asks(alloc: Global, n: u32, s: u32, count: u32) -> Result<Items<Ask>, Memory>
 /// The request of student `s` for the `j`-th course behind that of their number.
 fn ask(alloc: Global, n: u32, s: u32, j: u32) -> Result<Ask, Memory>
     requires first { 1 ≤ n }
-    requires few { s ≤ 2000 }
+    requires bound { s ≤ 2000 }
     requires three { j < 3 }
     ensures { IfOk result (λ ask. ask ≡ ask_of n s j) }
 {
@@ -215,7 +215,7 @@ fn ask(alloc: Global, n: u32, s: u32, j: u32) -> Result<Ask, Memory>
 
 /// The batch with this number, from 0, where there are `n` courses.
 pub(crate) fn batch(alloc: Global, n: u32, number: u32) -> Result<Command, Memory>
-    requires few { n ≤ 100 }
+    requires bound { n ≤ 100 }
     requires within { 100 * number < 20 * n }
     ensures { IfOk result (λ command. command ≡ batch_command n number) }
 {

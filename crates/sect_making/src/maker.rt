@@ -51,7 +51,7 @@ pub(crate) enum Stage {
 /// Asks the commands for so many offerings, from 1 to 100, on the clock's day, and writes the summary.
 pub fn make<T: Sink, C: Clock>(alloc: Global, offerings: u32, sink: &mut T, clock: &mut C) -> Status
     requires first { 1 ≤ offerings }
-    requires few { offerings ≤ 100 }
+    requires bound { offerings ≤ 100 }
     ensures makes { Makes offerings (C.days clock.old) (T.taken sink.old) (T.taken sink.new) result }
     ensures write_fault { result ≡ Status.WriteFault → Rose (T.faults sink.old) (T.faults sink.new) }
     ensures others { result ≢ Status.BadWords × (result ≢ Status.LinkFault) × (result ≢ Status.ReadFault) × (result ≢ Status.KeeperFault) }
@@ -64,7 +64,7 @@ pub fn make<T: Sink, C: Clock>(alloc: Global, offerings: u32, sink: &mut T, cloc
 /// The machine of which the commands for so many offerings, from 1 to 100, were asked on the day.
 pub fn made_machine(alloc: Global, offerings: u32, day: Day) -> Result<Machine, Memory>
     requires first { 1 ≤ offerings }
-    requires few { offerings ≤ 100 }
+    requires bound { offerings ≤ 100 }
     ensures { IfOk result (λ machine. state_in machine ≡ (tally_of offerings day).state) }
 {
     let Maker {
@@ -79,7 +79,7 @@ pub fn made_machine(alloc: Global, offerings: u32, day: Day) -> Result<Machine, 
 /// Asks the commands on the day, and writes the summary.
 fn tell<T: Sink>(alloc: Global, offerings: u32, day: Day, sink: &mut T) -> Status
     requires first { 1 ≤ offerings }
-    requires few { offerings ≤ 100 }
+    requires bound { offerings ≤ 100 }
     ensures prints { Prints (summary_line offerings (tally_of offerings day)) (T.taken sink.old) (T.taken sink.new) result }
     ensures write_fault { result ≡ Status.WriteFault → Rose (T.faults sink.old) (T.faults sink.new) }
     ensures others { result ≢ Status.BadWords × (result ≢ Status.LinkFault) × (result ≢ Status.ReadFault) × (result ≢ Status.KeeperFault) }
@@ -93,7 +93,7 @@ fn tell<T: Sink>(alloc: Global, offerings: u32, day: Day, sink: &mut T) -> Statu
 
 /// Writes the summary of what became of the requests.
 fn write_summary<T: Sink>(alloc: Global, offerings: u32, maker: &Maker, sink: &mut T) -> Status
-    requires few { offerings ≤ 100 }
+    requires bound { offerings ≤ 100 }
     ensures prints { Prints (summary_line offerings (tally_in maker.now)) (T.taken sink.old) (T.taken sink.new) result }
     ensures write_fault { result ≡ Status.WriteFault → Rose (T.faults sink.old) (T.faults sink.new) }
     ensures others { result ≢ Status.BadWords × (result ≢ Status.LinkFault) × (result ≢ Status.ReadFault) × (result ≢ Status.KeeperFault) }
@@ -112,7 +112,7 @@ fn write_summary<T: Sink>(alloc: Global, offerings: u32, maker: &Maker, sink: &m
 /// Asks all the commands of an empty machine.
 fn made(alloc: Global, offerings: u32, day: Day) -> Result<Maker, Memory>
     requires first { 1 ≤ offerings }
-    requires few { offerings ≤ 100 }
+    requires bound { offerings ≤ 100 }
     ensures { IfOk result (λ maker. tally_in maker ≡ tally_of offerings day) }
 {
     let mut maker = Maker {
@@ -137,7 +137,7 @@ fn ask_all(
     offerings: u32,
 ) -> Result<(), Memory>
     requires first { 1 ≤ offerings }
-    requires few { offerings ≤ 100 }
+    requires bound { offerings ≤ 100 }
     ensures { OnOk result (tally_in maker.new ≡ tally_from day (tally_in maker.old) (made_of (stage_command stage offerings) (stage_count stage offerings))) }
 {
     for place in 0..count_of(stage, offerings) {
@@ -149,7 +149,7 @@ fn ask_all(
 
 /// How many commands of the kind there are.
 fn count_of(stage: Stage, offerings: u32) -> u32
-    requires few { offerings ≤ 100 }
+    requires bound { offerings ≤ 100 }
     ensures { result ≡ stage_count stage offerings }
 {
     match stage {
@@ -163,7 +163,7 @@ fn count_of(stage: Stage, offerings: u32) -> u32
 /// The command of the kind at the place.
 fn command_at(alloc: Global, stage: Stage, offerings: u32, place: u32) -> Result<Command, Memory>
     requires first { 1 ≤ offerings }
-    requires few { offerings ≤ 100 }
+    requires bound { offerings ≤ 100 }
     requires within { place < stage_count stage offerings }
     ensures { IfOk result (λ command. command ≡ stage_command stage offerings place) }
 {
@@ -257,7 +257,7 @@ fn is_spent(of: &LineResult) -> bool
 
 /// Appends the summary. After `Memory` a part of it may stand at the end.
 fn print_summary(offerings: u32, maker: &Maker, into: &mut Vec<u8>) -> Result<(), Memory>
-    requires few { offerings ≤ 100 }
+    requires bound { offerings ≤ 100 }
     ensures { OnOk result (into.new.items ≡ into.old.items ++ summary_line offerings (tally_in maker.now)) }
 {
     print_count(b"offerings ", offerings as usize, into)?;

@@ -5,7 +5,7 @@ use Rattle.std.specs.Bool.{then_some}
 use Rattle.std.specs.Option.{option_map, option_map_or, option_or, option_and_then, is_none, is_some, option_to_list}
 use Rattle.std.proofs.Common.{sym, ◌∙◌, ap, subst, arith, inl, inr}
 use Rattle.std.proofs.lemmas.Bool.Decides.{nat_tests}
-use Rattle.sect_base.specs.Told.{told}
+use Rattle.sect_base.specs.Capped.{capped}
 use Rattle.sect_base.specs.declared.limit.Cap.TheVariants.{Course as cap_course, Config as cap_config, Section as cap_section}
 use Rattle.sect_base.specs.declared.limit.Level.TheVariants.{Section}
 use Rattle.sect_people.specs.Student.{find_student}
@@ -106,7 +106,7 @@ want-fits w want known some few =
     (both (courses_known w want) (sections_known w want)
     (Members.all-of (λ c. is_some (offering_of w c)) want.courses (λ c m. course-offering w c (Members.all-at (λ c. is_some (find_course w.catalogue.rows c)) want.courses (found-courses w want.courses k.0) c m)))
     (found-sections w want.only k.1))
-    (one_to_six (length want.courses) some (unsaid _ (TooMany (told (length want.courses))) n.0))
+    (one_to_six (length want.courses) some (unsaid _ (TooMany (capped (length want.courses))) n.0))
 
 wants-fit : (w : World) (wants : List Want) → unknown_in_wants w wants ≡ None → list_any is_empty_want wants ≡ false → many_in_wants wants ≡ None → list_all (want_fits w) wants ≡ true
 wants-fit w [] known some few = refl
@@ -226,7 +226,7 @@ accepted s (student_row row) k h =
     let b = a.1 in
     let c = b.1 in
     student-row (find_student s.world.students row.id) (credits_held s.world row.id) row.max_credits (length s.world.students)
-    (unsaid _ (TooMany 50001) a.0) (unsaid _ (LimitBelow (told (credits_held s.world row.id))) c.1.0)
+    (unsaid _ (TooMany 50001) a.0) (unsaid _ (LimitBelow (capped (credits_held s.world row.id))) c.1.0)
 accepted s (Requests student asks) k h =
     let a = none-each (conditions_of s (Requests student asks)) h in
     both (is_some (find_student s.world.students student)) (is_none (requests.fault_of asks (course_ids s.world))) (known-student s.world student a.0)
@@ -246,7 +246,7 @@ accepted s (Reserve row) k h =
 accepted s (Unreserve id) k h =
     let a = none-each (conditions_of s (Unreserve id)) h in
     both (is_some (reservation_of s.world id)) (used_of s.world id == 0) (some-is (reservation_of s.world id) (unsaid _ (Unknown id.0) a.0))
-    (no_use (used_of s.world id) (unsaid _ (InUse (told (used_of s.world id))) a.1.0))
+    (no_use (used_of s.world id) (unsaid _ (InUse (capped (used_of s.world id))) a.1.0))
 accepted s (Expire id expiry) k h = some-is (reservation_of s.world id) (unsaid _ (Unknown id.0) (none-each (conditions_of s (Expire id expiry)) h).0)
 accepted s (Restrict row) k h =
     let w : World = s.world in
@@ -265,12 +265,12 @@ accepted s (SetLimit cap limit) k h =
     let a = none-each (conditions_of s (SetLimit cap limit)) h in
     let counted : ℕ = counted_of s.world (level_of cap) in
     both (is_known_cap s.world cap) (option_map_or (nat_le counted) (places limit) true) (known-cap s.world cap a.0)
-    (limit-fits counted (places limit) (unsaid _ (LimitBelow (told counted)) a.1.0))
+    (limit-fits counted (places limit) (unsaid _ (LimitBelow (capped counted)) a.1.0))
 accepted s (Cancel id) k h = λ new.
     let a = none-each (conditions_of s (Cancel id)) h in
     both (is_some (find_section s.world.catalogue.rows id) && not (is_cancelled s.world.catalogue id)) (count_of s.world (Section id) == 0)
     (both (is_some (find_section s.world.catalogue.rows id)) (not (is_cancelled s.world.catalogue id)) (both-left _ true (found-sections s.world (id ∷ []) a.0)) (if_false _ new))
-    (no_use (count_of s.world (Section id)) (unsaid _ (InUse (told (count_of s.world (Section id)))) a.1.0))
+    (no_use (count_of s.world (Section id)) (unsaid _ (InUse (capped (count_of s.world (Section id)))) a.1.0))
 accepted s (Enrol student want budget) k h =
     let a = none-each (conditions_of s (Enrol student want budget)) h in
     let b = a.1 in
@@ -305,8 +305,8 @@ accepted s (Swap student give take budget) k h =
       sections = all-sections s.world take all;
       held = given-held s.world student [] give i.0;
       distinct = given-differ s.world student [] give i.0;
-      few_given = ltb-false 4 (length give) (unsaid _ (TooMany (told (length give))) e.0);
-      few_taken = ltb-false 4 (length take) (unsaid _ (TooMany (told (length take))) f.0);
+      few_given = ltb-false 4 (length give) (unsaid _ (TooMany (capped (length give))) e.0);
+      few_taken = ltb-false 4 (length take) (unsaid _ (TooMany (capped (length take))) f.0);
       sized = all-sized s.world take all;
     }
 accepted s (Wait student want give class) k h =

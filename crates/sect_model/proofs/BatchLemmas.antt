@@ -5,7 +5,7 @@ use Rattle.std.specs.Bool.{then_some}
 use Rattle.std.specs.Option.{is_some, is_none, option_map, option_map_or, option_or}
 use Rattle.std.proofs.Common.{sym, ◌∙◌, ap, subst, arith, inl, inr}
 use Rattle.std.proofs.lemmas.Bool.Decides.{nat_tests}
-use Rattle.sect_base.specs.Told.{told}
+use Rattle.sect_base.specs.Capped.{capped}
 use Rattle.sect_people.specs.Student.{find_student}
 use Rattle.sect_people.specs.Fault as requests
 use Rattle.sect_people.specs.declared.row.Ask.TheVariants.{Course as asks_course, Free}
@@ -85,7 +85,7 @@ passed-ask w asks h (asks_course ask) m =
     let rest = none-right (option_map (λ c. UnknownCourse c.0) unknown) _ h in
     let sizes = none-right (option_map Twice (requests.repeated_after [] all)) _ rest in
     let lengths = none-right (then_some (nat_lt 20 (length asks)) (length asks)) (requests.first_bad_length asks)
-    (sym (none-map (λ n. TooMany (told n)) (option_or (then_some (nat_lt 20 (length asks)) (length asks)) (requests.first_bad_length asks))) ∙ sizes) in
+    (sym (none-map (λ n. TooMany (capped n)) (option_or (then_some (nat_lt 20 (length asks)) (length asks)) (requests.first_bad_length asks))) ∙ sizes) in
     both (courses_known w (want_of ask 0) && true) (is_sized (want_of ask 0))
     (both (courses_known w (want_of ask 0)) true
     (all-of (λ c. is_some (offering_of w c)) ask.courses (λ c n.

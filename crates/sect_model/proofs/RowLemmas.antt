@@ -5,7 +5,7 @@ use Rattle.std.specs.Option.{option_map, is_none}
 use Rattle.std.proofs.Common.{sym, ◌∙◌, ap, subst, arith, inl, append_assoc}
 use Rattle.std.proofs.lemmas.Bool.Decides.{nat_tests}
 use Rattle.std.proofs.lemmas.List.{append-nil, length-append}
-use Rattle.sect_base.specs.Told.{told}
+use Rattle.sect_base.specs.Capped.{capped}
 use Rattle.sect_catalog.specs.declared.row.CatalogFault.TheVariants.{Known, NoCourse, NoConfig, NoSubpart, NoSection, BadParent, TooMany}
 use Rattle.sect_catalog.specs.Catalogue.{Catalogue, sections_in, all_sections}
 use Rattle.sect_catalog.specs.Fault.{known_id, is_empty, bad_parent, above, too_many, are_checked_after, are_checked}
@@ -53,7 +53,7 @@ sized before o h =
     let f = none-right (option_map (λ g. NoSubpart g.id.0) (find (λ g. is_empty g.subparts) o.configs)) _ e in
     let i = none-right (option_map (λ p. NoSection p.id.0) (find (λ p. is_empty p.sections) subparts)) _ f in
     let j = none-right (option_map BadParent (bad_parent o.configs)) _ i in
-    let counts = sym (none-map (λ n. TooMany (told n)) (too_many c o)) ∙ j in
+    let counts = sym (none-map (λ n. TooMany (capped n)) (too_many c o)) ∙ j in
     let g = some-member o.configs (not_said (is_empty o.configs) NoConfig (none-left (then_some (is_empty o.configs) NoConfig) _ d)) in
     let p = some-member g.0.subparts
     (none-find (λ g. is_empty g.subparts) o.configs

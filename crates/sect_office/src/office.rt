@@ -38,7 +38,7 @@ impl<V: Chronicle> OfficeOf<V> {
     /// A pass that has seen the same, for another thread.
     pub fn another(&self, pass: &mut Pass<V>) -> Pass<V>
         requires turn { IsPassOf V.notes V.base self.now.turn pass.old }
-        requires idle { IsIdle pass.old }
+        requires between_turns { IsIdle pass.old }
         requires share { 1 < share pass.old }
         ensures turn { IsPassOf V.notes V.base self.now.turn pass.new × IsIdle pass.new }
         ensures old { (front pass.new ≡ front pass.old) × (own_calls pass.new ≡ own_calls pass.old)
@@ -52,7 +52,7 @@ impl<V: Chronicle> OfficeOf<V> {
     /// A pass that has seen the same, for another thread. Where memory runs out, the pass is as before.
     pub fn split(&self, pass: &mut Pass<V>) -> Result<Pass<V>, Memory>
         requires turn { IsPassOf V.notes V.base self.now.turn pass.old }
-        requires idle { IsIdle pass.old }
+        requires between_turns { IsIdle pass.old }
         requires share { 1 < share pass.old }
         ensures turn { IsPassOf V.notes V.base self.now.turn pass.new × IsIdle pass.new }
         ensures old { (front pass.new ≡ front pass.old) × (own_calls pass.new ≡ own_calls pass.old) × (opening pass.new ≡ opening pass.old) }
@@ -67,7 +67,7 @@ impl<V: Chronicle> OfficeOf<V> {
     /// Takes a pass in. The longer front begins with the other.
     pub fn join(&self, pass: &mut Pass<V>, other: Pass<V>)
         requires turn { IsPassOf V.notes V.base self.now.turn pass.old }
-        requires idle { IsIdle pass.old }
+        requires between_turns { IsIdle pass.old }
         requires other_turn { IsPassOf V.notes V.base self.now.turn other }
         requires other_idle { IsIdle other }
         ensures turn { IsPassOf V.notes V.base self.now.turn pass.new × IsIdle pass.new }
@@ -83,7 +83,7 @@ impl<V: Chronicle> OfficeOf<V> {
     /// Ends the office. The calls of the pass are all notes since the opening.
     pub fn close(self, pass: Pass<V>) -> Result<V, Memory>
         requires turn { IsPassOf V.notes V.base self.turn pass }
-        requires idle { IsIdle pass }
+        requires between_turns { IsIdle pass }
         requires whole { share pass ≡ whole_share }
         ensures front { IfOk result (λ desk. IsPrefix (front pass) (V.notes desk)) }
         ensures base { IfOk result (λ desk. V.base desk ≡ (opening pass).1) }
@@ -106,7 +106,7 @@ impl<O: Object, K: Keeper> OfficeOf<Desk<O, K>> {
         command: O::Command,
     ) -> Answer<O::Reply>
         requires turn { IsPassOf (λ d. d.log) (λ d. d.base) self.now.turn pass.old }
-        requires idle { IsIdle pass.old }
+        requires between_turns { IsIdle pass.old }
         requires askable { O.may_ask id day command }
         ensures turn { IsPassOf (λ d. d.log) (λ d. d.base) self.now.turn pass.new × IsIdle pass.new }
         ensures grown { IsPrefix (front pass.old) (front pass.new) }
@@ -129,7 +129,7 @@ impl<O: Object, K: Keeper> OfficeOf<Desk<O, K>> {
         query: &O::Query,
     ) -> Result<O::View, Memory>
         requires turn { IsPassOf (λ d. d.log) (λ d. d.base) self.now.turn pass.old }
-        requires idle { IsIdle pass.old }
+        requires between_turns { IsIdle pass.old }
         ensures turn { IsPassOf (λ d. d.log) (λ d. d.base) self.now.turn pass.new × IsIdle pass.new }
         ensures grown { IsPrefix (front pass.old) (front pass.new) }
         ensures legal { IsLegal O.stepped O.start (front pass.new) }

@@ -23,7 +23,7 @@ pub trait Work<V: Chronicle>: Sized {
 
     fn run<R: Wait>(self, rt: &R, office: &OfficeOf<V>, pass: &mut Pass<V>) -> Self::Given
         requires turn { IsPassOf V.notes V.base office.now.turn pass.old }
-        requires idle { IsIdle pass.old }
+        requires between_turns { IsIdle pass.old }
         requires fresh { own_calls pass.old ≡ [] }
         ensures turn { IsPassOf V.notes V.base office.now.turn pass.new × IsIdle pass.new }
         ensures same { (share pass.new ≡ share pass.old) × (opening pass.new ≡ opening pass.old) }

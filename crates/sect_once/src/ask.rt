@@ -59,7 +59,7 @@ impl<O: Object, K: Keeper> Desk<O, K> {
         requires { O.may_ask id day command }
         ensures { Answers O.stepped O.is_row K.rows K.faults id day command self.old self.new result }
     {
-        self.is_sound();
+        self.recall_sound();
         match self.find(&id, &command) {
             Seen::Place(place) => self.repeat(place),
             Seen::Reused(place) => Answer::NumberReused(place),
@@ -74,10 +74,10 @@ impl<O: Object, K: Keeper> Desk<O, K> {
     }
 
     /// The log is legal and was never full, the object is the replay of its history, and the rows, where they are told, are those of it. The type keeps this.
-    pub fn is_sound(&self)
+    pub fn recall_sound(&self)
         ensures { IsSound O.stepped O.is_row K.rows K.faults O.start self.now }
     {
-        self.past.is_trail();
+        self.past.recall_trail();
     }
 
     /// Asks a request that may be asked: its id, its day and its command have texts, as those of each line that was read. It
@@ -88,7 +88,7 @@ impl<O: Object, K: Keeper> Desk<O, K> {
         ensures sound { IsSound O.stepped O.is_row K.rows K.faults O.start self.new }
     {
         let answer = self.answer(id, day, command);
-        self.is_sound();
+        self.recall_sound();
         answer
     }
 
@@ -97,7 +97,7 @@ impl<O: Object, K: Keeper> Desk<O, K> {
         ensures view { IfOk result (λ v. v ≡ O.looked (state_after O.stepped O.start (history self.now.log)) query.now) }
         ensures sound { IsSound O.stepped O.is_row K.rows K.faults O.start self.now }
     {
-        self.is_sound();
+        self.recall_sound();
         self.past.object.look(query)
     }
 }

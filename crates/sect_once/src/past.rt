@@ -106,7 +106,7 @@ impl<O: Object> Past<O> {
     }
 
     /// The type keeps this.
-    pub(crate) fn is_trail(&self)
+    pub(crate) fn recall_trail(&self)
         ensures { IsTrail O.start O.stepped self.now }
     {
         let _ = &self.row_bytes;

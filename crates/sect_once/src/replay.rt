@@ -144,7 +144,7 @@ impl<O: Object, K: Keeper> Desk<O, K> {
                     keeper,
                     opened,
                 };
-                desk.is_sound();
+                desk.recall_sound();
                 Ok(desk)
             }
             Err(_) => Err((OpenFault::Memory, keeper)),

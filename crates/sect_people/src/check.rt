@@ -5,7 +5,7 @@ ghost use Rattle.std.specs.Bool.{then_some};
 ghost use Rattle.std.specs.List.Sorted.{IsNonDecreasingBy};
 ghost use Rattle.std.specs.Option.{option_or};
 ghost use Rattle.std.specs.Result.{result_err};
-ghost use Rattle.sect_base.specs.Told.{told as told_of};
+ghost use Rattle.sect_base.specs.Capped.{capped as capped_of};
 ghost use Rattle.sect_people.specs.Fault.{
   courses_of,
   courses_of_all,
@@ -34,7 +34,7 @@ pub fn check_asks(asks: &[Ask], known: &[CourseId]) -> Result<(), RequestFault>
         return Err(RequestFault::Twice(course.0));
     }
     match wrong_count(asks) {
-        Some(count) => Err(RequestFault::TooMany(as_told(count))),
+        Some(count) => Err(RequestFault::TooMany(capped(count))),
         None => Ok(()),
     }
 }
@@ -112,8 +112,8 @@ fn bad_length(ask: &Ask) -> Option<usize>
 }
 
 /// A count as faults and refusals tell it: the count, or 2^32 - 1 where that is smaller. It takes no memory.
-pub fn as_told(count: usize) -> u32
-    ensures { result ≡ told_of count }
+pub fn capped(count: usize) -> u32
+    ensures { result ≡ capped_of count }
 {
     count.min(u32::MAX as usize) as u32
 }

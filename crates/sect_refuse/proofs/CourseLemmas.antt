@@ -6,7 +6,7 @@ use Rattle.std.specs.Bool.{then_some}
 use Rattle.std.specs.Option.{option_or, option_map}
 use Rattle.std.proofs.Common.{◌∙◌, ap, arith}
 use Rattle.std.proofs.lemmas.Bool.Decides.{nat_tests}
-use Rattle.sect_base.specs.Told.{told}
+use Rattle.sect_base.specs.Capped.{capped}
 use Rattle.sect_base.specs.declared.ids.CourseId.{CourseId}
 use Rattle.sect_catalog.specs.declared.row.OfferingRow.{OfferingRow}
 use Rattle.sect_catalog.specs.Catalogue.{all_courses}
@@ -84,5 +84,5 @@ pub fault-same : (asks : List Ask) (rows : List OfferingRow) → fault_of asks (
 fault-same asks rows =
     λ i. option_or (option_map (λ c. UnknownCourse c.0) (find (λ c. not (known-same rows c.0 i)) (courses_of_all asks)))
     (option_or (option_map Twice (repeated_after [] (courses_of_all asks)))
-    (option_map (λ n. TooMany (told n))
+    (option_map (λ n. TooMany (capped n))
     (option_or (then_some (nat_lt 20 (length asks)) (length asks)) (first_bad_length asks))))

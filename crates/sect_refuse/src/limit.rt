@@ -2,7 +2,7 @@
 
 ghost use Rattle.std.specs.Prelude.{◌≡◌, nat_lt};
 ghost use Rattle.std.specs.Bool.{then_some};
-ghost use Rattle.sect_base.specs.Told.{told as told_of};
+ghost use Rattle.sect_base.specs.Capped.{capped as capped_of};
 ghost use Rattle.sect_model.specs.Refusals.{
   level_of as level_under,
   limit_below as limit_fault,
@@ -12,7 +12,7 @@ ghost use Rattle.sect_model.specs.Refusals.{
 
 use sect_base::{Cap, Level, Limit};
 use sect_command::Refusal;
-use sect_people::{StudentRow, as_told};
+use sect_people::{StudentRow, capped};
 use sect_space::World;
 
 /// The most students.
@@ -41,10 +41,10 @@ pub fn limit_below(world: &World, cap: Cap, limit: Limit) -> Option<Refusal>
 
 /// The places are fewer than the counted enrolments.
 fn below(places: u32, counted: u32) -> Option<Refusal>
-    ensures { result ≡ then_some (nat_lt places counted) (Refusal.LimitBelow (told_of counted)) }
+    ensures { result ≡ then_some (nat_lt places counted) (Refusal.LimitBelow (capped_of counted)) }
 {
     if places < counted {
-        Some(Refusal::LimitBelow(as_told(counted as usize)))
+        Some(Refusal::LimitBelow(capped(counted as usize)))
     } else {
         None
     }
@@ -68,7 +68,7 @@ pub fn credits_above(world: &World, row: &StudentRow) -> Option<Refusal>
 {
     let credits = world.credits_held(row.id);
     if usize::from(row.max_credits) < credits {
-        Some(Refusal::LimitBelow(as_told(credits)))
+        Some(Refusal::LimitBelow(capped(credits)))
     } else {
         None
     }

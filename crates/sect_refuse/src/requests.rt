@@ -31,7 +31,7 @@ fn first_fault(world: &World, asks: &[Ask]) -> Option<RequestFault>
 pub fn waits_of(world: &World, students: &[StudentId]) -> usize
     requires { length students.now ≤ 100 }
     ensures value { result ≡ waits_among world.now.world students.now }
-    ensures few { result ≤ 2000 }
+    ensures bound { result ≤ 2000 }
 {
     let mut total = 0;
     for student in students {
@@ -43,16 +43,16 @@ pub fn waits_of(world: &World, students: &[StudentId]) -> usize
 /// The wait-listed course requests of a student.
 fn waits_of_one(world: &World, student: StudentId) -> usize
     ensures value { result ≡ length (flat_map ones_of (asks_in world.now.world student)) }
-    ensures few { result ≤ 20 }
+    ensures bound { result ≤ 20 }
 {
-    world.is_kept();
+    world.recall_kept();
     waits_in(world.asks(student))
 }
 
 /// How many of the requests are wait-listed course requests.
 fn waits_in(asks: &[Ask]) -> usize
     ensures value { result ≡ length (flat_map ones_of asks.now) }
-    ensures few { result ≤ length asks.now }
+    ensures bound { result ≤ length asks.now }
 {
     let mut total = 0;
     for ask in asks {
@@ -64,7 +64,7 @@ fn waits_in(asks: &[Ask]) -> usize
 /// 1 for a wait-listed course request, and 0 for another.
 fn one_of(ask: &Ask) -> usize
     ensures value { result ≡ length (ones_of ask.now) }
-    ensures few { result ≤ 1 }
+    ensures bound { result ≤ 1 }
 {
     match ask {
         Ask::Course(ask) if ask.wait => 1,

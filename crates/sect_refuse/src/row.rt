@@ -18,7 +18,7 @@ ghost use Rattle.sect_model.specs.Refusals.{
 use sect_base::{ConfigId, CourseId, SectionId};
 use sect_catalog::{ConfigRow, OfferingRow, SubpartRow};
 use sect_command::{Refusal, RowFault};
-use sect_people::as_told;
+use sect_people::capped;
 use sect_reserve::{Audience, ReserveFault};
 
 /// The most students that an audience lists.
@@ -56,10 +56,10 @@ pub fn reserve_fault(
         return Some(ReserveFault::NoGroup);
     }
     if students_listed(audience) > MOST_STUDENTS {
-        return Some(ReserveFault::TooMany(as_told(students_listed(audience))));
+        return Some(ReserveFault::TooMany(capped(students_listed(audience))));
     }
     if sections.len() > MOST_SECTIONS {
-        return Some(ReserveFault::TooMany(as_told(sections.len())));
+        return Some(ReserveFault::TooMany(capped(sections.len())));
     }
     None
 }

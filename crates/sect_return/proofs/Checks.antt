@@ -5,7 +5,7 @@ use Rattle.std.specs.List.{list_all, list_any}
 use Rattle.std.specs.Option.{is_none, is_some, option_map, option_map_or, option_or}
 use Rattle.std.proofs.Common.{sym, ◌∙◌, ap}
 use Rattle.std.proofs.lemmas.List.Folds.{list_all-map}
-use Rattle.sect_base.specs.Told.{told}
+use Rattle.sect_base.specs.Capped.{capped}
 use Rattle.sect_base.specs.declared.limit.Cap.{Cap}
 use Rattle.sect_base.specs.declared.limit.Limit.{Limit}
 use Rattle.sect_catalog.specs.Catalogue.{find_offering, sections_in}
@@ -88,8 +88,8 @@ module _ (cap : Cap) (limit : Limit) where
       ap (λ (foreign : Option ℕ).
       is_none (option_or (option_map Foreign foreign)
       (option_or (then_some (not true && is_group r.audience) NoGroup)
-      (option_or (then_some (nat_lt 1000 (students_listed r.audience)) (many_listed (told (students_listed r.audience))))
-      (then_some (nat_lt 1200 (length sections)) (many_listed (told (length sections)))))))) (foreign_same o r.audience r.includes.configs sections)
+      (option_or (then_some (nat_lt 1000 (students_listed r.audience)) (many_listed (capped (students_listed r.audience))))
+      (then_some (nat_lt 1200 (length sections)) (many_listed (capped (length sections)))))))) (foreign_same o r.audience r.includes.configs sections)
 
   passes_capped : (w : World) (r : Reservation) → row_passes (put_limit w cap limit) r ≡ row_passes w r
   passes_capped w r =

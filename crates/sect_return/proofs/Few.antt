@@ -6,7 +6,7 @@ use Rattle.std.specs.Option.{is_none, is_some}
 use Rattle.std.proofs.Common.{◌∙◌, ap, arith}
 use Rattle.std.proofs.lemmas.Bool.Decides.{nat_tests}
 use Rattle.std.proofs.lemmas.List.Folds.{list_all-map}
-use Rattle.sect_base.specs.Told.{told}
+use Rattle.sect_base.specs.Capped.{capped}
 use Rattle.sect_command.specs.declared.command.Command.TheVariants.{Student as student_row}
 use Rattle.sect_command.specs.declared.reply.Refusal.{Refusal}
 use Rattle.sect_command.specs.declared.reply.Refusal.TheVariants.{NotYours, TooMany}
@@ -40,7 +40,7 @@ at_most most n h = by (nat_lt most n) refl h
     within : nat_lt most n ≡ false → nat_le n most ≡ true
     within e = grind (arith, nat_tests, e)
 
-    by : (b : Bool) → nat_lt most n ≡ b → is_none (then_some b (TooMany (told n))) ≡ true → nat_le n most ≡ true
+    by : (b : Bool) → nat_lt most n ≡ b → is_none (then_some b (TooMany (capped n))) ≡ true → nat_le n most ≡ true
     by true e h = absurd (not_both false h refl)
     by false e h = within e
 

@@ -6,7 +6,7 @@ use Rattle.std.specs.Option.{is_none, option_map, option_or}
 use Rattle.std.proofs.Common.{sym, ◌∙◌, ap, subst, arith, inl, inr, ⊎_elim, append-nil, append_assoc, length-append}
 use Rattle.std.proofs.lemmas.Bool.Decides.{nat_tests}
 use Rattle.std.proofs.lemmas.List.Concat.{flat_map-append}
-use Rattle.sect_base.specs.Told.{told}
+use Rattle.sect_base.specs.Capped.{capped}
 use Rattle.sect_catalog.specs.Catalogue.{all_sections, sections_in}
 use Rattle.sect_catalog.specs.Fault.{above, are_checked, are_checked_after, bad_parent, fault_of, is_empty, known_id, row_ids, same_kind, stands_twice}
 use Rattle.sect_catalog.specs.declared.row.CatalogFault.{CatalogFault}
@@ -41,7 +41,7 @@ first_fault known others o =
     (option_or (option_map (λ g. NoSubpart g.id.0) (find (λ g. is_empty g.subparts) o.configs))
     (option_or (option_map (λ p. NoSection p.id.0) (find (λ p. is_empty p.sections) subparts))
     (option_or (option_map BadParent (bad_parent o.configs))
-    (option_map (λ n. TooMany (told n))
+    (option_map (λ n. TooMany (capped n))
     (option_or (above 10 (length o.courses ∷ []))
     (option_or (above 10 (length o.configs ∷ []))
     (option_or (above 6 (map (λ g. length g.subparts) o.configs))
@@ -75,14 +75,14 @@ no_fault known new others fewer o is_new few h =
     (behind (option_map (λ g. NoSubpart g.id.0) (find (λ g. is_empty g.subparts) o.configs)) _ _
     (behind (option_map (λ p. NoSection p.id.0) (find (λ p. is_empty p.sections) subparts)) _ _
     (behind (option_map BadParent (bad_parent o.configs)) _ _
-    (λ t. none-map (λ n. TooMany (told n)) _
+    (λ t. none-map (λ n. TooMany (capped n)) _
     ∙ behind (above 10 (length o.courses ∷ [])) _ _
     (behind (above 10 (length o.configs ∷ [])) _ _
     (behind (above 6 (map (λ g. length g.subparts) o.configs)) _ _
     (behind (above 200 (map (λ p. length p.sections) subparts)) _ _
     (behind (above 8 (map (λ s. length s.meetings) (sections_in subparts))) _ _
     (λ u. ap (λ b. is_none (cond b (Some (fewer + length (sections_of o))) None)) (at_most (fewer + length (sections_of o)) few))))))
-    (sym (none-map (λ n. TooMany (told n)) _) ∙ t))))))
+    (sym (none-map (λ n. TooMany (capped n)) _) ∙ t))))))
     (none-right (option_map Known known) _ h))
 
 -- nothing is found where nothing passes

@@ -6,7 +6,7 @@ use Rattle.std.specs.Option.{is_none, is_some, option_map, option_or}
 use Rattle.std.proofs.Common.{sym, ◌∙◌, ap, subst, append_assoc, inl}
 use Rattle.std.proofs.lemmas.Bool.{eq-eqb}
 use Rattle.std.proofs.lemmas.List.{map-append}
-use Rattle.sect_base.specs.Told.{told}
+use Rattle.sect_base.specs.Capped.{capped}
 use Rattle.sect_catalog.specs.Catalogue.{all_courses}
 use Rattle.sect_command.specs.declared.command.Command.TheVariants as commands
 use Rattle.sect_command.specs.declared.reply.Refusal.{Refusal}
@@ -153,4 +153,4 @@ sorted_fault rows asks = ap (λ unknown. is_none (option_or (option_map (λ (c :
     others : List Ask → Option RequestFault
     others asks =
         option_or (option_map Twice (repeated_after [] (courses_of_all asks)))
-        (option_map (λ n. many_asked (told n)) (option_or (then_some (nat_lt 20 (length asks)) (length asks)) (first_bad_length asks)))
+        (option_map (λ n. many_asked (capped n)) (option_or (then_some (nat_lt 20 (length asks)) (length asks)) (first_bad_length asks)))

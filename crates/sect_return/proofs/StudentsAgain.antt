@@ -7,7 +7,7 @@ use Rattle.std.proofs.lemmas.Bool.{leb-true}
 use Rattle.std.proofs.lemmas.Bool.Decides.{nat_tests}
 use Rattle.std.proofs.lemmas.List.{length-map, map-append}
 use Rattle.std.proofs.lemmas.List.Folds.{list_all-map}
-use Rattle.sect_base.specs.Told.{told}
+use Rattle.sect_base.specs.Capped.{capped}
 use Rattle.sect_command.specs.declared.command.Command.TheVariants.{Student as student_row}
 use Rattle.sect_command.specs.declared.reply.Refusal.{Refusal}
 use Rattle.sect_command.specs.declared.reply.Refusal.TheVariants.{LimitBelow, TooMany}
@@ -67,11 +67,11 @@ not_refused rows day students row small few =
     four_none (many_students w row) (too_many 50 (length row.groups)) (too_many 10 (length row.curricula)) (credits_above w row)
     (none_said (is_none (find_student students row.id) && nat_le 50000 (length students)) (TooMany 50001)
     (and_room (is_none (find_student students row.id)) (nat_le 50000 (length students)) (room (length students) small)))
-    (none_said (nat_lt 50 (length row.groups)) (TooMany (told (length row.groups)))
+    (none_said (nat_lt 50 (length row.groups)) (TooMany (capped (length row.groups)))
     (within 50 (length row.groups) (both-left (nat_le (length row.groups) 50) (nat_le (length row.curricula) 10) few)))
-    (none_said (nat_lt 10 (length row.curricula)) (TooMany (told (length row.curricula)))
+    (none_said (nat_lt 10 (length row.curricula)) (TooMany (capped (length row.curricula)))
     (within 10 (length row.curricula) (both-right (nat_le (length row.groups) 50) (nat_le (length row.curricula) 10) few)))
-    (none_said (nat_lt row.max_credits 0) (LimitBelow (told 0)) (not_below row.max_credits))
+    (none_said (nat_lt row.max_credits 0) (LimitBelow (capped 0)) (not_below row.max_credits))
 
 -- a new student stands behind the others
 one_more : (rows : List OfferingRow) (start day : ℕ) (before : List StudentRow) (row : StudentRow) → length before < 50000 → is_few row ≡ true

@@ -4,7 +4,7 @@ use Rattle.std.specs.List.{list_any}
 use Rattle.std.specs.Bool.{then_some}
 use Rattle.std.specs.Option.{option_map, option_or, option_and_then, option_to_list, is_none, is_some}
 use Rattle.std.proofs.Common.{arith}
-use Rattle.sect_base.specs.Told.{told}
+use Rattle.sect_base.specs.Capped.{capped}
 use Rattle.sect_base.specs.declared.limit.Cap.TheVariants.{Course as cap_course, Config as cap_config, Section as cap_section}
 use Rattle.sect_people.specs.declared.row.Ask.TheVariants.{Course as asks_course, Free}
 use Rattle.sect_people.specs.declared.row.RequestFault.TheVariants.{UnknownCourse, Twice, TooMany as many_requests}
@@ -32,8 +32,8 @@ use Rattle.sect_rows.proofs.Leaves.{least-most}
 abbrev MayRefuse : Option Refusal → Type 0
 MayRefuse = FitsOptional FitsRefusal
 
-pub told-fits : (n : ℕ) → told n ≤ 4294967295
-told-fits n = omega arith
+pub capped-fits : (n : ℕ) → capped n ≤ 4294967295
+capped-fits n = omega arith
 
 -- ---- the faults of rows
 
@@ -64,9 +64,9 @@ bad-parent : (gs : List ConfigRow) → FitsList FitsConfigRow gs → FitsOptiona
 bad-parent [] h = tt
 bad-parent (g ∷ gs) h = fits-or Fits32 (rows.bad_parent_after [] g.subparts) (rows.bad_parent gs) (parent-after [] g.subparts h.0.2) (bad-parent gs h.1)
 
-any-count : (o : Option ℕ) → FitsOptional FitsCatalogFault (option_map (λ n. many_rows (told n)) o)
+any-count : (o : Option ℕ) → FitsOptional FitsCatalogFault (option_map (λ n. many_rows (capped n)) o)
 any-count None = tt
-any-count (Some n) = told-fits n
+any-count (Some n) = capped-fits n
 
 row-fault : (c : Catalogue) (o : OfferingRow) → FitsOfferingRow o → FitsOptional FitsCatalogFault (rows.fault_of c o)
 row-fault c o h =
@@ -80,7 +80,7 @@ row-fault c o h =
     (fits-or FitsCatalogFault (option_map (λ p. NoSection p.id.0) (find (λ p. rows.is_empty p.sections) (flat_map (λ g. g.subparts) o.configs))) _
     (fits-map FitsSubpartRow FitsCatalogFault (λ p. NoSection p.id.0) (find (λ p. rows.is_empty p.sections) (flat_map (λ g. g.subparts) o.configs)) (λ p h. h.0)
     (fits-found FitsSubpartRow (λ p. rows.is_empty p.sections) (flat_map (λ g. g.subparts) o.configs) (each-flat_map FitsConfigRow FitsSubpartRow (λ g. g.subparts) o.configs (λ g h. h.2) h.2)))
-    (fits-or FitsCatalogFault (option_map BadParent (rows.bad_parent o.configs)) (option_map (λ n. many_rows (told n)) (rows.too_many c o))
+    (fits-or FitsCatalogFault (option_map BadParent (rows.bad_parent o.configs)) (option_map (λ n. many_rows (capped n)) (rows.too_many c o))
     (fits-map Fits32 FitsCatalogFault BadParent (rows.bad_parent o.configs) (λ n h. h) (bad-parent o.configs h.2))
     (any-count (rows.too_many c o)))))))
 
@@ -98,9 +98,9 @@ repeated earlier (c ∷ cs) h = by_test (list_any (λ e. e.0 == c.0) earlier) (r
     by_test true rest = h.0
     by_test false rest = rest
 
-any-length : (o : Option ℕ) → FitsOptional FitsRequestFault (option_map (λ n. many_requests (told n)) o)
+any-length : (o : Option ℕ) → FitsOptional FitsRequestFault (option_map (λ n. many_requests (capped n)) o)
 any-length None = tt
-any-length (Some n) = told-fits n
+any-length (Some n) = capped-fits n
 
 request-fault : (asks : List Ask) (known : List CourseId) → FitsList FitsAsk asks → FitsOptional FitsRequestFault (requests.fault_of asks known)
 request-fault asks known h =
@@ -135,9 +135,9 @@ reserve-fault id used groups audience configs sections n h k l o =
     (fits-or FitsReserveFault (option_map Foreign (Refusals.foreign_in o audience configs sections)) _
     (fits-map Fits32 FitsReserveFault Foreign (Refusals.foreign_in o audience configs sections) (λ n h. h) (foreign o audience configs sections h k l))
     (fits-or FitsReserveFault (then_some (not groups && Refusals.is_group audience) NoGroup) _ (fits-then FitsReserveFault (not groups && Refusals.is_group audience) NoGroup tt)
-    (fits-or FitsReserveFault (then_some (nat_lt 1000 (Refusals.students_listed audience)) (many_listed (told (Refusals.students_listed audience)))) (then_some (nat_lt 1200 (length sections)) (many_listed (told (length sections))))
-    (fits-then FitsReserveFault _ (many_listed (told (Refusals.students_listed audience))) (told-fits (Refusals.students_listed audience)))
-    (fits-then FitsReserveFault _ (many_listed (told (length sections))) (told-fits (length sections))))))
+    (fits-or FitsReserveFault (then_some (nat_lt 1000 (Refusals.students_listed audience)) (many_listed (capped (Refusals.students_listed audience)))) (then_some (nat_lt 1200 (length sections)) (many_listed (capped (length sections))))
+    (fits-then FitsReserveFault _ (many_listed (capped (Refusals.students_listed audience))) (capped-fits (Refusals.students_listed audience)))
+    (fits-then FitsReserveFault _ (many_listed (capped (length sections))) (capped-fits (length sections))))))
 
 row-refused : (x : Option OfferingRow) (fault : OfferingRow → Option ReserveFault) → ((o : OfferingRow) → FitsOptional FitsReserveFault (fault o)) → MayRefuse (Refusals.row_refusal (option_and_then fault x))
 row-refused None fault h = tt
@@ -179,7 +179,7 @@ module _ (w : World) where
       fits-or FitsRefusal _ (Refusals.not_enrolled_in w student (c ∷ earlier) cs) (fits-then FitsRefusal (not (holds w student c) || list_any (λ e. e.0 == c.0) earlier) (NotEnrolled c) h.0) (not-enrolled student (c ∷ earlier) cs h.1)
 
 many : (limit n : ℕ) → MayRefuse (Refusals.too_many limit n)
-many limit n = fits-then FitsRefusal (nat_lt limit n) (TooMany (told n)) (told-fits n)
+many limit n = fits-then FitsRefusal (nat_lt limit n) (TooMany (capped n)) (capped-fits n)
 
 many-want : (want : Want) → MayRefuse (Refusals.many_in_want want)
 many-want want = fits-or FitsRefusal (Refusals.too_many 6 (length want.courses)) (Refusals.too_many 1200 (length want.only)) (many 6 (length want.courses)) (many 1200 (length want.only))
@@ -204,15 +204,15 @@ ticket-fits s most f student courses =
 module _ (s : State) (most : ℕ) (f : FitsState most s) (small : most ≤ 18446744073709551615) where
   conditions-fit : (command : Command) → FitsCommand command → FitsList MayRefuse (Refusals.conditions_of s command)
   conditions-fit (Offering row) h = (fits-map FitsCatalogFault FitsRefusal (λ f. Row (offering_fault f)) (rows.fault_of s.world.catalogue row) (λ f h. h) (row-fault s.world.catalogue row h), tt)
-  conditions-fit (student_row row) h = (fits-then FitsRefusal _ (TooMany 50001) (omega arith), (many 50 (length row.groups), (many 10 (length row.curricula), (fits-then FitsRefusal _ (LimitBelow (told _)) (told-fits _), tt))))
+  conditions-fit (student_row row) h = (fits-then FitsRefusal _ (TooMany 50001) (omega arith), (many 50 (length row.groups), (many 10 (length row.curricula), (fits-then FitsRefusal _ (LimitBelow (capped _)) (capped-fits _), tt))))
   conditions-fit (Requests student asks) h = (student-unknown s.world student h.0, (fits-map FitsRequestFault FitsRefusal (λ f. Row (request_fault f)) (requests.fault_of asks (course_ids s.world)) (λ f h. h) (request-fault asks (course_ids s.world) h.1), tt))
   conditions-fit (Reserve row) h = (fits-then FitsRefusal _ (Unknown row.offering.0) h.1, (fits-then FitsRefusal _ (TooMany 51) (omega arith), (row-refused (find_offering s.world.catalogue.rows row.offering) _ (reserve-fault row.id.0 (is_some (reservation_of s.world row.id)) true row.audience row.configs row.sections h.0 h.2 h.6 h.7), tt)))
-  conditions-fit (Unreserve id) h = (fits-then FitsRefusal _ (Unknown id.0) h, (fits-then FitsRefusal _ (InUse (told _)) (told-fits _), tt))
+  conditions-fit (Unreserve id) h = (fits-then FitsRefusal _ (Unknown id.0) h, (fits-then FitsRefusal _ (InUse (capped _)) (capped-fits _), tt))
   conditions-fit (Expire id expiry) h = (fits-then FitsRefusal _ (Unknown id.0) h.0, tt)
   conditions-fit (Restrict row) h = (fits-then FitsRefusal _ (Unknown row.offering.0) h.1, (fits-then FitsRefusal _ (TooMany 51) (omega arith), (row-refused (find_offering s.world.catalogue.rows row.offering) _ (reserve-fault row.id.0 (is_some (Refusals.restriction_of s.world row.id)) false row.audience row.configs row.sections h.0 h.2 h.3 h.4), tt)))
   conditions-fit (Unrestrict id) h = (fits-then FitsRefusal _ (Unknown id.0) h, tt)
-  conditions-fit (SetLimit cap limit) h = (cap-unknown s.world cap h.0, (fits-then FitsRefusal _ (LimitBelow (told _)) (told-fits _), tt))
-  conditions-fit (Cancel id) h = (sections-unknown s.world (id ∷ []) (h, tt), (fits-then FitsRefusal _ (InUse (told _)) (told-fits _), tt))
+  conditions-fit (SetLimit cap limit) h = (cap-unknown s.world cap h.0, (fits-then FitsRefusal _ (LimitBelow (capped _)) (capped-fits _), tt))
+  conditions-fit (Cancel id) h = (sections-unknown s.world (id ∷ []) (h, tt), (fits-then FitsRefusal _ (InUse (capped _)) (capped-fits _), tt))
   conditions-fit (Enrol student want budget) h = (student-unknown s.world student h.0, (want-unknown s.world want h.1, (fits-then FitsRefusal _ EmptyWant tt, (many-want want, tt))))
   conditions-fit (Drop student course) h = (student-unknown s.world student h.0, (courses-unknown s.world (course ∷ []) (h.1, tt), (fits-then FitsRefusal _ (NotEnrolled course) h.1, tt)))
   conditions-fit (Swap student give take budget) h = (student-unknown s.world student h.0, (courses-unknown s.world give h.1, (wants-unknown s.world take h.2, (fits-then FitsRefusal _ EmptyWant tt, (many 4 (length give), (many 4 (length take), (many-wants take, (not-enrolled s.world student [] give h.1, tt))))))))

@@ -4,7 +4,7 @@ use Rattle.std.specs.Bool.{then_some}
 use Rattle.std.specs.Option.{is_none, option_map_or}
 use Rattle.std.proofs.Common.{sym, ◌∙◌, ap, subst, arith}
 use Rattle.std.proofs.lemmas.Bool.Decides.{nat_tests}
-use Rattle.sect_base.specs.Told.{told}
+use Rattle.sect_base.specs.Capped.{capped}
 use Rattle.sect_command.specs.declared.command.Command.{Command}
 use Rattle.sect_command.specs.declared.command.Command.TheVariants.{Offering, Student as student_row, Requests, Reserve, Unreserve, Expire, Restrict, Unrestrict, SetLimit, Cancel, Enrol, Drop, Swap, Wait, Unwait, Batch}
 use Rattle.sect_command.specs.declared.reply.Refusal.{Refusal}
@@ -124,13 +124,13 @@ few-students s caller command h students e = by_test (nat_lt 100 (length student
     second : is_none (first_of (conditions_of s (Batch students))) ≡ true
     second = none-right (then_some (not (is_yours caller (Batch students))) NotYours) (first_of (conditions_of s (Batch students))) whole
 
-    third : is_none (then_some (nat_lt 100 (length students)) (TooMany (told (length students)))) ≡ true
+    third : is_none (then_some (nat_lt 100 (length students)) (TooMany (capped (length students)))) ≡ true
     third = none-left (too_many 100 (length students)) _ (none-right (unknown_students s.world students) _ second)
 
     within : nat_lt 100 (length students) ≡ false → length students ≤ 100
     within e = grind (arith, nat_tests, e)
 
-    by_test : (b : Bool) → nat_lt 100 (length students) ≡ b → is_none (then_some b (TooMany (told (length students)))) ≡ true → length students ≤ 100
+    by_test : (b : Bool) → nat_lt 100 (length students) ≡ b → is_none (then_some b (TooMany (capped (length students)))) ≡ true → length students ≤ 100
     by_test true e h = absurd (not_both false h refl)
     by_test false e h = within e
 

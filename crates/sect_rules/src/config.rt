@@ -94,7 +94,7 @@ impl Moment<'_> {
             (λ o. config_rules self.now.at self.now.student o course (option_and_then (reservation_of self.now.at) id) config)
             (offering_of self.now.at course) []) }
     {
-        self.keeps();
+        self.recall_kept();
         let offering = self.offering(course)?.id;
         let r = self.named(id);
         let closed = self.closed(offering, r, Level::Config(config));

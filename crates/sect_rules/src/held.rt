@@ -134,7 +134,7 @@ pub fn credits_kept(world: &World, give: &[CourseId], held: &[Enrolment]) -> u32
 pub fn credits_made(world: &World, done: &[Choice]) -> u32
     requires { length done.now ≤ 20 }
     ensures value { result ≡ sum_by (λ c. credits_of world.now.world c.course) done.now }
-    ensures few { result ≤ 5100 }
+    ensures bound { result ≤ 5100 }
 {
     let mut total = 0;
     for choice in done {

@@ -13,7 +13,7 @@ pub fn a_complete_path_is_unbroken_exactly_where_its_choices_are_allowed(world: 
     ensures { PathsTellMoves world.now.world mv.now }
 {
     let _ = mv;
-    world.is_kept();
+    world.recall_kept();
 }
 
 /// Each allowed move stands at the end of a path of options.
@@ -21,5 +21,5 @@ pub fn each_allowed_move_has_a_path(world: &World, mv: &Move)
     ensures { MovesHavePaths world.now.world mv.now }
 {
     let _ = mv;
-    world.is_kept();
+    world.recall_kept();
 }

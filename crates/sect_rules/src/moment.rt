@@ -68,7 +68,7 @@ impl<'a> Moment<'a> {
         requires { MoveStands world.now.world mv.now }
         ensures { result ≡ record { at = world_at world.now.world mv.now path.now; student = mv.now.student } }
     {
-        world.is_kept();
+        world.recall_kept();
         Moment {
             world,
             student: mv.student,
@@ -167,7 +167,7 @@ impl<'a> Moment<'a> {
     pub fn credits_held(&self, most: u16) -> u32
         requires { most ≡ most_credits self.now.at self.now.student }
         ensures value { result ≡ credits_of_student self.now.at self.now.student }
-        ensures few { result ≤ 71000 }
+        ensures bound { result ≤ 71000 }
     {
         let held = self.world.enrolments(self.student);
         let kept = credits_kept(self.world, self.give, held);
@@ -197,7 +197,7 @@ impl<'a> Moment<'a> {
     }
 
     /// What the world keeps of its rows. It does nothing.
-    pub fn keeps(&self)
+    pub fn recall_kept(&self)
         ensures checked { IsTrue (are_checked self.now.at.catalogue.rows) }
         ensures fit { IsTrue (list_all (λ r. includes_fit self.now.at r.offering r.includes) self.now.at.reservations) }
     {

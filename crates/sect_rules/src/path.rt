@@ -71,7 +71,7 @@ impl<const N: usize> PathOf<N> {
     pub fn done(&self) -> &[Choice]
         ensures value { result.now ≡ self.now.done }
         ensures room { length result.now ≤ N }
-        ensures few { length result.now ≤ 20 }
+        ensures bound { length result.now ≤ 20 }
     {
         &self.cells[..usize::from(self.len)]
     }
@@ -181,7 +181,7 @@ impl<const N: usize> PathOf<N> {
         requires option { Contains (options_at world.now.world mv.now self.now) pick }
         ensures { result ≡ extend world.now.world self.now pick }
     {
-        world.is_kept();
+        world.recall_kept();
         let mut path = self.copied();
         match pick {
             Pick::Course(course) => path.course = Some(course),

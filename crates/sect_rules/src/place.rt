@@ -79,7 +79,7 @@ pub fn configs(world: &World, course: CourseId) -> &[ConfigRow]
     ensures value { result.now ≡ option_map_or (λ o. o.configs) (offering_of world.now.world course) [] }
     ensures differ { IsTrue (all_differ (map (λ g. g.id.0) result.now)) }
 {
-    world.is_kept();
+    world.recall_kept();
     match offering(world, course) {
         Some(row) => row.configs.as_slice(),
         None => &[],
@@ -96,7 +96,7 @@ pub fn next_sections<'a>(
     ensures value { result.now ≡ option_map_or (λ p. p.sections) (next_subpart world.now.world course config sections.now) [] }
     ensures differ { IsTrue (all_differ (map (λ s. s.id.0) result.now)) }
 {
-    world.is_kept();
+    world.recall_kept();
     match subpart_after(world, course, config, sections) {
         Some(row) => row.sections.as_slice(),
         None => &[],
@@ -108,7 +108,7 @@ pub fn reservations(world: &World, course: CourseId) -> &[Reservation]
     ensures value { result.now ≡ option_map_or (λ o. reservations_of world.now.world o.id) (offering_of world.now.world course) [] }
     ensures differ { IsTrue (all_differ (map (λ r. r.id.0) result.now)) }
 {
-    world.is_kept();
+    world.recall_kept();
     match offering(world, course) {
         Some(row) => world.reservations(row.id),
         None => &[],

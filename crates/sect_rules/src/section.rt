@@ -154,7 +154,7 @@ impl Moment<'_> {
         section: SectionId,
         row: Option<&SectionRow>,
     ) -> Option<(Rule, u32)>
-        requires few { length sections < 6 }
+        requires bound { length sections < 6 }
         requires row { option_copied row ≡ find_section self.now.at.catalogue.rows section }
         ensures { result ≡ first_broken (standing_rules self.now.at self.now.student offering.now course (option_copied r.entry) config sections section) }
     {
@@ -237,7 +237,7 @@ impl Moment<'_> {
             (λ o. section_rules self.now.at self.now.student want.now o course
             (option_and_then (reservation_of self.now.at) id) config sections section) (offering_of self.now.at course) []) }
     {
-        self.keeps();
+        self.recall_kept();
         let offering = self.offering(course)?;
         let r = self.named(id);
         let row = self.catalogue().section(section);

@@ -103,7 +103,7 @@ fn turn<S: Source, K: Sink, H: Handler>(
     ensures ran { (left taken : Option (List ℕ)) (old : H)
         → Progress H.answers left (S.left source.old) taken (K.taken sink.old) old handler.old number reader.old gathered.old.items
         → GoesOn H.known H.answers left (S.left source.new) taken (K.taken sink.new) old handler.new number reader.new gathered.new.items result }
-    ensures few { IfNone result (number ≤ LINES_LIMIT) }
+    ensures bound { IfNone result (number ≤ LINES_LIMIT) }
     ensures end { result ≡ Some ends.Done → IsAtEnd (S.left source.new) }
     ensures read_fault { result ≡ Some ends.ReadFault → Rose (S.faults source.old) (S.faults source.new) }
     ensures write_fault { result ≡ Some ends.WriteFault → Rose (K.faults sink.old) (K.faults sink.new) }

@@ -10,7 +10,7 @@ use Rattle.sect_command.specs.TreeText.{HasText, HaveTexts}
 use Rattle.sect_catalog.specs.declared.row.CatalogFault.TheVariants.{Known, NoCourse, NoConfig, NoSubpart, NoSection, BadParent, TooMany}
 use Rattle.sect_catalog.specs.Catalogue.{Catalogue, has_course}
 use Rattle.sect_catalog.specs.Fault.{known_id, is_empty, bad_parent, too_many, are_checked}
-use Rattle.sect_base.specs.Told.{told}
+use Rattle.sect_base.specs.Capped.{capped}
 use Rattle.sect_people.specs.Order.{sorted_by}
 use Rattle.sect_model.specs.Data.{CourseId, ReservationId, ConfigId, SectionId, OfferingRow, ConfigRow, SubpartRow, Want, Choice, Move}
 use Rattle.sect_model.specs.declared.pick.Pick.{Pick}
@@ -93,7 +93,7 @@ configs-some rows h = checked-each (λ o. not (is_empty o.configs)) each [] rows
         (third-none (option_map Known (known_id c o)) (then_some (is_empty o.courses) NoCourse) (then_some (is_empty o.configs) NoConfig)
         (option_or (option_map (λ g. NoSubpart g.id.0) (find (λ g. is_empty g.subparts) o.configs))
         (option_or (option_map (λ p. NoSection p.id.0) (find (λ p. is_empty p.sections) subparts))
-        (option_or (option_map BadParent (bad_parent o.configs)) (option_map (λ n. TooMany (told n)) (too_many c o))))) k)
+        (option_or (option_map BadParent (bad_parent o.configs)) (option_map (λ n. TooMany (capped n)) (too_many c o))))) k)
 
 sections-some : (rows : List OfferingRow) → are_checked rows ≡ true → list_all (λ o. list_all have_sections o.configs) rows ≡ true
 sections-some rows h = checked-each (λ o. list_all have_sections o.configs) each [] rows h
@@ -106,7 +106,7 @@ sections-some rows h = checked-each (λ o. list_all have_sections o.configs) eac
         ∙ nothing-found (λ p. NoSection p.id.0) (λ p. is_empty p.sections) subparts
         (third-none (then_some (is_empty o.configs) NoConfig) (option_map (λ g. NoSubpart g.id.0) (find (λ g. is_empty g.subparts) o.configs))
         (option_map (λ p. NoSection p.id.0) (find (λ p. is_empty p.sections) subparts))
-        (option_or (option_map BadParent (bad_parent o.configs)) (option_map (λ n. TooMany (told n)) (too_many c o)))
+        (option_or (option_map BadParent (bad_parent o.configs)) (option_map (λ n. TooMany (capped n)) (too_many c o)))
         (rest-none (then_some (is_empty o.courses) NoCourse) _ (rest-none (option_map Known (known_id c o)) _ k)))
 
 -- ---- the choice that is being made has a subpart left

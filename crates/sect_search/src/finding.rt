@@ -56,7 +56,7 @@ pub fn search_in<const N: usize, L: Ledger>(
     ensures steps { steps.new ≡ steps.old + 1 }
 {
     steps.tick();
-    world.is_kept();
+    world.recall_kept();
     find::<N>(alloc, world, mv, budget)
 }
 

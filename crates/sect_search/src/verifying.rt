@@ -33,7 +33,7 @@ pub fn verify_in<const N: usize>(world: &World, mv: &Move, tree: &Block) -> bool
     ensures covers { result ≡ covers world.now.world mv.now tree.now }
     ensures refutes { IsTrue result → NoMove world.now.world mv.now }
 {
-    world.is_kept();
+    world.recall_kept();
     covers_all::<N>(world, mv, tree)
 }
 

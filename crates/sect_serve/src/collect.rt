@@ -30,7 +30,7 @@ pub(crate) fn servers<'a, L: Drop, C: Clock + Drop, G>(
     gate: &'a G,
     mut works: Vec<Server<'a, L, C, G>>,
 ) -> Vec<Server<'a, L, C, G>>
-    requires few { vec_len links ≤ 64 }
+    requires bound { vec_len links ≤ 64 }
     requires clocks { vec_len links ≤ vec_len clocks }
     requires room { (works.items ≡ []) × (vec_len links ≤ vec_capacity works) }
     ensures links { map (λ s. s.link) result.items ≡ links.items }

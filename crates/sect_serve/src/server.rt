@@ -95,7 +95,7 @@ fn work<O: TextObject<Query = Query, View = View>, K: Keeper, L: Link, C: Clock,
     bench: &mut Bench,
 ) -> WorkerEnd
     requires turn { IsPassOf (λ d. d.log) (λ d. d.base) office.now.turn pass.old }
-    requires idle { IsIdle pass.old }
+    requires between_turns { IsIdle pass.old }
     ensures turn { IsPassOf (λ d. d.log) (λ d. d.base) office.now.turn pass.new × IsIdle pass.new }
     ensures same { (share pass.new ≡ share pass.old) × (opening pass.new ≡ opening pass.old) }
     ensures grown { IsPrefix (front pass.old) (front pass.new) }
@@ -135,7 +135,7 @@ fn attend<
     bench: &mut Bench,
 ) -> Option<WorkerEnd>
     requires turn { IsPassOf (λ d. d.log) (λ d. d.base) office.now.turn pass.old }
-    requires idle { IsIdle pass.old }
+    requires between_turns { IsIdle pass.old }
     requires step { step.old ≤ 2 ^ 63 }
     ensures turn { IsPassOf (λ d. d.log) (λ d. d.base) office.now.turn pass.new × IsIdle pass.new }
     ensures same { (share pass.new ≡ share pass.old) × (opening pass.new ≡ opening pass.old) }

@@ -70,7 +70,7 @@ where
         desk back links.items result.2.items (take (length links.items) (map C.days clocks.items)) sessions result.0) }
     ensures keeper { result.0 ≢ ServeEnd.Memory → IsSome result.1 }
 {
-    desk.is_sound();
+    desk.recall_sound();
     an_entry_has_one_row::<O>();
     let Ok((works, backs)) = rooms(alloc, links.len()) else {
         return (ServeEnd::Memory, Some(desk.close()), links);
@@ -127,7 +127,7 @@ where
     let (pass, end, backs) = work_all(rt, alloc, &office, pass, works, backs, sessions);
     match office.close(pass) {
         Ok(desk) => {
-            desk.is_sound();
+            desk.recall_sound();
             (end, Some(desk.close()), backs)
         }
         Err(_) => (ServeEnd::Memory, None, backs),

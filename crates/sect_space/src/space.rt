@@ -40,7 +40,7 @@ impl World {
     /// or isn't known. It takes no memory.
     pub fn places(&self, level: Level) -> Option<u64>
         ensures value { result ≡ places_at self.now.world level }
-        ensures few { IfSome result (λ n. n ≤ 42949672950) }
+        ensures bound { IfSome result (λ n. n ≤ 42949672950) }
     {
         match level {
             Level::Course(id) => places(self.catalogue().course(id)?.1.limit),
@@ -52,9 +52,9 @@ impl World {
 
     fn places_of(&self, id: OfferingId) -> Option<u64>
         ensures value { result ≡ places_at self.now.world (Level.Offering id) }
-        ensures few { IfSome result (λ n. n ≤ 42949672950) }
+        ensures bound { IfSome result (λ n. n ≤ 42949672950) }
     {
-        self.is_kept();
+        self.recall_kept();
         match self.catalogue().offering(id) {
             Some(row) => total(row.configs.as_slice()),
             None => None,
@@ -76,9 +76,9 @@ impl World {
     /// The reservations of the level's offering, among which are all that name the level. It takes no memory.
     fn reservations_near(&self, level: Level) -> &[Reservation]
         ensures near { active_at self.now.world level ≡ filter (λ r. is_active r self.now.world.day && is_named r level) result.now }
-        ensures few { length result.now ≤ 1000000 }
+        ensures bound { length result.now ≤ 1000000 }
     {
-        self.is_kept();
+        self.recall_kept();
         a_level_is_named_by_its_offering();
         match self.level_offering(level) {
             Some(offering) => self.reservations(offering),
@@ -115,9 +115,9 @@ impl World {
     /// The enrolments at the level, and what the active reservations that name it still hold back.
     fn taken(&self, level: Level) -> u64
         ensures value { result ≡ count_of self.now.world level + sum_by (remaining_of self.now.world) (active_at self.now.world level) }
-        ensures few { result ≤ 4300000000000000 }
+        ensures bound { result ≤ 4300000000000000 }
     {
-        self.is_kept();
+        self.recall_kept();
         u64::from(self.count(level)) + self.held_back(level, self.reservations_near(level))
     }
 
@@ -125,7 +125,7 @@ impl World {
     fn held_back(&self, level: Level, rows: &[Reservation]) -> u64
         requires { length rows.now ≤ 1000000 }
         ensures value { result ≡ sum_by (λ r. cond (is_active r self.now.world.day && is_named r level) (remaining_of self.now.world r) 0) rows.now }
-        ensures few { result ≤ 1000000 * 4294967295 }
+        ensures bound { result ≤ 1000000 * 4294967295 }
     {
         let mut sum = 0u64;
         for row in rows {
@@ -195,7 +195,7 @@ fn is_boundless(limit: Limit) -> bool
 
 fn places(limit: Limit) -> Option<u64>
     ensures value { result ≡ places_in limit }
-    ensures few { IfSome result (λ n. n ≤ 4294967295) }
+    ensures bound { IfSome result (λ n. n ≤ 4294967295) }
 {
     match limit {
         Limit::Places(places) => Some(u64::from(places)),
@@ -207,7 +207,7 @@ fn places(limit: Limit) -> Option<u64>
 fn total(configs: &[ConfigRow]) -> Option<u64>
     requires { length configs.now ≤ 10 }
     ensures value { result ≡ places_of_all configs.now }
-    ensures few { IfSome result (λ n. n ≤ 42949672950) }
+    ensures bound { IfSome result (λ n. n ≤ 42949672950) }
 {
     let mut sum = 0u64;
     for config in configs {

@@ -74,7 +74,7 @@ impl World {
     }
 
     /// Does nothing: the contract tells what holds of every world.
-    pub fn is_kept(&self)
+    pub fn recall_kept(&self)
         ensures { KeptWorld self.now.world }
     {
         let _ = &self.parts.day;

@@ -27,7 +27,7 @@ pub fn survey_lines(
 ) -> Result<Vec<SurveyLine>, Memory>
     ensures { IfOk result (λ lines. lines.items ≡ lines_of_world world.now.world) }
 {
-    world.is_kept();
+    world.recall_kept();
     let views = unmet_requests(alloc, world)?;
     lines_of(rt, alloc, world, views.as_slice())
 }

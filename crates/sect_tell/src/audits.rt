@@ -117,7 +117,7 @@ fn is_verified(machine: &mut Machine, entry: &Entry<Command, Reply>) -> Result<b
     ensures answer { IfOk result (λ holds. holds ≡ is_verified (state_in machine.old) entry.now) }
     ensures state { state_in machine.new ≡ state_in machine.old }
 {
-    machine.is_kept();
+    machine.recall_kept();
     blocked_is_refuted();
     match &entry.reply {
         Reply::Blocked(_, tree) => machine.recheck(entry.day, &entry.command, tree),

@@ -35,7 +35,7 @@ fn spells_weeks(text: &[u8], weeks: u64) -> bool
 /// The weeks that the text says, if it is the printed form of some.
 fn weeks_in(text: &[u8]) -> u64
     ensures weeks { result ≡ weeks_in text.now }
-    ensures sixty { result < 2 ^ 60 }
+    ensures bound { result < 2 ^ 60 }
 {
     let mut scan = Scan::start();
     for byte in text {

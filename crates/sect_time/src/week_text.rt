@@ -10,7 +10,7 @@ use crate::spelling::MeetingText;
 
 /// Adds the printed form of these weeks, run by run.
 pub(crate) fn print_weeks(text: &mut MeetingText, weeks: u64)
-    requires sixty { weeks < 2 ^ 60 }
+    requires bound { weeks < 2 ^ 60 }
     requires room { length text.old + 124 ≤ 160 }
     ensures { text.new ≡ text.old ++ weeks_text weeks }
 {
@@ -38,7 +38,7 @@ fn first_from(weeks: u64, from: u32) -> Option<u32>
 
 /// The last week of the run that begins with this one.
 fn last_from(weeks: u64, first: u32) -> u32
-    requires sixty { weeks < 2 ^ 60 }
+    requires bound { weeks < 2 ^ 60 }
     requires is_in { has_bit weeks first ≡ true }
     ensures { IsLastFrom weeks first result }
 {
@@ -48,7 +48,7 @@ fn last_from(weeks: u64, first: u32) -> u32
 /// The run, after a dot unless it starts the text.
 fn print_run(text: &mut MeetingText, starts: bool, first: u32, last: u32)
     requires order { first ≤ last }
-    requires sixty { last < 60 }
+    requires bound { last < 60 }
     requires room { length text.old + 6 ≤ 160 }
     ensures text { text.new ≡ text.old ++ next_run_text starts (record { first = first; last = last }) }
     ensures length { length text.new ≤ length text.old + 3 * min 2 (last + 1 - first) }

@@ -12,7 +12,7 @@ pub fn weeks_of(term: Day, first: Day, last: Day) -> Option<u64>
     ensures found { IsSome result ↔ AreDaysOfTerm term first last }
     ensures weeks { IfSome result (λ weeks. (week : ℕ) → IsTrue (has_bit weeks week) ↔ MeetsWeek term first last week) }
     ensures some { IfSome result (λ weeks. 0 < weeks) }
-    ensures sixty { IfSome result (λ weeks. weeks < 2 ^ 60) }
+    ensures bound { IfSome result (λ weeks. weeks < 2 ^ 60) }
 {
     if first.get() < term.get() || last.get() < first.get() {
         return None;
@@ -36,7 +36,7 @@ fn days_between(from: Day, to: Day) -> u32
 /// The set of the weeks from the first to the last, from 0.
 pub(crate) fn week_range(first: u32, last: u32) -> u64
     requires order { first ≤ last }
-    requires sixty { last < 60 }
+    requires bound { last < 60 }
     ensures { result ≡ week_range first last }
 {
     (1 << (last + 1)) - (1 << first)

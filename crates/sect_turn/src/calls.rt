@@ -62,7 +62,7 @@ impl<V: Chronicle> Turn<V> {
     /// Ends the turn. With the whole share no other pass has a call of its own or the value.
     pub fn close(self, pass: Pass<V>) -> Result<V, Memory>
         requires turn { IsPassOf V.notes V.base self pass }
-        requires idle { IsIdle pass }
+        requires between_turns { IsIdle pass }
         requires whole { share pass ≡ whole_share }
         ensures front { IfOk result (λ value. IsPrefix (front pass) (V.notes value)) }
         ensures base { IfOk result (λ value. V.base value ≡ (opening pass).1) }
@@ -79,7 +79,7 @@ impl<V: Chronicle> Turn<V> {
     /// Waits for the turn. The pass has then seen the value's notes.
     pub fn take<R: Wait>(&self, rt: &R, pass: &mut Pass<V>) -> V
         requires turn { IsPassOf V.notes V.base self.now pass.old }
-        requires idle { IsIdle pass.old }
+        requires between_turns { IsIdle pass.old }
         ensures turn { IsPassOf V.notes V.base self.now pass.new × HoldsTurn pass.new }
         ensures front { front pass.new ≡ V.notes result }
         ensures grown { IsPrefix (front pass.old) (V.notes result) }
@@ -108,7 +108,7 @@ impl<V: Chronicle> Turn<V> {
     /// A pass that has seen the same, for another thread.
     pub fn another(&self, pass: &mut Pass<V>) -> Pass<V>
         requires turn { IsPassOf V.notes V.base self.now pass.old }
-        requires idle { IsIdle pass.old }
+        requires between_turns { IsIdle pass.old }
         requires share { 1 < share pass.old }
         ensures turn { IsPassOf V.notes V.base self.now pass.new × IsIdle pass.new }
         ensures old { (front pass.new ≡ front pass.old) × (own_calls pass.new ≡ own_calls pass.old)
@@ -123,7 +123,7 @@ impl<V: Chronicle> Turn<V> {
     /// A pass that has seen the same, for another thread. Where memory runs out, the pass is as before.
     pub fn split(&self, pass: &mut Pass<V>) -> Result<Pass<V>, Memory>
         requires turn { IsPassOf V.notes V.base self.now pass.old }
-        requires idle { IsIdle pass.old }
+        requires between_turns { IsIdle pass.old }
         requires share { 1 < share pass.old }
         ensures turn { IsPassOf V.notes V.base self.now pass.new × IsIdle pass.new }
         ensures old { (front pass.new ≡ front pass.old) × (own_calls pass.new ≡ own_calls pass.old) × (opening pass.new ≡ opening pass.old) }
@@ -138,7 +138,7 @@ impl<V: Chronicle> Turn<V> {
     /// Takes a pass in. The longer front begins with the other.
     pub fn join(&self, pass: &mut Pass<V>, other: Pass<V>)
         requires turn { IsPassOf V.notes V.base self.now pass.old }
-        requires idle { IsIdle pass.old }
+        requires between_turns { IsIdle pass.old }
         requires other_turn { IsPassOf V.notes V.base self.now other }
         requires other_idle { IsIdle other }
         ensures turn { IsPassOf V.notes V.base self.now pass.new × IsIdle pass.new }

@@ -5,7 +5,7 @@ use Rattle.std.specs.Option.{option_or, option_map, option_map_or, is_none, opti
 use Rattle.std.specs.Bool.{then_some}
 use Rattle.std.proofs.Common.{◌≤◌, length, get_or, sym, ◌∙◌, ap, arith, append_assoc}
 use Rattle.std.proofs.lemmas.Bool.Decides.{nat_tests}
-use Rattle.sect_base.specs.Told.{told}
+use Rattle.sect_base.specs.Capped.{capped}
 use Rattle.sect_base.specs.declared.ids.CourseId.{CourseId}
 use Rattle.sect_base.specs.declared.ids.StudentId.{StudentId}
 use Rattle.sect_people.specs.declared.row.Ask.{Ask}
@@ -29,9 +29,9 @@ passed-few : (asks : List Ask) (known : List CourseId) → is_none (fault_of ask
 passed-few asks known h =
     by_test (nat_lt 20 (length asks)) refl
     (third (option_map (λ c. UnknownCourse c.0) (find (is_unknown known) (courses_of_all asks))) (option_map Twice (repeated_after [] (courses_of_all asks)))
-    (option_map (λ n. TooMany (told n)) (option_or (then_some (nat_lt 20 (length asks)) (length asks)) (first_bad_length asks))) h)
+    (option_map (λ n. TooMany (capped n)) (option_or (then_some (nat_lt 20 (length asks)) (length asks)) (first_bad_length asks))) h)
   where
-    by_test : (b : Bool) → nat_lt 20 (length asks) ≡ b → is_none (option_map (λ n. TooMany (told n)) (option_or (then_some b (length asks)) (first_bad_length asks))) ≡ true → length asks ≤ 20
+    by_test : (b : Bool) → nat_lt 20 (length asks) ≡ b → is_none (option_map (λ n. TooMany (capped n)) (option_or (then_some b (length asks)) (first_bad_length asks))) ≡ true → length asks ≤ 20
     by_test true t h = absurd (not_both false h refl)
     by_test false t h = grind (arith, nat_tests, t)
 

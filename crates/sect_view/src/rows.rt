@@ -28,7 +28,7 @@ pub fn rows(alloc: Global, world: &World, table: Table) -> Result<View, Memory>
 fn offerings(alloc: Global, world: &World) -> Result<Items<OfferingRow>, Memory>
     ensures { IfOk result (λ rows. rows ≡ sorted_by (λ o. o.id.0) world.now.world.catalogue.rows) }
 {
-    world.is_kept();
+    world.recall_kept();
     let ids = offering_ids(alloc, world.catalogue().rows())?;
     offerings_of(alloc, world, ids.as_slice())
 }
@@ -65,7 +65,7 @@ fn offerings_of(
 fn students(alloc: Global, world: &World) -> Result<Items<StudentRow>, Memory>
     ensures { IfOk result (λ rows. rows ≡ map (λ s. s.row) (students_by_id world.now.world)) }
 {
-    world.is_kept();
+    world.recall_kept();
     students_of(alloc, world, world.people().ids())
 }
 
@@ -85,7 +85,7 @@ fn students_of(alloc: Global, world: &World, ids: &[StudentId]) -> Result<Items<
 fn requests(alloc: Global, world: &World) -> Result<Items<AsksView>, Memory>
     ensures { IfOk result (λ rows. rows ≡ map (λ s. record { student = s.row.id; asks = s.asks }) (students_by_id world.now.world)) }
 {
-    world.is_kept();
+    world.recall_kept();
     requests_of(alloc, world, world.people().ids())
 }
 
@@ -118,7 +118,7 @@ fn asks_view(alloc: Global, student: StudentId, asks: &[Ask]) -> Result<AsksView
 fn reservations(alloc: Global, world: &World) -> Result<Items<Reservation>, Memory>
     ensures { IfOk result (λ rows. rows ≡ sorted_by (λ r. r.id.0) world.now.world.reservations) }
 {
-    world.is_kept();
+    world.recall_kept();
     let ids = reservation_ids(alloc, world.all_reservations())?;
     reservations_of(alloc, world, ids.as_slice())
 }

@@ -18,7 +18,7 @@ use std::alloc::Global;
 pub fn unmet(alloc: Global, world: &World) -> Result<View, Memory>
     ensures { IfOk result (λ view. view ≡ View.Unmet (flat_map (unmet_views world.now.world) (students_by_id world.now.world))) }
 {
-    world.is_kept();
+    world.recall_kept();
     Ok(View::Unmet(unmet_of(alloc, world, world.people().ids())?))
 }
 
@@ -46,7 +46,7 @@ fn add_unmet(
 ) -> Result<(), Memory>
     ensures { OnOk result (views.new.items ≡ views.old.items ++ unmet_among world.now.world student (asks_of world.now.world student)) }
 {
-    world.is_kept();
+    world.recall_kept();
     match world.people().asks(student) {
         Some(asks) => add_asks(alloc, world, student, asks, views),
         None => Ok(()),

@@ -52,7 +52,7 @@ pub fn placement<L: Ledger>(
     ensures again { OnOk result (AddsOnly entry.now.ticket left.old.again.items left.new.again.items) }
     ensures steps { steps.new ≤ steps.old + 1 }
 {
-    world.is_kept();
+    world.recall_kept();
     let mv = move_of(alloc, world, entry)?;
     match search(alloc, world, &mv, usual_budget(), steps)? {
         Outcome::Found(choices, _) => {

@@ -44,7 +44,7 @@ pub fn leave_course(
     ensures since { Since world.old.world undo.old.backs world.new.world undo.new.backs }
     ensures undoable { Undoable world.new undo.new.backs }
 {
-    world.is_kept();
+    world.recall_kept();
     if is_wanted(queue, offering_of(world, course)) {
         leave_noted(alloc, world, queue, student, course, marks, undo)
     } else {
@@ -91,7 +91,7 @@ fn leave_noted(
     ensures since { Since world.old.world undo.old.backs world.new.world undo.new.backs }
     ensures undoable { Undoable world.new undo.new.backs }
 {
-    world.is_kept();
+    world.recall_kept();
     let opened = noted(alloc, world, student, course)?;
     mark_student(queue, Some(student), marks)?;
     mark_noted(queue, offering_of(world, course), marks)?;
@@ -109,7 +109,7 @@ fn noted(
     requires { IsTrue (is_held world.now.world student course) }
     ensures { IfOk result (λ opened. NotesAll world.now.world student course opened) }
 {
-    world.is_kept();
+    world.recall_kept();
     match held(world.enrolments(student), course) {
         Some(enrolment) => note(alloc, world, &enrolment.choice),
         None => Ok(Opened::none(alloc)),

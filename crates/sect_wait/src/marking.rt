@@ -35,7 +35,7 @@ pub fn mark_enrolment(
     ensures only { OnOk result (MarksOnly (is_concerned_in world.now.world enrolment.now.student enrolment.now.choice.course)
         queue.now.queue.entries marks.old marks.new) }
 {
-    world.is_kept();
+    world.recall_kept();
     let row = freed(world, &enrolment.choice);
     mark(queue, Some(enrolment.student), row, marks)?;
     mark_noted(queue, offering_of(world, enrolment.choice.course), marks)
@@ -53,7 +53,7 @@ pub fn mark_leaving(
     ensures more { OnOk result (MarksMore (λ e. may_open world.now.world e (Leave student course)) queue.now.queue.entries marks.old marks.new) }
     ensures only { OnOk result (MarksOnly (is_concerned_in world.now.world student course) queue.now.queue.entries marks.old marks.new) }
 {
-    world.is_kept();
+    world.recall_kept();
     let row = offering_of(world, course);
     mark(queue, Some(student), row, marks)
 }
@@ -154,7 +154,7 @@ fn mark_if_own(
 fn is_own(queue: &Queue, student: StudentId, ticket: u64) -> bool
     ensures { (e : Entry) → Among queue.now.queue.entries e → e.ticket ≡ ticket → result ≡ (student.0 == e.student.0) }
 {
-    queue.is_kept();
+    queue.recall_kept();
     match queue.entry(ticket) {
         Some(entry) => is_of(entry, student),
         None => false,
@@ -220,7 +220,7 @@ fn mark_noted_in(queue: &Queue, row: &OfferingRow, marks: &mut Marks) -> Result<
 fn is_wanting(queue: &Queue, ticket: u64, row: &OfferingRow) -> bool
     ensures { (e : Entry) → Among queue.now.queue.entries e → e.ticket ≡ ticket → result ≡ list_any (has_course_in row.now) e.want.courses }
 {
-    queue.is_kept();
+    queue.recall_kept();
     match queue.entry(ticket) {
         Some(entry) => wants(entry, row),
         None => false,

@@ -51,7 +51,7 @@ pub fn next<L: Ledger>(
     ensures only { OnOk result (SeeksOnly (λ e. false) queue.now.queue.entries marks.old opened.now.courses.items marks.new opened.now.courses.items) }
     ensures steps { OnOk result (steps.new ≤ steps.old + count_sought marks.old opened.now queue.now.queue.entries) }
 {
-    queue.is_kept();
+    queue.recall_kept();
     let mut left = Left::none(alloc);
     let best = first(alloc, world, queue, marks, opened, &mut left, steps)?;
     pass(alloc, &best, marks);
@@ -122,7 +122,7 @@ fn best_of_sought<L: Ledger>(
     ensures again { OnOk result (ListsSought marks.now opened.now queue.now.queue.entries left.old.again.items left.new.again.items) }
     ensures steps { OnOk result (steps.new ≤ steps.old + count_sought marks.now opened.now queue.now.queue.entries) }
 {
-    queue.is_kept();
+    queue.recall_kept();
     let mut best = None;
     let mut tried = BTreeSet::new(alloc);
     for ticket in tickets {
@@ -157,7 +157,7 @@ fn better_by<L: Ledger>(
     ensures steps { OnOk result (steps.new + count_tried marks.now opened.now queue.now.queue.entries tried.old
         ≤ steps.old + count_tried marks.now opened.now queue.now.queue.entries tried.new) }
 {
-    queue.is_kept();
+    queue.recall_kept();
     match queue.entry(ticket) {
         Some(entry) => {
             if is_behind(best, entry) {
@@ -196,7 +196,7 @@ fn better_once<L: Ledger>(
     ensures steps { OnOk result (steps.new + count_tried marks.now opened.now queue.now.queue.entries tried.old
         ≤ steps.old + count_tried marks.now opened.now queue.now.queue.entries tried.new) }
 {
-    queue.is_kept();
+    queue.recall_kept();
     if tried.contains(&ticket) {
         return Ok(None);
     }

@@ -84,7 +84,7 @@ pub(crate) fn shut(
     if !is_closed_again(world, opened) {
         return Ok(());
     }
-    world.is_kept();
+    world.recall_kept();
     mark_givers_among(queue.entries(), opened.courses.as_slice(), marks)?;
     opened.courses.clear();
     Ok(())

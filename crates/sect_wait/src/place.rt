@@ -10,7 +10,7 @@ ghost use Rattle.sect_model.specs.Fits.{Fits, changed};
 ghost use Rattle.sect_model.specs.Kept.{entry_fits};
 ghost use Rattle.sect_space.specs.Undo.{Since, Undoable};
 ghost use Rattle.sect_wait.specs.Opened.{OthersBut};
-ghost use Rattle.sect_wait.specs.Queued.{left as queue_without};
+ghost use Rattle.sect_wait.specs.Queued.{queue_undo as queue_without};
 ghost use Rattle.sect_wait.specs.Undo.{Since as QueueSince, Undoable as QueueUndoable};
 ghost use Rattle.sect_wait.specs.Placing.{given_up, moved, enrolment_of};
 ghost use Rattle.sect_wait.specs.Touched.{SeeksOnly, candidate_concerns, is_concerned};
@@ -33,25 +33,25 @@ pub fn place(
     marks: &mut Marks,
     opened: &mut Opened,
     undo: &mut Undo,
-    left: &mut QueueUndo,
+    queue_undo: &mut QueueUndo,
 ) -> Result<(), Memory>
     requires fits { Fits (given_up world.old.world candidate.now) (Change.Enrol (enrolment_of candidate.now)) }
     requires fit { IsTrue (list_all (entry_fits world.old.world) queue.old.queue.entries) }
     requires others { OthersBut world.old.world queue.old.queue.entries marks.old opened.old }
     requires undoable { Undoable world.old undo.old.backs }
-    requires queue_undoable { QueueUndoable queue.old left.old }
+    requires queue_undoable { QueueUndoable queue.old queue_undo.old }
     ensures world { OnOk result (world.new.world ≡ moved world.old.world candidate.now) }
     ensures queue { OnOk result (queue.new.queue ≡ queue_without queue.old.queue candidate.now.ticket) }
     ensures others { OnOk result (OthersBut world.new.world queue.new.queue.entries marks.new opened.new) }
     ensures only { OnOk result (SeeksOnly (candidate_concerns world.old.world candidate.now) queue.old.queue.entries
         marks.old opened.old.courses.items marks.new opened.new.courses.items) }
     ensures since { Since world.old.world undo.old.backs world.new.world undo.new.backs }
-    ensures queue_since { QueueSince queue.old.queue left.old queue.new.queue left.new }
+    ensures queue_since { QueueSince queue.old.queue queue_undo.old queue.new.queue queue_undo.new }
     ensures undoable { Undoable world.new undo.new.backs }
-    ensures queue_undoable { QueueUndoable queue.new left.new }
+    ensures queue_undoable { QueueUndoable queue.new queue_undo.new }
 {
     place_in_world(world, queue, candidate, marks, opened, undo)?;
-    let _ = queue.leave(candidate.ticket, left)?;
+    let _ = queue.leave(candidate.ticket, queue_undo)?;
     Ok(())
 }
 
@@ -128,7 +128,7 @@ fn leave(
     ensures undoable { Undoable world.new undo.new.backs }
 {
     if world.holds(student, course) {
-        world.is_kept();
+        world.recall_kept();
         fall_back(opened, marks)?;
         mark_leaving(world, queue, student, course, marks)?;
         make(world, Change::Leave(student, course), undo)
@@ -161,7 +161,7 @@ fn enrol(
         student: candidate.student,
         choice: candidate.choice,
     };
-    world.is_kept();
+    world.recall_kept();
     fall_back_where_freed(world, &enrolment.choice, opened, marks)?;
     mark_enrolment(world, queue, &enrolment, marks)?;
     make(world, Change::Enrol(enrolment), undo)

@@ -72,9 +72,9 @@ impl Queue {
     }
 
     /// Does nothing: the contract tells what holds of every queue.
-    pub fn is_kept(&self)
+    pub fn recall_kept(&self)
         ensures kept { IsQueue self.now.queue }
-        ensures few { length self.now.queue.entries ≤ self.now.room }
+        ensures bound { length self.now.queue.entries ≤ self.now.room }
     {
         let _ = self.entries.as_slice();
     }
@@ -133,7 +133,7 @@ impl Queue {
         ensures since { Since self.old.queue undo.old self.new.queue undo.new }
         ensures undoable { Undoable self.old undo.old → Undoable self.new undo.new }
     {
-        self.is_kept();
+        self.recall_kept();
         match self.place(ticket) {
             Some(place) => {
                 self.take(place, ticket, undo)?;

@@ -35,13 +35,13 @@ pub fn settle<L: Ledger>(
     queue: &mut Queue,
     marks: &mut Marks,
     undo: &mut Undo,
-    left: &mut QueueUndo,
+    queue_undo: &mut QueueUndo,
     steps: &mut Steps<L>,
 ) -> Result<Items<Placed>, Memory>
     requires fit { IsTrue (list_all (entry_fits world.old.world) queue.old.queue.entries) }
     requires others { OthersNeedNoSearch world.old.world queue.old.queue.entries marks.old }
     requires undoable { Undoable world.old undo.old.backs }
-    requires queue_undoable { QueueUndoable queue.old left.old }
+    requires queue_undoable { QueueUndoable queue.old queue_undo.old }
     ensures settled { IfOk result (λ placed. settled (state_of world.old.world queue.old.queue)
         ≡ record { state = state_of world.new.world queue.new.queue; placed = placed }) }
     ensures nobody_left { OnOk result (IsTrue (is_settled (state_of world.new.world queue.new.queue))) }
@@ -52,14 +52,23 @@ pub fn settle<L: Ledger>(
     ensures err { OnErr result (world.new.world ≡ world.old.world) }
     ensures queue_err { OnErr result (queue.new.queue ≡ queue.old.queue) }
     ensures not_recorded { OnErr result (undo.new.backs ≡ undo.old.backs) }
-    ensures queue_not_recorded { OnErr result (left.new ≡ left.old) }
+    ensures queue_not_recorded { OnErr result (queue_undo.new ≡ queue_undo.old) }
     ensures since { Since world.old.world undo.old.backs world.new.world undo.new.backs }
-    ensures queue_since { QueueSince queue.old.queue left.old queue.new.queue left.new }
+    ensures queue_since { QueueSince queue.old.queue queue_undo.old queue.new.queue queue_undo.new }
     ensures undoable { Undoable world.new undo.new.backs }
-    ensures queue_undoable { QueueUndoable queue.new left.new }
+    ensures queue_undoable { QueueUndoable queue.new queue_undo.new }
 {
     let mut opened = Opened::none(alloc);
-    settle_opened(alloc, world, queue, marks, &mut opened, undo, left, steps)
+    settle_opened(
+        alloc,
+        world,
+        queue,
+        marks,
+        &mut opened,
+        undo,
+        queue_undo,
+        steps,
+    )
 }
 
 /// The same after a leaving, which told what it opened: once that is closed again, those who want it and give nothing up have no
@@ -72,13 +81,13 @@ pub fn settle_opened<L: Ledger>(
     marks: &mut Marks,
     opened: &mut Opened,
     undo: &mut Undo,
-    left: &mut QueueUndo,
+    queue_undo: &mut QueueUndo,
     steps: &mut Steps<L>,
 ) -> Result<Items<Placed>, Memory>
     requires fit { IsTrue (list_all (entry_fits world.old.world) queue.old.queue.entries) }
     requires others { OthersBut world.old.world queue.old.queue.entries marks.old opened.old }
     requires undoable { Undoable world.old undo.old.backs }
-    requires queue_undoable { QueueUndoable queue.old left.old }
+    requires queue_undoable { QueueUndoable queue.old queue_undo.old }
     ensures settled { IfOk result (λ placed. settled (state_of world.old.world queue.old.queue)
         ≡ record { state = state_of world.new.world queue.new.queue; placed = placed }) }
     ensures nobody_left { OnOk result (IsTrue (is_settled (state_of world.new.world queue.new.queue))) }
@@ -89,22 +98,22 @@ pub fn settle_opened<L: Ledger>(
     ensures err { OnErr result (world.new.world ≡ world.old.world) }
     ensures queue_err { OnErr result (queue.new.queue ≡ queue.old.queue) }
     ensures not_recorded { OnErr result (undo.new.backs ≡ undo.old.backs) }
-    ensures queue_not_recorded { OnErr result (left.new ≡ left.old) }
+    ensures queue_not_recorded { OnErr result (queue_undo.new ≡ queue_undo.old) }
     ensures since { Since world.old.world undo.old.backs world.new.world undo.new.backs }
-    ensures queue_since { QueueSince queue.old.queue left.old queue.new.queue left.new }
+    ensures queue_since { QueueSince queue.old.queue queue_undo.old queue.new.queue queue_undo.new }
     ensures undoable { Undoable world.new undo.new.backs }
-    ensures queue_undoable { QueueUndoable queue.new left.new }
+    ensures queue_undoable { QueueUndoable queue.new queue_undo.new }
 {
     if is_idle(marks, opened) {
         return Ok(Items::from_vec(Vec::new(alloc)));
     }
-    world.is_kept();
+    world.recall_kept();
     let made = undo.len();
-    let gone = left.len();
-    let placed = place_all(alloc, world, queue, marks, opened, undo, left, steps);
+    let gone = queue_undo.len();
+    let placed = place_all(alloc, world, queue, marks, opened, undo, queue_undo, steps);
     if placed.is_err() {
         world.undo_to(undo, made);
-        queue.undo_to(left, gone);
+        queue.undo_to(queue_undo, gone);
         marks.mark_all();
     }
     placed
@@ -127,31 +136,31 @@ fn place_all<L: Ledger>(
     marks: &mut Marks,
     opened: &mut Opened,
     undo: &mut Undo,
-    left: &mut QueueUndo,
+    queue_undo: &mut QueueUndo,
     steps: &mut Steps<L>,
 ) -> Result<Items<Placed>, Memory>
     requires fit { IsTrue (list_all (entry_fits world.old.world) queue.old.queue.entries) }
     requires others { OthersBut world.old.world queue.old.queue.entries marks.old opened.old }
     requires undoable { Undoable world.old undo.old.backs }
-    requires queue_undoable { QueueUndoable queue.old left.old }
+    requires queue_undoable { QueueUndoable queue.old queue_undo.old }
     ensures settled { IfOk result (λ placed. settled (state_of world.old.world queue.old.queue)
         ≡ record { state = state_of world.new.world queue.new.queue; placed = placed }) }
     ensures others { OnOk result (OthersNeedNoSearch world.new.world queue.new.queue.entries marks.new) }
     ensures steps { IfOk result (λ placed. steps.new ≤ steps.old + (length placed + 1)
         * count_touched world.old.world queue.old.queue.entries marks.old opened.old.courses.items placed) }
     ensures since { Since world.old.world undo.old.backs world.new.world undo.new.backs }
-    ensures queue_since { QueueSince queue.old.queue left.old queue.new.queue left.new }
+    ensures queue_since { QueueSince queue.old.queue queue_undo.old queue.new.queue queue_undo.new }
     ensures undoable { Undoable world.new undo.new.backs }
-    ensures queue_undoable { QueueUndoable queue.new left.new }
+    ensures queue_undoable { QueueUndoable queue.new queue_undo.new }
 {
-    world.is_kept();
-    queue.is_kept();
+    world.recall_kept();
+    queue.recall_kept();
     let mut placed = Vec::new(alloc);
     'rounds: loop {
         shut(world, queue, opened, marks)?;
         match next(alloc, world, queue, marks, opened, steps)? {
             Some(candidate) => {
-                place(world, queue, &candidate, marks, opened, undo, left)?;
+                place(world, queue, &candidate, marks, opened, undo, queue_undo)?;
                 placed.push(placed_of(&candidate))?;
             }
             None => return Ok(Items::from_vec(placed)),

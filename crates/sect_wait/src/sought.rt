@@ -28,7 +28,7 @@ pub fn sought(
     opened: &Opened,
 ) -> Result<Option<Vec<u64>>, Memory>
     ensures all { IfOk result (λ found. IfSome found (λ tickets. AreListed (is_sought marks.now opened.now) queue.now.queue.entries tickets.items)) }
-    ensures few { IfOk result (λ found. IfSome found (λ tickets. length tickets.items ≤ length queue.now.queue.entries)) }
+    ensures bound { IfOk result (λ found. IfSome found (λ tickets. length tickets.items ≤ length queue.now.queue.entries)) }
 {
     let most = queue.entries().len() / 8;
     let mut tickets = Vec::new(alloc);
@@ -47,9 +47,9 @@ fn list_courses(
     most: usize,
     tickets: &mut Vec<u64>,
 ) -> Result<bool, Memory>
-    requires few { length tickets.old.items ≤ most }
+    requires bound { length tickets.old.items ≤ most }
     ensures more { IfOk result (λ whole. IsTrue whole → ListsMore (is_wanting courses.now) queue.now.queue.entries tickets.old.items tickets.new.items) }
-    ensures few { IfOk result (λ whole. length tickets.new.items ≤ most) }
+    ensures bound { IfOk result (λ whole. length tickets.new.items ≤ most) }
 {
     for course in courses {
         let Some(found) = queue.of_course(*course) else {
@@ -64,9 +64,9 @@ fn list_courses(
 
 /// Puts these tickets behind those that are listed. False where they would be more than the most: then nothing is listed.
 fn list(more: &[u64], most: usize, tickets: &mut Vec<u64>) -> Result<bool, Memory>
-    requires few { length tickets.old.items ≤ most }
+    requires bound { length tickets.old.items ≤ most }
     ensures more { IfOk result (λ whole. IsTrue whole → tickets.new.items ≡ tickets.old.items ++ more.now) }
-    ensures few { IfOk result (λ whole. length tickets.new.items ≤ most) }
+    ensures bound { IfOk result (λ whole. length tickets.new.items ≤ most) }
 {
     if most - tickets.len() < more.len() {
         return Ok(false);

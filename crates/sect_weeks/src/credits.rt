@@ -11,7 +11,7 @@ use sect_model::Enrolment;
 pub fn credits_in(catalogue: &Catalogue, held: &[Enrolment]) -> usize
     requires { length held.now ≤ 1000000000 }
     ensures value { result ≡ all_credits catalogue.now.rows held.now }
-    ensures few { result ≤ 255 * length held.now }
+    ensures bound { result ≤ 255 * length held.now }
 {
     let mut total = 0;
     for enrolment in held {

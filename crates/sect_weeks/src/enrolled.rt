@@ -17,7 +17,7 @@ impl Weeks {
     /// Takes the slots of an enrolment that was made, and counts its credits. Its student has a calendar. It takes no memory.
     pub fn enrolled(&mut self, catalogue: &Catalogue, enrolment: &Enrolment)
         requires row { has_row self.old enrolment.now.student.0 ≡ true }
-        requires few { credits_at self.old enrolment.now.student.0 ≤ 255 * 1000000000 }
+        requires bound { credits_at self.old enrolment.now.student.0 ≤ 255 * 1000000000 }
         ensures { TakesMore self.old self.new catalogue.now.rows enrolment.now }
     {
         let mut calendar = self.copied(enrolment.student);
@@ -32,7 +32,7 @@ impl Weeks {
     /// credits. The student has a calendar. It takes no memory.
     pub fn left(&mut self, catalogue: &Catalogue, student: StudentId, held: &[Enrolment])
         requires row { has_row self.old student.0 ≡ true }
-        requires few { length held.now ≤ 1000000000 }
+        requires bound { length held.now ≤ 1000000000 }
         ensures { TakesAnew self.old self.new catalogue.now.rows student.0 held.now }
     {
         let calendar = calendar_of(catalogue, held);

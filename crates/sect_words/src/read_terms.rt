@@ -90,7 +90,7 @@ fn read_dated_parts(alloc: Global, term: Day, parts: &mut Parts) -> Result<Meeti
 fn read_dates(alloc: Global, term: Day, word: &[u8]) -> Result<u64, Fault>
     ensures weeks { Means result (dates_of term word.now) }
     ensures some { IfOk result (λ weeks. 0 < weeks) }
-    ensures sixty { IfOk result (λ weeks. weeks < 2 ^ 60) }
+    ensures bound { IfOk result (λ weeks. weeks < 2 ^ 60) }
 {
     let mut parts = Parts::new(word, b'.');
     let (first, last) = read_days(alloc, &mut parts)?;
@@ -127,7 +127,7 @@ fn first_week(alloc: Global, days: &[u8], time: &[u8]) -> Result<Vec<u8>, Memory
 fn term_weeks(term: Day, first: Day, last: Day) -> Option<u64>
     ensures value { result ≡ weeks_between term first last }
     ensures some { IfSome result (λ weeks. 0 < weeks) }
-    ensures sixty { IfSome result (λ weeks. weeks < 2 ^ 60) }
+    ensures bound { IfSome result (λ weeks. weeks < 2 ^ 60) }
 {
     weeks_of(term, first, last)
 }
@@ -135,7 +135,7 @@ fn term_weeks(term: Day, first: Day, last: Day) -> Option<u64>
 /// The meeting in other weeks.
 fn in_weeks(meeting: &Meeting, weeks: u64) -> Meeting
     requires some { 0 < weeks }
-    requires sixty { weeks < 2 ^ 60 }
+    requires bound { weeks < 2 ^ 60 }
     ensures { result ≡ record { days = meeting.now.days; start = meeting.now.start; slots = meeting.now.slots; weeks = weeks } }
 {
     match Meeting::new(meeting.days(), meeting.start(), meeting.slots(), weeks) {

@@ -42,7 +42,7 @@ fn serve<R: Wait>(
     sent: Sent,
 ) -> Option<Told>
     requires turn { IsPassOf (λ d. d.log) (λ d. d.base) office.now.turn pass.old }
-    requires idle { IsIdle pass.old }
+    requires between_turns { IsIdle pass.old }
     ensures { IsPassOf (λ d. d.log) (λ d. d.base) office.now.turn pass.new × IsIdle pass.new }
 {
     let piece = sent.piece.max(1);

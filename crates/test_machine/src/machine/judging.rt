@@ -91,7 +91,7 @@ fn checked(
     requires { (step_of (state_in machine.old) day caller command.now).reply ≡ reply.now }
     ensures { state_in machine.new ≡ state_in machine.old }
 {
-    machine.is_kept();
+    machine.recall_kept();
     blocked_commands_are_taken();
     match reply {
         Reply::Blocked(_, _) => Ok(Some(machine.recheck(day, command, tree)?)),

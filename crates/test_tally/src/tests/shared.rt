@@ -66,7 +66,7 @@ fn tell<K: Keeper, G: Gate, R: Wait>(
     count: u64,
 ) -> Vec<u32>
     requires turn { IsPassOf (λ d. d.log) (λ d. d.base) office.now.turn pass.old }
-    requires idle { IsIdle pass.old }
+    requires between_turns { IsIdle pass.old }
     ensures turn { IsPassOf (λ d. d.log) (λ d. d.base) office.now.turn pass.new × IsIdle pass.new }
     ensures same { (share pass.new ≡ share pass.old) × (opening pass.new ≡ opening pass.old) }
     ensures grown { IsPrefix (front pass.old) (front pass.new) }
@@ -97,7 +97,7 @@ fn place_of<K: Keeper, R: Wait>(
 ) -> Option<u32>
     requires numbers { (caller_number id.caller < 2 ^ 32) × (id.number < 2 ^ 64) }
     requires turn { IsPassOf (λ d. d.log) (λ d. d.base) office.now.turn pass.old }
-    requires idle { IsIdle pass.old }
+    requires between_turns { IsIdle pass.old }
     ensures turn { IsPassOf (λ d. d.log) (λ d. d.base) office.now.turn pass.new × IsIdle pass.new }
     ensures same { (share pass.new ≡ share pass.old) × (opening pass.new ≡ opening pass.old) }
     ensures grown { IsPrefix (front pass.old) (front pass.new) }

@@ -6,7 +6,7 @@ use Rattle.sect_batch.proofs.BatchLemmas.{few-asks, on-ok, told-none, told-some}
 use Rattle.sect_batch.proofs.batching.ask_line.Goals as goal
 
 pub rank-requires : goal.rank-requires
-rank-requires g c = omega (arith, c.requires.place, few-asks c.args.world.now.world c.is_kept.ensures c.args.student)
+rank-requires g c = omega (arith, c.requires.place, few-asks c.args.world.now.world c.recall_kept.ensures c.args.student)
 
 pub returns-in-Some-clause-told : goal.returns-in-Some-clause-told
 returns-in-Some-clause-told g c =

@@ -8,17 +8,17 @@ use Rattle.sect_best.proofs.PlanLemmas.{few-asks, few-wants, plans-are, wants-fi
 use Rattle.sect_best.proofs.schedule.plan.Goals as goal
 
 pub wants_of-requires : goal.wants_of-requires
-wants_of-requires g c = omega (arith, ap length c.asks.ensures, few-asks c.args.world.now.world c.is_kept.ensures c.args.student)
+wants_of-requires g c = omega (arith, ap length c.asks.ensures, few-asks c.args.world.now.world c.recall_kept.ensures c.args.student)
 
 pub plan_wants-requires-clause-fit : goal.plan_wants-requires-clause-fit
 plan_wants-requires-clause-fit g c =
     let w = c.args.world.now.world in
-    subst (λ wants. list_all (want_fits w) wants ≡ true) (sym (c.in_ok-wants.ensures ∙ ap course_asks c.asks.ensures)) (wants-fit w c.is_kept.ensures c.args.student)
+    subst (λ wants. list_all (want_fits w) wants ≡ true) (sym (c.in_ok-wants.ensures ∙ ap course_asks c.asks.ensures)) (wants-fit w c.recall_kept.ensures c.args.student)
 
-pub plan_wants-requires-clause-few : goal.plan_wants-requires-clause-few
-plan_wants-requires-clause-few g c =
+pub plan_wants-requires-clause-bound : goal.plan_wants-requires-clause-bound
+plan_wants-requires-clause-bound g c =
     let w = c.args.world.now.world in
-    omega (arith, ap length (c.in_ok-wants.ensures ∙ ap course_asks c.asks.ensures), few-wants 1 (asks_of w c.args.student), few-asks w c.is_kept.ensures c.args.student)
+    omega (arith, ap length (c.in_ok-wants.ensures ∙ ap course_asks c.asks.ensures), few-wants 1 (asks_of w c.args.student), few-asks w c.recall_kept.ensures c.args.student)
 
 pub returns-clause-planned : goal.returns-clause-planned
 returns-clause-planned g c =

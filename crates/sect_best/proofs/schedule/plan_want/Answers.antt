@@ -14,5 +14,5 @@ search_in-requires-clause-stands g c =
 pub judged-requires-clause-outcome : goal.judged-requires-clause-outcome
 judged-requires-clause-outcome g c =
     told-deeper (9 * length c.in_ok-mv.mv.take) 180
-    (omega (arith, ap (λ mv. length mv.take) c.in_ok-mv.ensures, more-by-one c.args.planned.kept c.args.want, c.requires.few))
+    (omega (arith, ap (λ mv. length mv.take) c.in_ok-mv.ensures, more-by-one c.args.planned.kept c.args.want, c.requires.bound))
     c.in_ok-outcome.outcome c.in_ok-outcome.ensures.text

@@ -7,7 +7,7 @@ use Rattle.sect_machine.proofs.flipping.mark_flip.Goals as goal
 
 pub returns-then-flips : goal.returns-then-flips
 returns-then-flips c =
-    flip-marks c.args.world.now.world c.args.day c.args.row.now (option_copied c.offering.result) c.args.queue.now.queue.entries c.args.marks.now c.mark.new.marks c.mark.result c.is_kept.ensures
+    flip-marks c.args.world.now.world c.args.day c.args.row.now (option_copied c.offering.result) c.args.queue.now.queue.entries c.args.marks.now c.mark.new.marks c.mark.result c.recall_kept.ensures
     (c.offering.ensures ∙ ap (λ (x : Catalogue). find_offering x.rows c.args.row.now.offering) c.catalogue.ensures) c.mark.ensures.more
 
 pub returns-else-flips : goal.returns-else-flips

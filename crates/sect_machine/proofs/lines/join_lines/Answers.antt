@@ -11,7 +11,7 @@ use Rattle.sect_machine.proofs.lines.join_lines.Goals as goal
 
 pub returns-in_err-ticket-clause-since : goal.returns-in_err-ticket-clause-since
 returns-in_err-ticket-clause-since c =
-    since-joins c.args.queue.now.queue c.loop-place.queue.queue c.join_line.new.queue.queue c.args.left.now c.loop-place.left c.join_line.new.left c.loop-place.invariant.since c.join_line.ensures.since
+    since-joins c.args.queue.now.queue c.loop-place.queue.queue c.join_line.new.queue.queue c.args.queue_undo.now c.loop-place.queue_undo c.join_line.new.queue_undo c.loop-place.invariant.since c.join_line.ensures.since
 
 pub loop-place-preserved : goal.loop-place-preserved
 loop-place-preserved c =
@@ -22,7 +22,7 @@ loop-place-preserved c =
     let few : n < length lines = omega (arith, c.loop-place.invariant.length) in
     let read : c.index.result.now ≡ get_or lines n none = c.index.ensures in record {
       length = ap length (c.set_ticket.ensures none) ∙ length-set lines n (waiting_line (get_or lines n none) c.in_ok-ticket.ticket) ∙ c.loop-place.invariant.length;
-      since = since-joins c.args.queue.now.queue c.loop-place.queue.queue c.join_line.new.queue.queue c.args.left.now c.loop-place.left c.join_line.new.left c.loop-place.invariant.since c.join_line.ensures.since;
+      since = since-joins c.args.queue.now.queue c.loop-place.queue.queue c.join_line.new.queue.queue c.args.queue_undo.now c.loop-place.queue_undo c.join_line.new.queue_undo c.loop-place.invariant.since c.join_line.ensures.since;
       undoable = c.join_line.ensures.undoable;
       joining =
           joining-more w c.args.queue.now.queue c.args.lines.items n c.loop-place.queue.queue lines none c.in_ok-ticket.ticket c.join_line.new.queue.queue c.set_ticket.new.lines.items few

@@ -17,7 +17,7 @@ loop-section-preserved c =
     let none : SectionId = record { 0 = 0 } in
     let s : SectionId = get_or ss i none in
     let at : drop i ss ≡ s ∷ drop (i + 1) ss = drop_more ss i none c.loop-section-test.true in
-    places-more w c.is_kept.ensures.rows_pass c.args.offering ss c.loop-section.places.items c.add_place.new.places.items s (drop (i + 1) ss)
+    places-more w c.recall_kept.ensures.rows_pass c.args.offering ss c.loop-section.places.items c.add_place.new.places.items s (drop (i + 1) ss)
     (subst (PlacesOn w c.args.offering ss c.loop-section.places.items) at c.loop-section.invariant) c.in_ok-add_place.ensures
 
 pub returns : goal.returns

@@ -15,8 +15,8 @@ pub returns-in_err-reply-clause-tracked : goal.returns-in_err-reply-clause-track
 returns-in_err-reply-clause-tracked g c =
     let w = c.args.world.now in
     let q = c.args.queue.now in
-    let day : Tracked w c.args.undo.now.backs q c.args.left.now c.set_day.new.world c.set_day.new.undo.backs q c.args.left.now
-    = tracks-world w c.set_day.new.world c.args.undo.now.backs c.set_day.new.undo.backs q c.args.left.now c.set_day.ensures.since c.set_day.ensures.undoable c.requires.queue_undoable in
+    let day : Tracked w c.args.undo.now.backs q c.args.queue_undo.now c.set_day.new.world c.set_day.new.undo.backs q c.args.queue_undo.now
+    = tracks-world w c.set_day.new.world c.args.undo.now.backs c.set_day.new.undo.backs q c.args.queue_undo.now c.set_day.ensures.since c.set_day.ensures.undoable c.requires.queue_undoable in
     tracks-both day c.answer.ensures.tracked
 
 pub answer-requires-clause-kept : goal.answer-requires-clause-kept
@@ -59,6 +59,6 @@ pub returns-clause-tracked : goal.returns-clause-tracked
 returns-clause-tracked g c =
     let w = c.args.world.now in
     let q = c.args.queue.now in
-    let day : Tracked w c.args.undo.now.backs q c.args.left.now c.set_day.new.world c.set_day.new.undo.backs q c.args.left.now
-    = tracks-world w c.set_day.new.world c.args.undo.now.backs c.set_day.new.undo.backs q c.args.left.now c.set_day.ensures.since c.set_day.ensures.undoable c.requires.queue_undoable in
+    let day : Tracked w c.args.undo.now.backs q c.args.queue_undo.now c.set_day.new.world c.set_day.new.undo.backs q c.args.queue_undo.now
+    = tracks-world w c.set_day.new.world c.args.undo.now.backs c.set_day.new.undo.backs q c.args.queue_undo.now c.set_day.ensures.since c.set_day.ensures.undoable c.requires.queue_undoable in
     tracks-both (tracks-both day c.answer.ensures.tracked) c.place_all.ensures.tracked

@@ -4,7 +4,7 @@ use Rattle.sect_model.specs.Batch.{asks_of}
 use Rattle.sect_refuse.proofs.WaitLemmas.{asks-few}
 use Rattle.sect_refuse.proofs.requests.waits_of_one.Goals as goal
 
-pub returns-clause-few : goal.returns-clause-few
-returns-clause-few c =
+pub returns-clause-bound : goal.returns-clause-bound
+returns-clause-bound c =
     let same : length c.asks.result.now ≡ length (asks_of c.args.world.now.world c.args.student) = ap length c.asks.ensures in
-    omega (arith, same, asks-few c.args.world.now.world c.is_kept.ensures c.args.student)
+    omega (arith, same, asks-few c.args.world.now.world c.recall_kept.ensures c.args.student)

@@ -5,4 +5,4 @@ use Rattle.sect_rules.proofs.laws.a_complete_path_is_unbroken_exactly_where_its_
 pub returns : goal.returns
 returns c =
     paths_tell_moves c.args.world.now.world c.args.mv.now
-    (record { checked = c.is_kept.ensures.rows_pass; reservations_differ = c.is_kept.ensures.reservations_differ }) c.requires
+    (record { checked = c.recall_kept.ensures.rows_pass; reservations_differ = c.recall_kept.ensures.reservations_differ }) c.requires

@@ -5,4 +5,4 @@ use Rattle.sect_rules.proofs.laws.each_allowed_move_has_a_path.Goals as goal
 pub returns : goal.returns
 returns c =
     moves_have_paths c.args.world.now.world c.args.mv.now
-    (record { checked = c.is_kept.ensures.rows_pass; reservations_differ = c.is_kept.ensures.reservations_differ })
+    (record { checked = c.recall_kept.ensures.rows_pass; reservations_differ = c.recall_kept.ensures.reservations_differ })

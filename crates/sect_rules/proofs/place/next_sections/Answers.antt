@@ -11,5 +11,5 @@ pub returns-in-Some-clause-differ : goal.returns-in-Some-clause-differ
 returns-in-Some-clause-differ c =
     let w = c.args.world.now.world in
     ap (λ ss. all_differ (map (λ s. s.id.0) ss)) c.as_slice.ensures
-    ∙ subpart-sections w c.is_kept.ensures.rows_pass c.args.course c.args.config c.in-Some.row.now
+    ∙ subpart-sections w c.recall_kept.ensures.rows_pass c.args.course c.args.config c.in-Some.row.now
     (member-got (subparts_of w c.args.course c.args.config) (length c.args.sections.now) c.in-Some.row.now (sym c.in-Some.ensures))

@@ -8,4 +8,4 @@ use Rattle.sect_rules.proofs.place.reservations.Goals as goal
 pub returns-in-Some-clause-differ : goal.returns-in-Some-clause-differ
 returns-in-Some-clause-differ c =
     ap (λ rs. all_differ (map (λ r. r.id.0) rs)) c.reservations.ensures
-    ∙ differ-filter (λ r. r.id.0) (λ r. r.offering.0 == c.in-Some.row.now.id.0) c.args.world.now.world.reservations c.is_kept.ensures.reservations_differ
+    ∙ differ-filter (λ r. r.id.0) (λ r. r.offering.0 == c.in-Some.row.now.id.0) c.args.world.now.world.reservations c.recall_kept.ensures.reservations_differ

@@ -9,7 +9,7 @@ use Rattle.sect_serve.proofs.server.work.Goals as goal
 
 pub loop-count-init : goal.loop-count-init
 loop-count-init g c = record {
-  turn = (c.requires.turn, c.requires.idle);
+  turn = (c.requires.turn, c.requires.between_turns);
   same = (refl, refl);
   grown = ([], append-nil (front c.args.pass.now));
   underway = begun (Answers g.O.Object.start g.O.Object.stepped g.O.Object.is_row g.O.Object.looked) g.L.In.Source.left g.L.Out.Sink.taken g.L.In.Source.faults g.L.Out.Sink.faults

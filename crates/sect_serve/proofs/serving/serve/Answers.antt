@@ -15,7 +15,7 @@ returns-in_default-clause-serves g c =
     stays_unserved g.O.Object.start g.O.Object.stepped g.O.Object.is_row c.an_entry_has_one_row.ensures g.K.Keeper.rows g.K.Keeper.faults
     (Answers g.O.Object.start g.O.Object.stepped g.O.Object.is_row g.O.Object.looked) g.L.In.Source.left g.L.Out.Sink.taken g.L.In.Source.faults g.L.Out.Sink.faults g.L.Link.connections g.L.Link.faults
     c.args.desk c.args.desk c.close.result c.args.links.items (map g.C.Clock.days c.args.clocks.items) c.args.sessions
-    (answers_grow g.O.Object.start g.O.Object.stepped g.O.Object.is_row g.O.Object.looked) c.is_sound.ensures refl c.close.ensures (omega (arith, many, enough)) (omega (arith, some))
+    (answers_grow g.O.Object.start g.O.Object.stepped g.O.Object.is_row g.O.Object.looked) c.recall_sound.ensures refl c.close.ensures (omega (arith, many, enough)) (omega (arith, some))
 
 pub returns-in-Err-clause-serves : goal.returns-in-Err-clause-serves
 returns-in-Err-clause-serves g c =
@@ -25,7 +25,7 @@ returns-in-Err-clause-serves g c =
     stays_unserved g.O.Object.start g.O.Object.stepped g.O.Object.is_row c.an_entry_has_one_row.ensures g.K.Keeper.rows g.K.Keeper.faults
     (Answers g.O.Object.start g.O.Object.stepped g.O.Object.is_row g.O.Object.looked) g.L.In.Source.left g.L.Out.Sink.taken g.L.In.Source.faults g.L.Out.Sink.faults g.L.Link.connections g.L.Link.faults
     c.args.desk c.in-Err.desk c.close-in-Err.result c.args.links.items (map g.C.Clock.days c.args.clocks.items) c.args.sessions
-    (answers_grow g.O.Object.start g.O.Object.stepped g.O.Object.is_row g.O.Object.looked) c.is_sound.ensures c.in-Err.ensures.err c.close-in-Err.ensures (omega (arith, many, enough)) (omega (arith, some))
+    (answers_grow g.O.Object.start g.O.Object.stepped g.O.Object.is_row g.O.Object.looked) c.recall_sound.ensures c.in-Err.ensures.err c.close-in-Err.ensures (omega (arith, many, enough)) (omega (arith, some))
 
 pub returns-in-Ok-open-clause-serves : goal.returns-in-Ok-open-clause-serves
 returns-in-Ok-open-clause-serves g c =
@@ -37,4 +37,4 @@ returns-in-Ok-open-clause-serves g c =
     (subst (λ days. IfSome c.serve_at.result.1 (λ back. Serves g.O.Object.start g.O.Object.stepped g.O.Object.is_row g.K.Keeper.rows g.K.Keeper.faults
     (Answers g.O.Object.start g.O.Object.stepped g.O.Object.is_row g.O.Object.looked) g.L.In.Source.left g.L.Out.Sink.taken g.L.In.Source.faults g.L.Out.Sink.faults g.L.Link.connections g.L.Link.faults
     c.args.desk back (map (λ s. s.link) c.servers-works.result.items) c.serve_at.result.2.items days c.args.sessions c.serve_at.result.0)) made.days
-    (c.serve_at.ensures.serves c.args.desk c.is_sound.ensures begun.0 begun.3))
+    (c.serve_at.ensures.serves c.args.desk c.recall_sound.ensures begun.0 begun.3))

@@ -13,4 +13,4 @@ returns-in-Ok-clause-serves g c = λ opened was first_is place_is.
     (Answers g.O.Object.start g.O.Object.stepped g.O.Object.is_row g.O.Object.looked) g.L.In.Source.left g.L.Out.Sink.taken g.L.In.Source.faults g.L.Out.Sink.faults g.L.Link.connections g.L.Link.faults
     opened c.in-Ok.desk c.close-in-Ok.result (map (λ s. s.link) c.args.works.items) c.work_all-pass.result.2.items (map (λ s. g.C.Clock.days s.clock) c.args.works.items) c.args.sessions c.work_all-pass.result.1
     (front c.args.pass) (front now) (opening now) (own_calls now) was first_is (ran.same.1 ∙ place_is) ran.grown c.in-Ok.ensures.front (ran.served c.in-Ok.desk.log c.in-Ok.ensures.front)
-    c.in-Ok.ensures.calls c.in-Ok.ensures.base c.is_sound.ensures c.close-in-Ok.ensures
+    c.in-Ok.ensures.calls c.in-Ok.ensures.base c.recall_sound.ensures c.close-in-Ok.ensures

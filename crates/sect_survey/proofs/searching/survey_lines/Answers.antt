@@ -9,7 +9,7 @@ use Rattle.sect_survey.proofs.searching.survey_lines.Goals as goal
 pub lines_of-requires : goal.lines_of-requires
 lines_of-requires g c =
     let w = c.args.world.now.world in
-    (search rules, subst (All (λ u. MoveFits w (unmet_move u))) (sym (c.as_slice.ensures ∙ c.in_ok-views.ensures)) (moves-fit w c.is_kept.ensures))
+    (search rules, subst (All (λ u. MoveFits w (unmet_move u))) (sym (c.as_slice.ensures ∙ c.in_ok-views.ensures)) (moves-fit w c.recall_kept.ensures))
 
 pub returns : goal.returns
 unfolding survey_lines

@@ -6,7 +6,7 @@ use Rattle.sect_tell.proofs.audits.is_verified.Goals as goal
 pub recheck-requires-clause-searches : goal.recheck-requires-clause-searches
 recheck-requires-clause-searches c =
     searches c.blocked_is_refuted.ensures.step (state_in c.args.machine.now) c.args.entry.now c.in-Blocked.field-0 c.in-Blocked.tree
-    c.is_kept.ensures.kept c.in-Blocked.is c.requires.replied
+    c.recall_kept.ensures.kept c.in-Blocked.is c.requires.replied
 
 pub recheck-requires-clause-accepted : goal.recheck-requires-clause-accepted
 recheck-requires-clause-accepted c = (
@@ -18,4 +18,4 @@ recheck-requires-clause-accepted c = (
 pub returns-in-Blocked-clause-answer : goal.returns-in-Blocked-clause-answer
 returns-in-Blocked-clause-answer c =
     tested_ok c.blocked_is_refuted.ensures.step (state_in c.args.machine.now) c.args.entry.now c.in-Blocked.field-0 c.in-Blocked.tree c.recheck.result
-    c.is_kept.ensures.kept c.in-Blocked.is c.requires.replied c.recheck.ensures.answer
+    c.recall_kept.ensures.kept c.in-Blocked.is c.requires.replied c.recheck.ensures.answer

@@ -13,5 +13,5 @@ pub returns-clause-weeks : goal.returns-clause-weeks
 returns-clause-weeks c =
     scanned_all c.args.text.now c.loop-byte.byte-index c.loop-byte.scan c.weeks.result c.loop-byte-test.false c.loop-byte.invariant.0 c.weeks.ensures
 
-pub returns-clause-sixty : goal.returns-clause-sixty
-returns-clause-sixty c = rw c.weeks.ensures (weeks_of_scan-lt c.loop-byte.scan c.loop-byte.invariant.1)
+pub returns-clause-bound : goal.returns-clause-bound
+returns-clause-bound c = rw c.weeks.ensures (weeks_of_scan-lt c.loop-byte.scan c.loop-byte.invariant.1)

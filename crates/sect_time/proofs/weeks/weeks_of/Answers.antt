@@ -18,5 +18,5 @@ returns-clause-some c =
     let order : c.args.first ≤ c.args.last = omega (arith, ints) in
     rw c.week_range.ensures (week_range_some (c.days_between-from.result / 7) (c.days_between-to.result / 7) (omega (arith, c.days_between-from.ensures, c.days_between-to.ensures)))
 
-pub returns-clause-sixty : goal.returns-clause-sixty
-returns-clause-sixty c = rw c.week_range.ensures (week_range_sixty (c.days_between-from.result / 7) (c.days_between-to.result / 7) (omega arith))
+pub returns-clause-bound : goal.returns-clause-bound
+returns-clause-bound c = rw c.week_range.ensures (week_range_sixty (c.days_between-from.result / 7) (c.days_between-to.result / 7) (omega arith))

@@ -9,5 +9,5 @@ pub returns : goal.returns
 returns c =
     let w = c.args.world.now.world in
     subst (λ xs. IfOk c.offerings_of.result (λ rows. rows ≡ xs))
-    (ap (offering_rows w) (c.as_slice.ensures.value ∙ c.in_ok-ids.ensures ∙ ap (λ rows. map (λ o. o.id) (sorted_by (λ o. o.id.0) rows)) (c.rows.ensures ∙ ap (λ k. k.rows) c.catalogue.ensures)) ∙ offerings-by-id w c.is_kept.ensures)
+    (ap (offering_rows w) (c.as_slice.ensures.value ∙ c.in_ok-ids.ensures ∙ ap (λ rows. map (λ o. o.id) (sorted_by (λ o. o.id.0) rows)) (c.rows.ensures ∙ ap (λ k. k.rows) c.catalogue.ensures)) ∙ offerings-by-id w c.recall_kept.ensures)
     c.offerings_of.ensures

@@ -9,5 +9,5 @@ pub returns : goal.returns
 returns c =
     let w = c.args.world.now.world in
     subst (λ xs. IfOk c.requests_of.result (λ rows. rows ≡ xs))
-    (ap (request_rows w) (c.ids.ensures.value ∙ ap ids_of c.people.ensures) ∙ requests-by-id w c.is_kept.ensures)
+    (ap (request_rows w) (c.ids.ensures.value ∙ ap ids_of c.people.ensures) ∙ requests-by-id w c.recall_kept.ensures)
     c.requests_of.ensures

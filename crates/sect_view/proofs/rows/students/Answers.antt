@@ -9,5 +9,5 @@ pub returns : goal.returns
 returns c =
     let w = c.args.world.now.world in
     subst (λ xs. IfOk c.students_of.result (λ rows. rows ≡ xs))
-    (ap (student_rows w) (c.ids.ensures.value ∙ ap ids_of c.people.ensures) ∙ students-by-id w c.is_kept.ensures)
+    (ap (student_rows w) (c.ids.ensures.value ∙ ap ids_of c.people.ensures) ∙ students-by-id w c.recall_kept.ensures)
     c.students_of.ensures

@@ -9,4 +9,4 @@ pub add_asks-requires : goal.add_asks-requires
 add_asks-requires c =
     let w = c.args.world.now.world in
     subst (λ xs. length xs ≤ 20) (asks-lent (find_student w.students c.args.student) c.in-Some.asks.now (c.in-Some.ensures ∙ ap (λ ss. option_map (λ s. s.asks) (find_student ss c.args.student)) c.people.ensures))
-    (asks-few w c.is_kept.ensures c.args.student)
+    (asks-few w c.recall_kept.ensures c.args.student)

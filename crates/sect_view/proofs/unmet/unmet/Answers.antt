@@ -11,4 +11,4 @@ pub returns : goal.returns
 returns c =
     let w = c.args.world.now.world in
     ap Unmet
-    (c.in_ok-unmet_of.ensures ∙ ap (flat_map (λ s. unmet_among w s (asks_of w s))) (c.ids.ensures.value ∙ ap ids_of c.people.ensures) ∙ unmet-by-id w c.is_kept.ensures)
+    (c.in_ok-unmet_of.ensures ∙ ap (flat_map (λ s. unmet_among w s (asks_of w s))) (c.ids.ensures.value ∙ ap ids_of c.people.ensures) ∙ unmet-by-id w c.recall_kept.ensures)

@@ -22,7 +22,7 @@ returns-in-Blocked-clause-others g c =
     let w = c.args.world.now.world in
     let e = c.args.entry.now in
     let outcome : c.in_ok-choices.field-0 ≡ outcome_of w (move_of w e) 2000 = c.in_ok-choices.ensures.outcome ∙ (λ i. outcome_of w (c.in_ok-mv.ensures i) (c.usual_budget.ensures i)) in
-    blocked-rest w e c.args.left.now c.in_ok-choices.field-0 c.in-Blocked.field-0 c.in-Blocked.field-1 c.is_kept.ensures c.requires outcome c.in-Blocked.is
+    blocked-rest w e c.args.left.now c.in_ok-choices.field-0 c.in-Blocked.field-0 c.in-Blocked.field-1 c.recall_kept.ensures c.requires outcome c.in-Blocked.is
 
 pub returns-clause-others : goal.returns-clause-others
 returns-clause-others g c =

@@ -15,7 +15,7 @@ returns-in_ok-make-clause-others c =
     let v = c.make.new.world.world in
     let es = c.args.queue.now.queue.entries in
     all-but v es c.mark_leaving.new.marks c.none.result
-    (changed-others w v es c.args.marks.now c.mark_leaving.new.marks (Leave c.args.student c.args.course) c.is_kept.ensures c.requires.held c.requires.fit c.in_ok-make.ensures.ok c.requires.others
+    (changed-others w v es c.args.marks.now c.mark_leaving.new.marks (Leave c.args.student c.args.course) c.recall_kept.ensures c.requires.held c.requires.fit c.in_ok-make.ensures.ok c.requires.others
     (plain-marks w es c.args.marks.now c.mark_leaving.new.marks (Leave c.args.student c.args.course) (λ e. refl) c.in_ok-mark_leaving.ensures.more))
 
 pub returns-in_ok-make-clause-only : goal.returns-in_ok-make-clause-only

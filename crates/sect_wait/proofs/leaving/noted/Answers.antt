@@ -11,7 +11,7 @@ returns-in-Some c =
     let x = c.in-Some.enrolment.now in
     if-ok c.note.result (λ o notes. (
       x,
-      found-alone w c.is_kept.ensures c.args.student c.args.course c.requires x
+      found-alone w c.recall_kept.ensures c.args.student c.args.course c.requires x
           (ap (find (λ (x : Enrolment). x.choice.course.0 == c.args.course.0)) (sym c.enrolments.ensures) ∙ sym c.held.ensures ∙ ap option_copied c.in-Some.is),
       notes,
     )) c.note.ensures
@@ -19,5 +19,5 @@ returns-in-Some c =
 pub returns-in-None : goal.returns-in-None
 returns-in-None c =
     let w = c.args.world.now.world in
-    found-some w c.is_kept.ensures c.args.student c.args.course c.requires
+    found-some w c.recall_kept.ensures c.args.student c.args.course c.requires
     (ap (find (λ (x : Enrolment). x.choice.course.0 == c.args.course.0)) (sym c.enrolments.ensures) ∙ sym c.held.ensures ∙ ap option_copied c.in-None.is)

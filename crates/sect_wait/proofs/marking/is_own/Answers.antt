@@ -10,7 +10,7 @@ returns-in-Some c = λ e a same.
     let q = c.args.queue.now.queue in
     c.is_of.ensures
     ∙ ap (λ (x : Waiting). c.args.student.0 == x.student.0)
-    (the-entry q.entries q.next c.args.ticket c.in-Some.entry.now e c.is_kept.ensures.kept.in_order (sym (ap option_copied c.in-Some.is) ∙ c.entry.ensures) a same)
+    (the-entry q.entries q.next c.args.ticket c.in-Some.entry.now e c.recall_kept.ensures.kept.in_order (sym (ap option_copied c.in-Some.is) ∙ c.entry.ensures) a same)
 
 pub returns-in-None : goal.returns-in-None
 returns-in-None c = λ e a same. no-entry c.args.queue.now.queue.entries c.args.ticket e (sym (ap option_copied c.in-None.is) ∙ c.entry.ensures) a same

@@ -8,11 +8,11 @@ use Rattle.sect_wait.proofs.marking.mark_enrolment.Goals as goal
 pub returns-clause-more : goal.returns-clause-more
 returns-clause-more c =
     enrol-marks c.args.world.now.world c.args.queue.now.queue.entries c.args.enrolment.now (option_copied c.freed-row.result) (option_copied c.offering_of.result) c.args.marks.now c.mark.new.marks c.mark_noted.new.marks c.mark_noted.result
-    c.is_kept.ensures c.freed-row.ensures c.offering_of.ensures c.in_ok-mark.ensures.more c.mark_noted.ensures.more
+    c.recall_kept.ensures c.freed-row.ensures c.offering_of.ensures c.in_ok-mark.ensures.more c.mark_noted.ensures.more
 
 pub returns-clause-only : goal.returns-clause-only
 returns-clause-only c =
     let w = c.args.world.now.world in
     let x = c.args.enrolment.now in
     enrol-only w c.args.queue.now.queue.entries x.student x.choice.course (frees_some w x.choice) (option_copied c.freed-row.result) (option_copied c.offering_of.result) c.args.marks.now c.mark.new.marks c.mark_noted.new.marks c.mark_noted.result
-    c.is_kept.ensures c.freed-row.ensures c.offering_of.ensures c.in_ok-mark.ensures.only c.mark_noted.ensures.only
+    c.recall_kept.ensures c.freed-row.ensures c.offering_of.ensures c.in_ok-mark.ensures.only c.mark_noted.ensures.only

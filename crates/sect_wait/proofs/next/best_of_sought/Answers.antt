@@ -35,7 +35,7 @@ returns-clause-best g c =
     let q = c.args.queue.now.queue in
     let ts = c.args.tickets.now in
     let past : length ts ≤ c.loop-ticket.ticket-index = omega (arith, c.loop-ticket-test.false) in
-    tried-best w q.entries q.next ts c.loop-ticket.best c.args.marks.now.spent c.loop-ticket.left c.is_kept.ensures.kept.in_order
+    tried-best w q.entries q.next ts c.loop-ticket.best c.args.marks.now.spent c.loop-ticket.left c.recall_kept.ensures.kept.in_order
     (subst (λ us. Tried w q.entries us c.loop-ticket.best c.args.marks.now.spent c.loop-ticket.left) (take_all c.loop-ticket.ticket-index ts past) c.loop-ticket.invariant.0)
     (λ e a h. c.requires.others e a (c.requires.all e a h))
 
@@ -45,7 +45,7 @@ returns-clause-others g c =
     let q = c.args.queue.now.queue in
     let ts = c.args.tickets.now in
     let past : length ts ≤ c.loop-ticket.ticket-index = omega (arith, c.loop-ticket-test.false) in
-    tried-others w q.entries q.next ts c.loop-ticket.best c.args.marks.now.spent c.loop-ticket.left c.is_kept.ensures.kept.in_order
+    tried-others w q.entries q.next ts c.loop-ticket.best c.args.marks.now.spent c.loop-ticket.left c.recall_kept.ensures.kept.in_order
     (subst (λ us. Tried w q.entries us c.loop-ticket.best c.args.marks.now.spent c.loop-ticket.left) (take_all c.loop-ticket.ticket-index ts past) c.loop-ticket.invariant.0)
     (λ e a h. c.requires.others e a (c.requires.all e a h))
 

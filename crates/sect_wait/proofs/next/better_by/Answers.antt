@@ -25,7 +25,7 @@ better_once-requires-clause-others g c =
 pub returns-then-is_behind-clause-tried : goal.returns-then-is_behind-clause-tried
 returns-then-is_behind-clause-tried g c = λ before on t.
     let q = c.args.queue.now.queue in
-    once-behind c.args.world.now.world q.entries c.args.ticket c.args.marks.now.spent c.args.best.now c.args.left.now c.args.tried.now before on t q.next c.in-Some.entry.now c.is_kept.ensures.kept.in_order
+    once-behind c.args.world.now.world q.entries c.args.ticket c.args.marks.now.spent c.args.best.now c.args.left.now c.args.tried.now before on t q.next c.in-Some.entry.now c.recall_kept.ensures.kept.in_order
     (sym (ap option_copied c.in-Some.is) ∙ c.entry.ensures) (sym c.if-is_behind.true ∙ c.is_behind.ensures)
 
 pub returns-in-None-clause-tried : goal.returns-in-None-clause-tried

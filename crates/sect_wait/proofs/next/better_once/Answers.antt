@@ -15,7 +15,7 @@ pub returns-clause-tried : goal.returns-clause-tried
 returns-clause-tried g c = λ before on t.
     let q = c.args.queue.now.queue in
     tried-more c.args.world.now.world q.entries c.args.ticket c.args.marks.now.spent q.next c.args.entry.now c.args.best.now (option_or c.in_ok-new.new c.args.best.now) c.args.left.now c.better.new.left
-    c.is_kept.ensures.kept.in_order c.requires.found c.in_ok-new.ensures.best c.in_ok-new.ensures.others before t
+    c.recall_kept.ensures.kept.in_order c.requires.found c.in_ok-new.ensures.best c.in_ok-new.ensures.others before t
 
 pub returns-clause-puts : goal.returns-clause-puts
 returns-clause-puts g c = puts-only c.args.marks.now c.args.opened.now c.args.queue.now.queue.entries c.args.ticket c.args.tried.now c.insert.new.self c.in_ok-insert.ensures.updates.0

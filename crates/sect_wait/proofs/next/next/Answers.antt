@@ -23,6 +23,6 @@ pub returns-clause-only : goal.returns-clause-only
 returns-clause-only g c =
     let q = c.args.queue.now.queue in
     round-only c.args.marks.now c.pass.new.marks c.note_each.new.marks c.mark_each.new.marks c.args.opened.now q.entries q.next c.in_ok-best.best c.none-left.result.again.items c.first.new.left.again.items c.first.new.left.spent.items
-    c.is_kept.ensures.kept.in_order c.none-left.ensures.again c.in_ok-best.ensures.again c.pass.ensures
+    c.recall_kept.ensures.kept.in_order c.none-left.ensures.again c.in_ok-best.ensures.again c.pass.ensures
     (subst (λ ts. NotesMore ts c.pass.new.marks c.note_each.new.marks) c.as_slice.ensures.value c.in_ok-note_each.ensures)
     (subst (λ ts. MarksOnly (λ e. has_ticket e.ticket ts) q.entries c.note_each.new.marks c.mark_each.new.marks) c.as_slice-2.ensures.value (c.in_ok-mark_each.ensures.only q.entries))

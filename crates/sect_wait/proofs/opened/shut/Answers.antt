@@ -12,7 +12,7 @@ returns-clause-others c = λ but.
     let w = c.args.world.now.world in
     let es = c.args.queue.now.queue.entries in
     let n = c.mark_givers_among.new.marks in
-    shut-but w es c.args.marks.now n c.args.opened.now _ c.is_kept.ensures (sym c.is_closed_again.ensures ∙ c.if-not-is_closed_again.false)
+    shut-but w es c.args.marks.now n c.args.opened.now _ c.recall_kept.ensures (sym c.is_closed_again.ensures ∙ c.if-not-is_closed_again.false)
     (subst (λ cs. MarksMore (gives_and_wants cs) es c.args.marks.now n) c.as_slice.ensures.value
     (subst (λ fs. MarksMore (gives_and_wants c.as_slice.result.now) fs c.args.marks.now n) c.entries.ensures c.in_ok-mark_givers_among.ensures.more)) but
 

@@ -10,7 +10,7 @@ pub returns-clause-others : goal.returns-clause-others
 returns-clause-others c =
     let w = c.args.world.now.world in
     let es = c.args.queue.now.queue.entries in
-    enrolled-ok w c.make.new.world.world es c.fall_back_where_freed.new.marks c.mark_enrolment.new.marks c.fall_back_where_freed.new.opened (enrolment_of c.args.candidate.now) c.make.result c.is_kept.ensures
+    enrolled-ok w c.make.new.world.world es c.fall_back_where_freed.new.marks c.mark_enrolment.new.marks c.fall_back_where_freed.new.opened (enrolment_of c.args.candidate.now) c.make.result c.recall_kept.ensures
     c.requires.fits c.requires.fit c.make.ensures.ok (c.in_ok-fall_back_where_freed.ensures.others es c.requires.others) c.in_ok-mark_enrolment.ensures.more c.in_ok-fall_back_where_freed.ensures.none
 
 pub returns-clause-only : goal.returns-clause-only

@@ -1,7 +1,7 @@
 -- What the leaving may open is marked.
 use Rattle.std.proofs.Common.{◌∙◌, false, refl, sym}
 use Rattle.sect_model.specs.declared.change.Change.TheVariants.{Leave}
-use Rattle.sect_wait.proofs.MarkLemmas.{made-others, left-fit, on-ok}
+use Rattle.sect_wait.proofs.MarkLemmas.{made-others, queue_undo-fit, on-ok}
 use Rattle.sect_wait.proofs.NeedLemmas.{plain-marks}
 use Rattle.sect_wait.proofs.OpenedLemmas.{all-but, fallen-back}
 use Rattle.sect_wait.specs.Touched.{is_concerned}
@@ -10,7 +10,7 @@ use Rattle.sect_wait.proofs.place.leave.Goals as goal
 
 pub returns-in_ok-mark_leaving-clause-fit : goal.returns-in_ok-mark_leaving-clause-fit
 returns-in_ok-mark_leaving-clause-fit c =
-    left-fit c.args.world.now.world c.make.new.world.world c.args.queue.now.queue.entries c.args.student c.args.course c.make.result c.make.ensures.ok c.requires.fit
+    queue_undo-fit c.args.world.now.world c.make.new.world.world c.args.queue.now.queue.entries c.args.student c.args.course c.make.result c.make.ensures.ok c.requires.fit
 
 pub returns-in_ok-mark_leaving-clause-others : goal.returns-in_ok-mark_leaving-clause-others
 returns-in_ok-mark_leaving-clause-others c =
@@ -18,7 +18,7 @@ returns-in_ok-mark_leaving-clause-others c =
     let v = c.make.new.world.world in
     let es = c.args.queue.now.queue.entries in
     on-ok c.make.result (all-but v es c.mark_leaving.new.marks c.fall_back.new.opened)
-    (made-others w v es c.fall_back.new.marks c.mark_leaving.new.marks (Leave c.args.student c.args.course) c.make.result c.is_kept.ensures
+    (made-others w v es c.fall_back.new.marks c.mark_leaving.new.marks (Leave c.args.student c.args.course) c.make.result c.recall_kept.ensures
     (sym c.holds.ensures ∙ c.if-holds.true) c.requires.fit c.make.ensures.ok
     (fallen-back w es c.args.marks.now c.fall_back.new.marks c.args.opened.now (c.in_ok-fall_back.ensures.more es) c.requires.others)
     (plain-marks w es c.fall_back.new.marks c.mark_leaving.new.marks (Leave c.args.student c.args.course) (λ e. refl) c.in_ok-mark_leaving.ensures.more))

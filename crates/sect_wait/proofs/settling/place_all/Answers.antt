@@ -22,7 +22,7 @@ returns-in_err-place-in-Some-clause-since g c =
 
 pub returns-in_err-place-in-Some-clause-queue_since : goal.returns-in_err-place-in-Some-clause-queue_since
 returns-in_err-place-in-Some-clause-queue_since g c =
-    since-joins c.args.queue.now.queue c.rounds.queue.queue c.place.new.queue.queue c.args.left.now c.rounds.left c.place.new.left c.rounds.invariant.2 c.place.ensures.queue_since
+    since-joins c.args.queue.now.queue c.rounds.queue.queue c.place.new.queue.queue c.args.queue_undo.now c.rounds.queue_undo c.place.new.queue_undo c.rounds.invariant.2 c.place.ensures.queue_since
 
 pub returns-in_err-push-in-Some-clause-since : goal.returns-in_err-push-in-Some-clause-since
 returns-in_err-push-in-Some-clause-since g c =
@@ -30,7 +30,7 @@ returns-in_err-push-in-Some-clause-since g c =
 
 pub returns-in_err-push-in-Some-clause-queue_since : goal.returns-in_err-push-in-Some-clause-queue_since
 returns-in_err-push-in-Some-clause-queue_since g c =
-    since-joins c.args.queue.now.queue c.rounds.queue.queue c.place.new.queue.queue c.args.left.now c.rounds.left c.place.new.left c.rounds.invariant.2 c.place.ensures.queue_since
+    since-joins c.args.queue.now.queue c.rounds.queue.queue c.place.new.queue.queue c.args.queue_undo.now c.rounds.queue_undo c.place.new.queue_undo c.rounds.invariant.2 c.place.ensures.queue_since
 
 pub rounds-smaller : goal.rounds-smaller
 rounds-smaller g c =
@@ -49,7 +49,7 @@ rounds-preserved g c =
           c.rounds.invariant.0 (best-of w q.entries c.in_ok-candidate.field-0 (Some d) c.in-Some.is c.in_ok-candidate.ensures.best)
           c.in_ok-place-in-Some.ensures.world c.in_ok-place-in-Some.ensures.queue more,
       since-both c.args.world.now.world w c.place.new.world.world c.args.undo.now.backs c.rounds.undo.backs c.place.new.undo.backs c.rounds.invariant.1 c.place.ensures.since,
-      since-joins c.args.queue.now.queue q c.place.new.queue.queue c.args.left.now c.rounds.left c.place.new.left c.rounds.invariant.2 c.place.ensures.queue_since,
+      since-joins c.args.queue.now.queue q c.place.new.queue.queue c.args.queue_undo.now c.rounds.queue_undo c.place.new.queue_undo c.rounds.invariant.2 c.place.ensures.queue_since,
       c.place.ensures.undoable,
       c.place.ensures.queue_undoable,
       c.in_ok-place-in-Some.ensures.others,

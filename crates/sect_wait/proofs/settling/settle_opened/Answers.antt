@@ -14,7 +14,7 @@ returns-then-is_err-clause-err g c =
     let v = c.place_all-placed.new.world.world in
     let bs = c.args.undo.now.backs in
     let cs = c.place_all-placed.new.undo.backs in
-    let back : c.undo_to.new.self.world ≡ w = c.undo_to.ensures.world ∙ ap (λ n. undone v (drop n cs)) c.len-made.ensures ∙ (since-undone w v bs cs c.is_kept.ensures c.place_all-placed.ensures.since).0 in
+    let back : c.undo_to.new.self.world ≡ w = c.undo_to.ensures.world ∙ ap (λ n. undone v (drop n cs)) c.len-made.ensures ∙ (since-undone w v bs cs c.recall_kept.ensures c.place_all-placed.ensures.since).0 in
     on-err c.place_all-placed.result back
 
 pub returns-then-is_err-clause-since : goal.returns-then-is_err-clause-since
@@ -23,7 +23,7 @@ returns-then-is_err-clause-since g c =
     let v = c.place_all-placed.new.world.world in
     let bs = c.args.undo.now.backs in
     let cs = c.place_all-placed.new.undo.backs in
-    let undo : (undone v (drop (length bs) cs) ≡ w) × (take (length bs) cs ≡ bs) = since-undone w v bs cs c.is_kept.ensures c.place_all-placed.ensures.since in
+    let undo : (undone v (drop (length bs) cs) ≡ w) × (take (length bs) cs ≡ bs) = since-undone w v bs cs c.recall_kept.ensures c.place_all-placed.ensures.since in
     let back : c.undo_to.new.self.world ≡ w = c.undo_to.ensures.world ∙ ap (λ n. undone v (drop n cs)) c.len-made.ensures ∙ undo.0 in
     let kept : c.undo_to.new.undo.backs ≡ bs = c.undo_to.ensures.recorded ∙ ap (λ n. take n cs) c.len-made.ensures ∙ undo.1 in
     subst (λ u. Since w bs u c.undo_to.new.undo.backs) (sym back) (subst (λ ds. Since w bs w ds) (sym kept) (since-none w bs))

@@ -9,13 +9,13 @@ pub returns-in_err-fill-clause-may_be_loose : goal.returns-in_err-fill-clause-ma
 returns-in_err-fill-clause-may_be_loose g c = on_err_of c.from_residual.result (loose_as_before c.args.self.now.loose c.args.self.now.loose (map (λ row. row.now) c.args.rows.now) refl)
 
 pub returns-in_err-fill-clause-moments : goal.returns-in_err-fill-clause-moments
-returns-in_err-fill-clause-moments g c = stays_here (g.D.Disk.told c.args.self.now.disk) c.args.self.now.rows c.args.self.now.loose (map (λ row. row.now) c.args.rows.now) c.is_sound.ensures
+returns-in_err-fill-clause-moments g c = stays_here (g.D.Disk.told c.args.self.now.disk) c.args.self.now.rows c.args.self.now.loose (map (λ row. row.now) c.args.rows.now) c.recall_sound.ensures
 
 pub returns-in_err-make_room-clause-may_be_loose : goal.returns-in_err-make_room-clause-may_be_loose
 returns-in_err-make_room-clause-may_be_loose g c = on_err_of c.from_residual-in_err-make_room.result (loose_as_before c.make_room.new.self.loose c.args.self.now.loose (map (λ row. row.now) c.args.rows.now) (ap (λ s. s.loose) c.make_room.ensures.same))
 
 pub returns-in_err-make_room-clause-moments : goal.returns-in_err-make_room-clause-moments
-returns-in_err-make_room-clause-moments g c = subst (λ d. Stays (g.D.Disk.told c.args.self.now.disk) (g.D.Disk.told d) (Leaves c.args.self.now.rows (c.args.self.now.loose ++ (map (λ row. row.now) c.args.rows.now) ∷ []))) (sym (ap (λ s. s.disk) c.make_room.ensures.same)) (stays_here (g.D.Disk.told c.args.self.now.disk) c.args.self.now.rows c.args.self.now.loose (map (λ row. row.now) c.args.rows.now) c.is_sound.ensures)
+returns-in_err-make_room-clause-moments g c = subst (λ d. Stays (g.D.Disk.told c.args.self.now.disk) (g.D.Disk.told d) (Leaves c.args.self.now.rows (c.args.self.now.loose ++ (map (λ row. row.now) c.args.rows.now) ∷ []))) (sym (ap (λ s. s.disk) c.make_room.ensures.same)) (stays_here (g.D.Disk.told c.args.self.now.disk) c.args.self.now.rows c.args.self.now.loose (map (λ row. row.now) c.args.rows.now) c.recall_sound.ensures)
 
 pub returns-in_err-settle-clause-may_be_loose : goal.returns-in_err-settle-clause-may_be_loose
 returns-in_err-settle-clause-may_be_loose g c = on_err_of c.from_residual-in_err-settle.result (loose_as_before c.settle.new.self.loose c.args.self.now.loose (map (λ row. row.now) c.args.rows.now) (c.in_err-settle.ensures.err ∙ ap (λ s. s.loose) c.make_room.ensures.same))

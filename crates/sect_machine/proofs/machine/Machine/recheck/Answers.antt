@@ -12,7 +12,7 @@ use Rattle.sect_machine.proofs.machine.Machine.recheck.Goals as goal
 pub refutes_then-requires-clause-fits : goal.refutes_then-requires-clause-fits
 refutes_then-requires-clause-fits c = λ mv is.
     let s = state_of c.self.inside.world.world c.self.inside.queue.queue in
-    let kept : KeptState s = subst (λ m. KeptState (state_in m)) (sym c.self.view_is) c.is_kept.ensures.kept in
+    let kept : KeptState s = subst (λ m. KeptState (state_in m)) (sym c.self.view_is) c.recall_kept.ensures.kept in
     let accepted : refusal_of (on_day s c.args.day) c.requires.accepted.0 c.args.command.now ≡ None
     = subst (λ m. refusal_of (on_day (state_in m) c.args.day) c.requires.accepted.0 c.args.command.now ≡ None) (sym c.self.view_is) c.requires.accepted.1 in
     accepted-move s c.args.day c.requires.accepted.0 c.args.command.now mv kept accepted is

@@ -10,7 +10,7 @@ pub invariant_of-self : goal.invariant_of-self
 invariant_of-self g c =
     let w = c.self.inside.world.world in
     let q = c.self.inside.queue.queue in
-    let kept : KeptState (state_of w q) = subst (λ m. KeptState (state_in m)) (sym c.self.view_is) c.is_kept.ensures.kept in (
+    let kept : KeptState (state_of w q) = subst (λ m. KeptState (state_in m)) (sym c.self.view_is) c.recall_kept.ensures.kept in (
       rests-after w c.step.new.world.world q c.step.new.queue.queue c.args.day c.args.caller c.args.command.now c.step.result kept c.self.invariant.0
           c.step.ensures.acted c.step.ensures.world_err c.step.ensures.queue_err,
       c.step.ensures.others,

@@ -8,4 +8,4 @@ invariant_of-desk g c = opened_desk g.O.Object.is_row c.in-Ok-acts.marks.items c
 
 pub returns-in-Ok-acts : goal.returns-in-Ok-acts
 returns-in-Ok-acts g c = opened_standing g.O.Object.start g.O.Object.stepped g.O.Object.is_row g.K.Keeper.rows g.K.Keeper.faults c.args.keeper _ c.in-Ok-acts.marks.items c.acted.result c.in-Ok.past.entries refl c.in-Ok-acts.ensures c.acted.ensures
-    (ap g.K.Keeper.faults c.of-opened.ensures) c.replay.ensures.rows c.is_sound.ensures
+    (ap g.K.Keeper.faults c.of-opened.ensures) c.replay.ensures.rows c.recall_sound.ensures

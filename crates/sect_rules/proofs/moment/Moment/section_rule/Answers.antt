@@ -39,13 +39,13 @@ module _ (v : World) (st : StudentId) (want : Want) (course : CourseId) (config 
 
 pub standing_rule-requires : goal.standing_rule-requires
 standing_rule-requires c = record {
-  few = sections-few c.args.self.now.at c.keeps.ensures.checked c.args.course c.args.config c.args.sections c.args.section c.requires;
+  few = sections-few c.args.self.now.at c.recall_kept.ensures.checked c.args.course c.args.config c.args.sections c.args.section c.requires;
   row = c.section-row.ensures ∙ ap (λ k. find_section k.rows c.args.section) c.catalogue.ensures;
 }
 
 pub space_rule-requires : goal.space_rule-requires
 space_rule-requires c = record {
-  own = section-own c.args.self.now.at c.keeps.ensures.checked c.args.course c.args.config c.args.sections c.args.section c.in_ok-offering.offering.now c.keeps.ensures.fit
+  own = section-own c.args.self.now.at c.recall_kept.ensures.checked c.args.course c.args.config c.args.sections c.args.section c.in_ok-offering.offering.now c.recall_kept.ensures.fit
       (sym c.in_ok-offering.ensures) c.requires;
   row = c.section-row.ensures ∙ ap (λ k. find_section k.rows c.args.section) c.catalogue.ensures;
 }

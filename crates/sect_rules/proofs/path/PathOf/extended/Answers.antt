@@ -14,7 +14,7 @@ add-requires g c =
       search rules,
       (
         subst (λ q. length q.sections < 6) (sym c.copied-path.ensures)
-            (room w c.is_kept.ensures.rows_pass p c.in-Section.section
+            (room w c.recall_kept.ensures.rows_pass p c.in-Section.section
             (option-stands w mv p (Section c.in-Section.section) (subst (λ x. Contains (options_at w mv p) x) c.in-Section.is c.requires.option))),
         subst (λ q. length q.done < g.row.N) (sym c.copied-path.ensures) (done-few w mv p c.args.pick c.requires.option g.row.N c.requires.room),
       ),

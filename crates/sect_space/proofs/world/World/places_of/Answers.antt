@@ -9,5 +9,5 @@ pub total-requires : goal.total-requires
 total-requires c =
     let w = c.args.self.now.world in
     subst (λ n. n ≤ 10) (sym (ap length c.as_slice.ensures))
-    (configs-few w c.is_kept.ensures c.args.id c.in-Some.row.now
+    (configs-few w c.recall_kept.ensures c.args.id c.in-Some.row.now
     (sym (ap (λ k. find_offering k.rows c.args.id) c.catalogue.ensures) ∙ sym c.offering.ensures ∙ ap option_copied c.in-Some.is))

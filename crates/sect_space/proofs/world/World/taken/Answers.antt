@@ -7,7 +7,7 @@ use Rattle.sect_model.proofs.RosterLemmas.{part-sum}
 use Rattle.sect_space.proofs.world.World.taken.Goals as goal
 
 pub held_back-requires : goal.held_back-requires
-held_back-requires c = c.reservations_near.ensures.few
+held_back-requires c = c.reservations_near.ensures.bound
 
 pub returns-clause-value : goal.returns-clause-value
 returns-clause-value c =

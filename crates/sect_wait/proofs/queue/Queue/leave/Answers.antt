@@ -16,7 +16,7 @@ returns-in_ok-take-in-Some-clause-found c = sym (placed (λ e. e.ticket == c.arg
 
 pub returns-in_ok-take-in-Some-clause-undoable : goal.returns-in_ok-take-in-Some-clause-undoable
 returns-in_ok-take-in-Some-clause-undoable c =
-    left-undoable c.args.self.now c.take.new.self c.args.ticket c.args.undo.now c.take.new.undo c.is_kept.ensures.kept c.is_kept.ensures.few
+    left-undoable c.args.self.now c.take.new.self c.args.ticket c.args.undo.now c.take.new.undo c.recall_kept.ensures.kept c.recall_kept.ensures.bound
     c.in_ok-take-in-Some.ensures.ok c.in_ok-take-in-Some.ensures.room c.in_ok-take-in-Some.ensures.recorded
 
 pub returns-in-None-clause-found : goal.returns-in-None-clause-found
@@ -37,5 +37,5 @@ returns-in-None-clause-recorded c =
 
 pub returns-in_ok-take-in-Some-clause-since : goal.returns-in_ok-take-in-Some-clause-since
 returns-in_ok-take-in-Some-clause-since c =
-    since-left c.args.self.now.queue c.take.new.self.queue c.args.ticket c.args.undo.now c.take.new.undo c.is_kept.ensures.kept
+    since-left c.args.self.now.queue c.take.new.self.queue c.args.ticket c.args.undo.now c.take.new.undo c.recall_kept.ensures.kept
     c.in_ok-take-in-Some.ensures.ok c.in_ok-take-in-Some.ensures.recorded

@@ -5,7 +5,7 @@ use Rattle.test_machine.proofs.machine.judging.checked.Goals as goal
 pub recheck-requires-clause-searches : goal.recheck-requires-clause-searches
 recheck-requires-clause-searches c =
     c.blocked_commands_are_taken.ensures.searches (state_in c.args.machine.now) c.args.day c.args.caller c.args.command.now c.in-Blocked.field-0
-    c.in-Blocked.field-1 c.is_kept.ensures.kept (c.requires ∙ c.in-Blocked.is)
+    c.in-Blocked.field-1 c.recall_kept.ensures.kept (c.requires ∙ c.in-Blocked.is)
 
 pub recheck-requires-clause-accepted : goal.recheck-requires-clause-accepted
 recheck-requires-clause-accepted c = (

@@ -23,7 +23,7 @@ use serde_json::Value;
 use std::alloc::Global;
 
 /// A value that is read from a JSON value.
-pub(crate) trait Told: Drop {
+pub(crate) trait FromJson: Drop {
     // The value that some data says, where it says one.
     ghost reads: { Data → Option Self };
 
@@ -61,7 +61,7 @@ fn read_u32(value: &Value) -> Result<u32, Fault>
     }
 }
 
-impl Told for u64 {
+impl FromJson for u64 {
     ghost reads = { u64_in };
 
     fn read(_alloc: Global, value: &Value) -> Result<u64, Fault> {
@@ -72,7 +72,7 @@ impl Told for u64 {
     }
 }
 
-impl Told for CourseId {
+impl FromJson for CourseId {
     ghost reads = { course_in };
 
     fn read(_alloc: Global, value: &Value) -> Result<CourseId, Fault> {
@@ -80,7 +80,7 @@ impl Told for CourseId {
     }
 }
 
-impl Told for SectionId {
+impl FromJson for SectionId {
     ghost reads = { section_in };
 
     fn read(_alloc: Global, value: &Value) -> Result<SectionId, Fault> {
@@ -88,7 +88,7 @@ impl Told for SectionId {
     }
 }
 
-impl Told for StudentId {
+impl FromJson for StudentId {
     ghost reads = { student_in };
 
     fn read(_alloc: Global, value: &Value) -> Result<StudentId, Fault> {
@@ -96,7 +96,7 @@ impl Told for StudentId {
     }
 }
 
-fn read_each<T: Told>(alloc: Global, values: &[Value]) -> Result<Items<T>, Fault>
+fn read_each<T: FromJson>(alloc: Global, values: &[Value]) -> Result<Items<T>, Fault>
     ensures { Means result (each_in T.reads (items_view values.now)) }
 {
     let mut rest = values;
@@ -109,7 +109,7 @@ fn read_each<T: Told>(alloc: Global, values: &[Value]) -> Result<Items<T>, Fault
 }
 
 #[tactic(auto, unfolding(crate::specs::Values::list_in))]
-impl<T: Told> Told for Items<T> {
+impl<T: FromJson> FromJson for Items<T> {
     ghost reads = { list_in T.reads };
 
     fn read(alloc: Global, value: &Value) -> Result<Items<T>, Fault> {
@@ -121,7 +121,7 @@ impl<T: Told> Told for Items<T> {
 }
 
 #[tactic(auto, unfolding(crate::specs::Values::optional_in))]
-impl<T: Told> Told for Option<T> {
+impl<T: FromJson> FromJson for Option<T> {
     ghost reads = { optional_in T.reads };
 
     fn read(alloc: Global, value: &Value) -> Result<Option<T>, Fault> {

@@ -1,5 +1,5 @@
 use Rattle.sect_journal.proofs.Images.{kept_leaves}
-use Rattle.sect_journal.proofs.journal.Journal.is_sound.Goals as goal
+use Rattle.sect_journal.proofs.journal.Journal.recall_sound.Goals as goal
 
 pub returns : goal.returns
 returns g c =
