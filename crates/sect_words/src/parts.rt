@@ -85,9 +85,20 @@ impl<'a> Parts<'a> {
         ensures part { option_map (λ part. part.now) result ≡ first_part self.old }
         ensures rest { self.new ≡ later_parts self.old }
     {
-        let part = self.first();
-        self.take();
-        part
+        if self.done {
+            return None;
+        }
+        let text = self.text;
+        match mark_in(text, self.mark) {
+            Some(at) => {
+                self.text = behind(text, at);
+                Some(&text[..at])
+            }
+            None => {
+                self.done = true;
+                Some(text)
+            }
+        }
     }
 
     /// Whether nothing is left.

@@ -42,6 +42,15 @@ pub trait Spelled {
     fn print(&self, into: &mut Vec<u8>) -> Result<(), Memory>
         ensures text { OnOk result (into.new.items ≡ into.old.items ++ spelling self.now) }
         ensures front { take (length into.old.items) into.new.items ≡ into.old.items };
+
+    /// Appends the mark and the word. After `Memory` a part of them may stand at the end.
+    fn print_after(&self, mark: u8, into: &mut Vec<u8>) -> Result<(), Memory>
+        ensures text { OnOk result (into.new.items ≡ into.old.items ++ (mark ∷ spelling self.now)) }
+        ensures front { take (length into.old.items) into.new.items ≡ into.old.items }
+    {
+        into.push(mark)?;
+        self.print(into)
+    }
 }
 
 /// Appends these bytes. After `Memory` the text is as before.
@@ -85,13 +94,23 @@ pub fn print_number<I: Integer>(number: I, into: &mut Vec<u8>) -> Result<(), Mem
     print_bytes(Buffer::new().format(number).as_bytes(), into)
 }
 
+/// Appends the mark and a number in digits, all in one piece. After `Memory` the text is as before.
+fn print_number_after(mark: u8, number: u64, into: &mut Vec<u8>) -> Result<(), Memory>
+    ensures text { OnOk result (into.new.items ≡ into.old.items ++ (mark ∷ decimal number)) }
+    ensures front { take (length into.old.items) into.new.items ≡ into.old.items }
+{
+    let mut bytes = [0; 40];
+    let start = number.write(&mut bytes) - 1;
+    bytes[start] = mark;
+    print_bytes(&bytes[start..], into)
+}
+
 /// Appends the mark and the value's word. After `Memory` a part of them may stand at the end.
 pub fn print_marked<T: Spelled>(mark: u8, value: &T, into: &mut Vec<u8>) -> Result<(), Memory>
     ensures text { OnOk result (into.new.items ≡ into.old.items ++ (mark ∷ T.spelling value.now)) }
     ensures front { take (length into.old.items) into.new.items ≡ into.old.items }
 {
-    into.push(mark)?;
-    value.print(into)
+    value.print_after(mark, into)
 }
 
 /// Appends the elements, each behind the mark. After `Memory` a part of them may stand at the end.
@@ -138,6 +157,10 @@ impl Spelled for u8 {
     fn print(&self, into: &mut Vec<u8>) -> Result<(), Memory> {
         print_number(*self, into)
     }
+
+    fn print_after(&self, mark: u8, into: &mut Vec<u8>) -> Result<(), Memory> {
+        print_number_after(mark, u64::from(*self), into)
+    }
 }
 
 impl Spelled for u16 {
@@ -145,6 +168,10 @@ impl Spelled for u16 {
 
     fn print(&self, into: &mut Vec<u8>) -> Result<(), Memory> {
         print_number(*self, into)
+    }
+
+    fn print_after(&self, mark: u8, into: &mut Vec<u8>) -> Result<(), Memory> {
+        print_number_after(mark, u64::from(*self), into)
     }
 }
 
@@ -154,6 +181,10 @@ impl Spelled for u32 {
     fn print(&self, into: &mut Vec<u8>) -> Result<(), Memory> {
         print_number(*self, into)
     }
+
+    fn print_after(&self, mark: u8, into: &mut Vec<u8>) -> Result<(), Memory> {
+        print_number_after(mark, u64::from(*self), into)
+    }
 }
 
 impl Spelled for u64 {
@@ -161,6 +192,10 @@ impl Spelled for u64 {
 
     fn print(&self, into: &mut Vec<u8>) -> Result<(), Memory> {
         print_number(*self, into)
+    }
+
+    fn print_after(&self, mark: u8, into: &mut Vec<u8>) -> Result<(), Memory> {
+        print_number_after(mark, *self, into)
     }
 }
 
@@ -170,6 +205,10 @@ impl Spelled for CourseId {
     fn print(&self, into: &mut Vec<u8>) -> Result<(), Memory> {
         print_number(self.0, into)
     }
+
+    fn print_after(&self, mark: u8, into: &mut Vec<u8>) -> Result<(), Memory> {
+        print_number_after(mark, u64::from(self.0), into)
+    }
 }
 
 impl Spelled for SectionId {
@@ -177,6 +216,10 @@ impl Spelled for SectionId {
 
     fn print(&self, into: &mut Vec<u8>) -> Result<(), Memory> {
         print_number(self.0, into)
+    }
+
+    fn print_after(&self, mark: u8, into: &mut Vec<u8>) -> Result<(), Memory> {
+        print_number_after(mark, u64::from(self.0), into)
     }
 }
 
@@ -186,6 +229,10 @@ impl Spelled for ConfigId {
     fn print(&self, into: &mut Vec<u8>) -> Result<(), Memory> {
         print_number(self.0, into)
     }
+
+    fn print_after(&self, mark: u8, into: &mut Vec<u8>) -> Result<(), Memory> {
+        print_number_after(mark, u64::from(self.0), into)
+    }
 }
 
 impl Spelled for GroupId {
@@ -193,6 +240,10 @@ impl Spelled for GroupId {
 
     fn print(&self, into: &mut Vec<u8>) -> Result<(), Memory> {
         print_number(self.0, into)
+    }
+
+    fn print_after(&self, mark: u8, into: &mut Vec<u8>) -> Result<(), Memory> {
+        print_number_after(mark, u64::from(self.0), into)
     }
 }
 
@@ -202,6 +253,10 @@ impl Spelled for ReservationId {
     fn print(&self, into: &mut Vec<u8>) -> Result<(), Memory> {
         print_number(self.0, into)
     }
+
+    fn print_after(&self, mark: u8, into: &mut Vec<u8>) -> Result<(), Memory> {
+        print_number_after(mark, u64::from(self.0), into)
+    }
 }
 
 impl Spelled for StudentId {
@@ -209,6 +264,10 @@ impl Spelled for StudentId {
 
     fn print(&self, into: &mut Vec<u8>) -> Result<(), Memory> {
         print_number(self.0, into)
+    }
+
+    fn print_after(&self, mark: u8, into: &mut Vec<u8>) -> Result<(), Memory> {
+        print_number_after(mark, u64::from(self.0), into)
     }
 }
 
@@ -218,6 +277,10 @@ impl Spelled for ClassId {
     fn print(&self, into: &mut Vec<u8>) -> Result<(), Memory> {
         print_number(self.0, into)
     }
+
+    fn print_after(&self, mark: u8, into: &mut Vec<u8>) -> Result<(), Memory> {
+        print_number_after(mark, u64::from(self.0), into)
+    }
 }
 
 impl Spelled for MajorId {
@@ -225,6 +288,10 @@ impl Spelled for MajorId {
 
     fn print(&self, into: &mut Vec<u8>) -> Result<(), Memory> {
         print_number(self.0, into)
+    }
+
+    fn print_after(&self, mark: u8, into: &mut Vec<u8>) -> Result<(), Memory> {
+        print_number_after(mark, u64::from(self.0), into)
     }
 }
 
