@@ -10,6 +10,7 @@ mod rank;
 mod reservations;
 mod restrictions;
 mod room;
+mod starts;
 
 pub use reservations::Reservations;
 pub use restrictions::Restrictions;

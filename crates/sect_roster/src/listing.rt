@@ -32,8 +32,9 @@ ghost use Rattle.sect_model.specs.Kept.{is_ordered_by};
 
 use crate::filed::Filed;
 use crate::mark::Mark;
-use crate::rank::{of_key, rank};
+use crate::rank::{of_key, rank, rank_near};
 use crate::room::put_at;
+use crate::starts::Starts;
 use sect_base::Memory;
 use std::alloc::Global;
 use std::marker::Model;
@@ -44,6 +45,7 @@ pub struct Listing<R: Filed> {
     pub(crate) rows: Vec<R>,
     /// The offering of each id, in order of id.
     marks: Vec<Mark>,
+    starts: Starts,
 }
 
 impl<R: Filed> Model for Listing<R> {
@@ -68,6 +70,7 @@ impl<R: Filed> Listing<R> {
         Listing {
             rows: Vec::new(alloc),
             marks: Vec::new(alloc),
+            starts: Starts::empty(alloc),
         }
     }
 
@@ -84,7 +87,9 @@ impl<R: Filed> Listing<R> {
     pub fn of_key(&self, key: u32) -> &[R]
         ensures { result.now ≡ filter (λ r. R.key_of r == key) self.now.items }
     {
-        of_key(self.rows.as_slice(), key)
+        let start = self.start(key as u64);
+        let end = self.start(key as u64 + 1);
+        of_key(self.rows.as_slice(), key, start, end)
     }
 
     /// The row of an id, None exactly where it is unknown. It takes no memory.
@@ -117,7 +122,10 @@ impl<R: Filed> Listing<R> {
         ensures enough { 0 < self.old.spare → IsOk result }
     {
         self.reserve(1)?;
-        let place = rank(self.rows.as_slice(), row.key() as u64 + 1);
+        let offering = row.key();
+        let guess = self.start(offering as u64 + 1);
+        let place = rank_near(self.rows.as_slice(), offering as u64 + 1, guess);
+        self.starts.reach(offering, place);
         self.put_back(place, row);
         Ok(())
     }
@@ -137,7 +145,9 @@ impl<R: Filed> Listing<R> {
         let place = self.known_place(id);
         let rank = rank(self.marks.as_slice(), id as u64);
         let _ = self.marks.remove(rank);
-        (place, self.rows.remove(place))
+        let row = self.rows.remove(place);
+        self.starts.went(row.key());
+        (place, row)
     }
 
     /// Puts a row back where it stood. It takes no memory.
@@ -154,8 +164,14 @@ impl<R: Filed> Listing<R> {
             offering: row.key(),
         };
         let rank = rank(self.marks.as_slice(), mark.id as u64 + 1);
+        self.starts.came(mark.offering);
         put_at(&mut self.marks, rank, mark);
         put_at(&mut self.rows, place, row);
+    }
+
+    /// A guess of where the rows of an offering begin: behind all others, if it has none.
+    fn start(&self, offering: u64) -> usize {
+        self.starts.guess(offering, self.rows.len())
     }
 
     /// Where the row of an id stands, None exactly where it is unknown.
@@ -163,7 +179,8 @@ impl<R: Filed> Listing<R> {
         ensures { result ≡ position (λ r. R.id_of r == id) self.now.items }
     {
         let offering = offering_of(self.marks.as_slice(), id)?;
-        let start = rank(self.rows.as_slice(), offering as u64);
+        let guess = self.start(offering as u64);
+        let start = rank_near(self.rows.as_slice(), offering as u64, guess);
         Some(first_from(self.rows.as_slice(), start, id))
     }
 
@@ -184,12 +201,20 @@ fn offering_of(marks: &[Mark], id: u32) -> Option<u32>
     requires { IsTrue (is_ordered_by (λ m. m.id) marks.now) }
     ensures { result ≡ option_map (λ m. m.offering) (find (λ m. m.id == id) marks.now) }
 {
-    let rank = rank(marks, id as u64);
+    let rank = rank_near(marks, id as u64, first_guess(marks, id));
     let mark = marks.get(rank)?;
     if mark.id == id {
         Some(mark.offering)
     } else {
         None
+    }
+}
+
+/// Where the mark of an id stands if each id between the first and this one has one, as it mostly is.
+fn first_guess(marks: &[Mark], id: u32) -> usize {
+    match marks.first() {
+        Some(first) => id.saturating_sub(first.id) as usize,
+        None => 0,
     }
 }
 

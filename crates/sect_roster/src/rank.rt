@@ -1,6 +1,6 @@
 // Searches in lists in order of a number.
 
-ghost use Rattle.std.specs.Prelude.{◌≡◌, ◌==◌, ◌+◌, filter, IsTrue};
+ghost use Rattle.std.specs.Prelude.{◌≡◌, ◌≤◌, ◌==◌, ◌+◌, filter, true, IsTrue};
 ghost use Rattle.sect_people.specs.Index.{rank as rank_of};
 ghost use Rattle.sect_model.specs.Kept.{is_ordered_by};
 
@@ -24,12 +24,56 @@ pub fn rank<T: Keyed>(items: &[T], bound: u64) -> usize
     low
 }
 
-/// The elements of a number, which stand together.
-pub fn of_key<T: Keyed>(items: &[T], key: u32) -> &[T]
+/// Whether the elements before the place have a number below the bound, each of them.
+fn is_reached<T: Keyed>(items: &[T], bound: u64, place: usize) -> bool
+    requires { IsTrue (is_ordered_by T.key_of items.now) }
+    ensures { result ≡ true → place ≤ rank_of T.key_of bound items.now }
+{
+    if place == 0 {
+        return true;
+    }
+    let last = place - 1;
+    if last >= items.len() {
+        return false;
+    }
+    if (items[last].key() as u64) < bound {
+        return true;
+    }
+    false
+}
+
+/// Whether the elements from the place on have no number below the bound, none of them.
+fn is_passed<T: Keyed>(items: &[T], bound: u64, place: usize) -> bool
+    requires { IsTrue (is_ordered_by T.key_of items.now) }
+    ensures { result ≡ true → rank_of T.key_of bound items.now ≤ place }
+{
+    if place >= items.len() {
+        return true;
+    }
+    if (items[place].key() as u64) < bound {
+        return false;
+    }
+    true
+}
+
+/// How many elements have a number below the bound. A right guess is told at once.
+pub fn rank_near<T: Keyed>(items: &[T], bound: u64, guess: usize) -> usize
+    requires { IsTrue (is_ordered_by T.key_of items.now) }
+    ensures { result ≡ rank_of T.key_of bound items.now }
+{
+    if is_reached(items, bound, guess) && is_passed(items, bound, guess) {
+        guess
+    } else {
+        rank(items, bound)
+    }
+}
+
+/// The elements of a number, which stand together. Where they begin and end may be guessed.
+pub fn of_key<T: Keyed>(items: &[T], key: u32, guess: usize, guessed_end: usize) -> &[T]
     requires { IsTrue (is_ordered_by T.key_of items.now) }
     ensures { result.now ≡ filter (λ x. T.key_of x == key) items.now }
 {
-    let start = rank(items, key as u64);
-    let end = rank(items, key as u64 + 1);
+    let start = rank_near(items, key as u64, guess);
+    let end = rank_near(items, key as u64 + 1, guessed_end);
     &items[start..end]
 }

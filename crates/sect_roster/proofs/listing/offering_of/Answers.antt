@@ -7,16 +7,16 @@ use Rattle.sect_roster.proofs.listing.offering_of.Goals as goal
 
 pub returns-in_err-mark : goal.returns-in_err-mark
 returns-in_err-mark c =
-    let read = got c.get.result c.args.marks.now c.rank-rank.result c.get.ensures.lookup.3 in
+    let read = got c.get.result c.args.marks.now c.rank_near-rank.result c.get.ensures.lookup.3 in
     c.from_residual.ensures
-    ∙ ap (option_map (λ m. m.offering)) (sym (found-past (λ (m : Mark). m.id) c.args.id c.args.marks.now c.requires c.rank-rank.result c.rank-rank.ensures (sym (ap option_copied c.in_err-mark.was) ∙ read)))
+    ∙ ap (option_map (λ m. m.offering)) (sym (found-past (λ (m : Mark). m.id) c.args.id c.args.marks.now c.requires c.rank_near-rank.result c.rank_near-rank.ensures (sym (ap option_copied c.in_err-mark.was) ∙ read)))
 
 pub returns-then-mark-id : goal.returns-then-mark-id
 returns-then-mark-id c =
-    let read = got c.get.result c.args.marks.now c.rank-rank.result c.get.ensures.lookup.3 in
-    ap (option_map (λ m. m.offering)) (sym (found-own (λ (m : Mark). m.id) c.args.id c.args.marks.now c.requires c.rank-rank.result c.rank-rank.ensures c.in_ok-mark.mark.now (sym (ap option_copied c.in_ok-mark.was) ∙ read) c.if-mark-id.true))
+    let read = got c.get.result c.args.marks.now c.rank_near-rank.result c.get.ensures.lookup.3 in
+    ap (option_map (λ m. m.offering)) (sym (found-own (λ (m : Mark). m.id) c.args.id c.args.marks.now c.requires c.rank_near-rank.result c.rank_near-rank.ensures c.in_ok-mark.mark.now (sym (ap option_copied c.in_ok-mark.was) ∙ read) c.if-mark-id.true))
 
 pub returns-else-mark-id : goal.returns-else-mark-id
 returns-else-mark-id c =
-    let read = got c.get.result c.args.marks.now c.rank-rank.result c.get.ensures.lookup.3 in
-    ap (option_map (λ m. m.offering)) (sym (found-other (λ (m : Mark). m.id) c.args.id c.args.marks.now c.requires c.rank-rank.result c.rank-rank.ensures c.in_ok-mark.mark.now (sym (ap option_copied c.in_ok-mark.was) ∙ read) c.if-mark-id.false))
+    let read = got c.get.result c.args.marks.now c.rank_near-rank.result c.get.ensures.lookup.3 in
+    ap (option_map (λ m. m.offering)) (sym (found-other (λ (m : Mark). m.id) c.args.id c.args.marks.now c.requires c.rank_near-rank.result c.rank_near-rank.ensures c.in_ok-mark.mark.now (sym (ap option_copied c.in_ok-mark.was) ∙ read) c.if-mark-id.false))

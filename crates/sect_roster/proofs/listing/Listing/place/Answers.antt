@@ -18,13 +18,13 @@ pub first_from-requires : goal.first_from-requires
 first_from-requires g c =
     let key = g.R.Keyed.key_of in
     let same = ap (λ rs. length rs) (c.as_slice-2.ensures.value ∙ sym c.as_slice-3.ensures.value) in
-    omega (arith, same, c.rank-start.ensures, rank_le-length key c.in_ok-offering.offering c.as_slice-2.result.now)
+    omega (arith, same, c.rank_near-start.ensures, rank_le-length key c.in_ok-offering.offering c.as_slice-2.result.now)
 
 pub returns : goal.returns
 returns g c =
     let p = λ (r : g.row.R.Denot). g.R.Filed.id_of r == c.args.id in
     let i = c.self.inside in
     let told = sym (c.self.invariant.told c.args.id) ∙ ap (λ ms. option_map (λ m. m.offering) (find (λ m. m.id == c.args.id) ms)) (sym c.as_slice.ensures.value) ∙ sym c.offering_of.ensures ∙ c.in_ok-offering.was in
-    placed g.R.Keyed.key_of p i.rows.items c.as_slice-2.result.now c.as_slice-3.result.now c.in_ok-offering.offering c.rank-start.result c.first_from.result
-    told c.as_slice-2.ensures.value c.as_slice-3.ensures.value c.rank-start.ensures c.first_from.ensures
+    placed g.R.Keyed.key_of p i.rows.items c.as_slice-2.result.now c.as_slice-3.result.now c.in_ok-offering.offering c.rank_near-start.result c.first_from.result
+    told c.as_slice-2.ensures.value c.as_slice-3.ensures.value c.rank_near-start.ensures c.first_from.ensures
     ∙ ap (λ v. position p v.items) c.self.view_is

@@ -18,8 +18,8 @@ remove-requires g c =
     let at = c.rank-rank.ensures ∙ ap (rank (λ m. m.id) c.args.id) c.as_slice.ensures.value in
     omega (arith, at, marks-within g.R.Keyed.key_of g.R.Filed.id_of i.rows.items i.marks.items c.self.invariant c.args.id some, i.marks.ok.0)
 
-pub remove-requires-2 : goal.remove-requires-2
-remove-requires-2 g c =
+pub remove-row-requires : goal.remove-row-requires
+remove-row-requires g c =
     let i = c.self.inside in
     let p = λ (r : g.row.R.Denot). g.R.Filed.id_of r == c.args.id in
     let some : is_some (find p i.rows.items) ≡ true = ap (λ v. is_some (find p v.items)) c.self.view_is ∙ c.requires in
@@ -35,8 +35,8 @@ invariant_of-self g c =
     let some : is_some (find p i.rows.items) ≡ true = ap (λ v. is_some (find p v.items)) c.self.view_is ∙ c.requires in
     let at : c.known_place-place.result ≡ position_or_len p i.rows.items = c.known_place-place.ensures ∙ ap (λ v. position_or_len p v.items) (sym c.self.view_is) in
     let mark_at = c.rank-rank.ensures ∙ ap (rank (λ m. m.id) c.args.id) c.as_slice.ensures.value in
-    keeps-as key id c.remove-2.new.self.items (filter (λ r. not (p r)) i.rows.items) c.remove.new.self.items (filter (λ m. not (m.id == c.args.id)) i.marks.items)
-    (c.remove-2.ensures.items ∙ ap (remove i.rows.items) at ∙ rows-left key id i.rows.items i.marks.items c.self.invariant c.args.id some)
+    keeps-as key id c.remove-row.new.self.items (filter (λ r. not (p r)) i.rows.items) c.remove.new.self.items (filter (λ m. not (m.id == c.args.id)) i.marks.items)
+    (c.remove-row.ensures.items ∙ ap (remove i.rows.items) at ∙ rows-left key id i.rows.items i.marks.items c.self.invariant c.args.id some)
     (c.remove.ensures.items ∙ ap (remove i.marks.items) mark_at ∙ marks-left key id i.rows.items i.marks.items c.self.invariant c.args.id some)
     (drop-keeps key id i.rows.items i.marks.items c.self.invariant c.args.id)
 
@@ -46,7 +46,7 @@ returns-clause-row g c =
     let p = λ (r : g.row.R.Denot). g.R.Filed.id_of r == c.args.id in
     let some : is_some (find p i.rows.items) ≡ true = ap (λ v. is_some (find p v.items)) c.self.view_is ∙ c.requires in
     let at : c.known_place-place.result ≡ position_or_len p i.rows.items = c.known_place-place.ensures ∙ ap (λ v. position_or_len p v.items) (sym c.self.view_is) in
-    read-one p i.rows.items c.known_place-place.result c.remove-2.result (found-any p i.rows.items some) at c.remove-2.ensures.value ∙ ap (λ v. find p v.items) c.self.view_is
+    read-one p i.rows.items c.known_place-place.result c.remove-row.result (found-any p i.rows.items some) at c.remove-row.ensures.value ∙ ap (λ v. find p v.items) c.self.view_is
 
 pub returns-clause-rest : goal.returns-clause-rest
 returns-clause-rest g c =
@@ -56,7 +56,7 @@ returns-clause-rest g c =
     let p = λ (r : g.row.R.Denot). id r == c.args.id in
     let some : is_some (find p i.rows.items) ≡ true = ap (λ v. is_some (find p v.items)) c.self.view_is ∙ c.requires in
     let at : c.known_place-place.result ≡ position_or_len p i.rows.items = c.known_place-place.ensures ∙ ap (λ v. position_or_len p v.items) (sym c.self.view_is) in
-    c.remove-2.ensures.items ∙ ap (remove i.rows.items) at ∙ rows-left key id i.rows.items i.marks.items c.self.invariant c.args.id some ∙ ap (λ v. filter (λ r. not (p r)) v.items) c.self.view_is
+    c.remove-row.ensures.items ∙ ap (remove i.rows.items) at ∙ rows-left key id i.rows.items i.marks.items c.self.invariant c.args.id some ∙ ap (λ v. filter (λ r. not (p r)) v.items) c.self.view_is
 
 pub returns-clause-id : goal.returns-clause-id
 returns-clause-id g c =
@@ -64,8 +64,8 @@ returns-clause-id g c =
     let p = λ (r : g.row.R.Denot). g.R.Filed.id_of r == c.args.id in
     let some : is_some (find p i.rows.items) ≡ true = ap (λ v. is_some (find p v.items)) c.self.view_is ∙ c.requires in
     let at : c.known_place-place.result ≡ position_or_len p i.rows.items = c.known_place-place.ensures ∙ ap (λ v. position_or_len p v.items) (sym c.self.view_is) in
-    let read = read-one p i.rows.items c.known_place-place.result c.remove-2.result (found-any p i.rows.items some) at c.remove-2.ensures.value in
-    eqb-true (g.R.Filed.id_of c.remove-2.result) c.args.id (found-passes p i.rows.items c.remove-2.result (sym read))
+    let read = read-one p i.rows.items c.known_place-place.result c.remove-row.result (found-any p i.rows.items some) at c.remove-row.ensures.value in
+    eqb-true (g.R.Filed.id_of c.remove-row.result) c.args.id (found-passes p i.rows.items c.remove-row.result (sym read))
 
 pub returns-clause-gone : goal.returns-clause-gone
 returns-clause-gone g c =
@@ -75,5 +75,5 @@ returns-clause-gone g c =
     let p = λ (r : g.row.R.Denot). id r == c.args.id in
     let some : is_some (find p i.rows.items) ≡ true = ap (λ v. is_some (find p v.items)) c.self.view_is ∙ c.requires in
     let at : c.known_place-place.result ≡ position_or_len p i.rows.items = c.known_place-place.ensures ∙ ap (λ v. position_or_len p v.items) (sym c.self.view_is) in
-    ap (λ rs. is_some (find p rs)) (c.remove-2.ensures.items ∙ ap (remove i.rows.items) at ∙ rows-left key id i.rows.items i.marks.items c.self.invariant c.args.id some)
+    ap (λ rs. is_some (find p rs)) (c.remove-row.ensures.items ∙ ap (remove i.rows.items) at ∙ rows-left key id i.rows.items i.marks.items c.self.invariant c.args.id some)
     ∙ ap is_some (find-dropped p i.rows.items)
