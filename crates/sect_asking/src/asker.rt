@@ -58,6 +58,19 @@ impl<O: Object, K: Keeper, C: Clock> Asker<O, K, C> {
         let Asker { desk, clock: _ } = self;
         desk.close()
     }
+
+    /// The keeper, with the rows that it has, as `close` gives it back, for a process that is about to end: the desk is
+    /// left, and what it holds isn't freed.
+    pub fn leave(self) -> K
+    where
+        O: Drop,
+        C: Drop,
+        ensures keeper { result ≡ self.desk.keeper }
+        ensures sound { IsSound O.stepped O.is_row K.rows K.faults O.start self.desk }
+    {
+        let Asker { desk, clock: _ } = self;
+        desk.leave()
+    }
 }
 
 impl<O: TextObject, K: Keeper, C: Clock> Asker<O, K, C> {

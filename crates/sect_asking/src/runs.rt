@@ -65,7 +65,7 @@ where
 {
     let mut asker = Asker::new(desk, clock);
     let end = run_lines(alloc, source, sink, &mut asker);
-    (status_of(end), asker.close())
+    (status_of(end), asker.leave())
 }
 
 /// The status where the keeper didn't open.

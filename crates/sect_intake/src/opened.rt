@@ -74,5 +74,5 @@ where
 {
     let mut asker = Asker::new(desk, clock);
     let end = run_table(alloc, table, term, first, source, sink, &mut asker);
-    (status_of(end), asker.close())
+    (status_of(end), asker.leave())
 }

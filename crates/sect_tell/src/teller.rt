@@ -62,7 +62,7 @@ pub fn tell<R: Threads + Sync, T: Sink, K: Keeper, W: Teller>(
     match Desk::<Machine, K>::open(alloc, keeper) {
         Ok(desk) => {
             let status = write_text(rt, alloc, &desk, sink, what);
-            (status, desk.close())
+            (status, desk.leave())
         }
         Err((fault, keeper)) => (shut_status(fault), keeper),
     }
