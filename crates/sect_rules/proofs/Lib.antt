@@ -8,3 +8,5 @@ pub mod LeastLemmas
 pub mod OwnLemmas
 pub mod CourseLemmas
 pub mod ClearLemmas
+pub mod RisingLemmas
+pub mod GroundLemmas

@@ -1,8 +1,12 @@
 pub mod Added
 pub mod FreeTimes
+pub mod Ground
+pub mod Listed
 pub mod Moment
 pub mod Overlapped
 pub mod Part
+pub mod Place
 pub mod Reserved
+pub mod Rising
 pub mod Standing
 pub mod Tables

@@ -1,17 +1,19 @@
 // The rules on a configuration.
 
-ghost use Rattle.std.specs.Prelude.{◌≡◌, ◌&&◌, [], not, false, zip, option_copied, IsTrue};
+ghost use Rattle.std.specs.Prelude.{◌≡◌, ◌&&◌, Some, not, false, zip, option_copied, IsTrue};
 ghost use Rattle.std.specs.List.{list_any, list_all};
-ghost use Rattle.std.specs.Option.{option_map_or, option_and_then};
+ghost use Rattle.std.specs.Option.{option_map_or};
 ghost use Rattle.sect_reserve.specs.Audience.{admits_config as has_config, admits_section as has_section};
-ghost use Rattle.sect_model.specs.World.{offering_of, reservation_of};
+ghost use Rattle.sect_model.specs.World.{offering_of};
 ghost use Rattle.sect_model.specs.Choice.{subparts_of};
-ghost use Rattle.sect_model.specs.Allowed.{applies_to, restrictions_for};
+ghost use Rattle.sect_model.specs.Allowed.{applies_to, restrictions_of, restrictions_for};
 ghost use Rattle.sect_model.specs.Rules.{first_broken, config_rules, is_restricted as restricted_by};
+ghost use Rattle.sect_rules.specs.Ground.{IsGround};
 ghost use Rattle.sect_rules.specs.Standing.{admits_all as admits_places, own_config};
 
+use crate::ground::Ground;
 use crate::moment::Moment;
-use sect_base::{ConfigId, CourseId, Level, OfferingId, ReservationId, Rule, SectionId};
+use sect_base::{ConfigId, CourseId, Level, OfferingId, Rule, SectionId};
 use sect_catalog::SubpartRow;
 use sect_reserve::{Includes, Reservation, Restriction, admits_config, admits_section};
 
@@ -71,33 +73,35 @@ impl Moment<'_> {
     pub fn is_restricted(
         &self,
         offering: OfferingId,
+        rows: &[Restriction],
         course: CourseId,
         config: ConfigId,
         sections: &[SectionId],
     ) -> bool
+        requires { rows.now ≡ restrictions_of self.now.at offering }
         ensures { result ≡ restricted_by (subparts_of self.now.at course config) config sections.now
             (restrictions_for self.now.at self.now.student course offering) }
     {
-        let rows = self.restrictions(offering);
+        let _ = offering;
         self.any_applies(course, rows) && !self.any_admits(course, config, sections, rows)
     }
 
     /// The first rule that the choice of a configuration breaks, with its number.
     pub fn config_rule(
         &self,
+        ground: &Ground,
         course: CourseId,
-        id: Option<ReservationId>,
+        r: Option<&Reservation>,
         config: ConfigId,
     ) -> Option<(Rule, u32)>
-        requires { IsTrue (own_config self.now.at course config) }
-        ensures { result ≡ first_broken (option_map_or
-            (λ o. config_rules self.now.at self.now.student o course (option_and_then (reservation_of self.now.at) id) config)
-            (offering_of self.now.at course) []) }
+        requires ground { IsGround self.now.at ground.now }
+        requires offering { offering_of self.now.at course ≡ Some ground.now.offering.now }
+        requires own { IsTrue (own_config self.now.at course config) }
+        ensures { result ≡ first_broken (config_rules self.now.at self.now.student ground.now.offering.now course (option_copied r.entry) config) }
     {
         self.recall_kept();
-        let offering = self.offering(course)?.id;
-        let r = self.named(id);
-        let closed = self.closed(offering, r, Level::Config(config));
+        let offering = ground.offering.id;
+        let closed = self.closed(offering, ground.reservations, r, Level::Config(config));
         if closed.full {
             return Some((Rule::ConfigFull, config.0));
         }
@@ -107,7 +111,7 @@ impl Moment<'_> {
         if excludes_config(r, config) {
             return Some((Rule::NotIncluded, config.0));
         }
-        if self.is_restricted(offering, course, config, &[]) {
+        if self.is_restricted(offering, ground.restrictions, course, config, &[]) {
             return Some((Rule::Restricted, config.0));
         }
         None

@@ -3,20 +3,25 @@
 
 mod config;
 mod course;
+mod ground;
 mod held;
 pub mod laws;
 mod moment;
 mod nth;
 mod options;
 mod overlap;
+mod parted;
 mod path;
 mod place;
 mod reservation;
 mod reserved;
+mod rows;
 mod rules;
 mod section;
+mod stage;
 
 pub use options::option;
 pub use path::{Path, PathOf};
 pub use rules::broken;
 pub use sect_model::Pick;
+pub use stage::Stage;

@@ -10,8 +10,6 @@ ghost use Rattle.sect_model.specs.World.{reservation_of, offering_of, credits_of
 ghost use Rattle.sect_model.specs.Choice.{subparts_of};
 ghost use Rattle.sect_model.specs.Counts.{count_of, used_of};
 ghost use Rattle.sect_model.specs.Allowed.{
-  reservations_of,
-  restrictions_of,
   holds_offering as has_offering,
   max_credits as most_credits,
   credits_held as credits_of_student,
@@ -27,13 +25,11 @@ use crate::held::{
 use crate::overlap::{is_clear, lesser_of};
 use crate::path::PathOf;
 use crate::place::{offering, subparts};
-use sect_base::{
-    Choice, ConfigId, CourseId, Level, Move, OfferingId, ReservationId, SectionId, StudentId,
-};
+use sect_base::{Choice, ConfigId, CourseId, Level, Move, ReservationId, SectionId, StudentId};
 use sect_catalog::{Catalogue, OfferingRow, SubpartRow};
 use sect_model::Enrolment;
 use sect_people::People;
-use sect_reserve::{Reservation, Restriction};
+use sect_reserve::Reservation;
 use sect_space::World;
 use sect_time::{Day, Meeting};
 use std::marker::Model;
@@ -99,18 +95,6 @@ impl<'a> Moment<'a> {
         ensures { option_copied result ≡ reservation_of self.now.at id }
     {
         self.world.reservation(id)
-    }
-
-    pub fn reservations(&self, offering: OfferingId) -> &[Reservation]
-        ensures { result.now ≡ reservations_of self.now.at offering }
-    {
-        self.world.reservations(offering)
-    }
-
-    pub fn restrictions(&self, offering: OfferingId) -> &[Restriction]
-        ensures { result.now ≡ restrictions_of self.now.at offering }
-    {
-        self.world.restrictions(offering)
     }
 
     pub fn day(&self) -> Day

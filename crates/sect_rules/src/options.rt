@@ -1,21 +1,33 @@
 // The options of a path, by their places.
 
-ghost use Rattle.std.specs.Prelude.{◌≡◌, map, filter, slice_get, [], IsTrue, Some, option_copied, Contains, IfSome};
-ghost use Rattle.sect_model.specs.Allowed.{reservations_of};
+ghost use Rattle.std.specs.Prelude.{◌≡◌, [], map, slice_get, Contains, IfSome, option_copied};
 ghost use Rattle.std.specs.Option.{option_map_or};
-ghost use Rattle.sect_people.specs.Order.{all_differ, sorted_by};
-ghost use Rattle.sect_model.specs.declared.pick.Pick.TheVariants.{Course, Reservation as by_reservation};
-ghost use Rattle.sect_model.specs.World.{offering_of};
-ghost use Rattle.sect_model.specs.Path.{options_at, options_for, want_at, reservation_options, config_options, section_options, next_subpart};
-ghost use Rattle.sect_rules.specs.Part.{is_of_part};
+ghost use Rattle.sect_people.specs.Order.{sorted_by};
+ghost use Rattle.sect_model.specs.declared.pick.Pick.TheVariants.{Course, Config as to_config, Section as to_section};
+ghost use Rattle.sect_model.specs.Path.{options_at, options_for, want_at};
+ghost use Rattle.sect_rules.specs.Ground.{IsGroundOf};
+ghost use Rattle.sect_rules.specs.Listed.{listed};
 
-use crate::nth::{nth, nth_reservation, part_len};
+use crate::ground::Ground;
+use crate::nth::Ordered;
+use crate::parted::Parted;
 use crate::path::PathOf;
-use crate::place::{configs, next_sections, reservations};
-use sect_base::{ConfigId, CourseId, Move, SectionId, Want};
+use crate::rows::{configs, next_sections, reservations};
+use crate::stage::Stage;
+use sect_base::{CourseId, Move, Want};
+use sect_catalog::{ConfigRow, SectionRow};
 use sect_model::Pick;
-use sect_reserve::Reservation;
 use sect_space::World;
+
+/// The options of a path, as the rows that they are read from.
+#[derive(Drop)]
+pub enum Options<'a> {
+    Courses(&'a [CourseId]),
+    Reservations(Parted<'a>),
+    Configs(Ordered<'a, ConfigRow>),
+    Sections(Ordered<'a, SectionRow>),
+    Nothing,
+}
 
 /// The option at a place: the want's courses as given, or the offering's reservations, obligatory
 /// ones first and each part by id, and behind them none, or its configurations by id, or the
@@ -24,13 +36,25 @@ pub fn option<const N: usize>(world: &World, mv: &Move, path: &PathOf<N>, i: usi
     ensures value { result ≡ slice_get (options_at world.now.world mv.now path.now) i }
     ensures option { IfSome result (λ pick. Contains (options_at world.now.world mv.now path.now) pick) }
 {
-    option_at(world, mv, path, i)
+    Stage::new(world, mv, path).option(i)
 }
 
-fn option_at<const N: usize>(world: &World, mv: &Move, path: &PathOf<N>, i: usize) -> Option<Pick>
-    ensures { result ≡ slice_get (options_at world.now.world mv.now path.now) i }
+/// The options of a path, on the ground of its course. It takes no memory.
+pub fn all_options<'a, const N: usize>(
+    world: &World,
+    want: Option<&'a Want>,
+    ground: Option<Ground<'a>>,
+    path: &PathOf<N>,
+) -> Options<'a>
+    requires { IsGroundOf world.now.world path.now.course ground }
+    ensures { listed result ≡ option_map_or
+        (λ want. options_for world.now.world want path.now.course path.now.reservation path.now.config path.now.sections)
+        (option_copied want.entry) [] }
 {
-    option_for(world, want_of(mv, path)?, path, i)
+    match want {
+        Some(want) => want_options(world, want, ground, path),
+        None => Options::Nothing,
+    }
 }
 
 /// The want that the path has come to, None where each has its choice.
@@ -40,75 +64,65 @@ pub fn want_of<'a, const N: usize>(mv: &'a Move, path: &PathOf<N>) -> Option<&'a
     mv.take.as_slice().get(path.done().len())
 }
 
-/// The option at a place for this want.
-fn option_for<const N: usize>(
+/// The options for this want.
+fn want_options<'a, const N: usize>(
     world: &World,
-    want: &Want,
+    want: &'a Want,
+    ground: Option<Ground<'a>>,
     path: &PathOf<N>,
-    i: usize,
-) -> Option<Pick>
-    ensures { result ≡ slice_get (options_for world.now.world want.now path.now.course path.now.reservation path.now.config path.now.sections) i }
+) -> Options<'a>
+    requires { IsGroundOf world.now.world path.now.course ground }
+    ensures { listed result ≡ options_for world.now.world want.now path.now.course path.now.reservation path.now.config path.now.sections }
 {
     match path.course() {
-        None => course_option(want, i),
+        None => Options::Courses(want.courses.as_slice()),
         Some(course) => match (path.reservation(), path.config()) {
-            (None, _) => reservation_option(world, course, i),
-            (Some(_), None) => config_option(world, course, i),
+            (None, _) => Options::Reservations(Parted::new(reservations(world, course, ground))),
+            (Some(_), None) => Options::Configs(Ordered::new(configs(world, course, ground))),
             (Some(_), Some(config)) => {
-                section_option(world, course, config, path.sections().as_slice(), i)
+                let sections = path.sections();
+                Options::Sections(Ordered::new(next_sections(
+                    world,
+                    course,
+                    ground,
+                    config,
+                    sections.as_slice(),
+                )))
             }
         },
     }
 }
 
-fn course_option(want: &Want, i: usize) -> Option<Pick>
-    ensures { result ≡ slice_get (map Course want.now.courses) i }
+/// The option at a place.
+pub fn option_in(options: &Options, i: usize) -> Option<Pick>
+    ensures { result ≡ slice_get (listed options.now) i }
 {
-    let course = want.courses.as_slice().get(i)?;
-    Some(Pick::Course(*course))
-}
-
-fn reservation_option(world: &World, course: CourseId, i: usize) -> Option<Pick>
-    ensures { result ≡ slice_get (reservation_options (option_map_or (λ o. reservations_of world.now.world o.id) (offering_of world.now.world course) [])) i }
-{
-    let rows = reservations(world, course);
-    let musts = part_len(rows, true);
-    if i < musts {
-        part_option(rows, true, i)
-    } else if i < rows.len() {
-        part_option(rows, false, i - musts)
-    } else if i == rows.len() {
-        Some(Pick::Reservation(None))
-    } else {
-        None
+    match options {
+        Options::Courses(courses) => course_option(courses, i),
+        Options::Reservations(rows) => rows.get(i),
+        Options::Configs(rows) => config_option(rows, i),
+        Options::Sections(rows) => section_option(rows, i),
+        Options::Nothing => None,
     }
 }
 
-/// The option at a place among the obligatory reservations, or among the others.
-fn part_option(rows: &[Reservation], must: bool, i: usize) -> Option<Pick>
-    requires { IsTrue (all_differ (map (λ r. r.id.0) rows.now)) }
-    ensures { result ≡ slice_get (map (λ r. by_reservation (Some r.id)) (sorted_by (λ r. r.id.0) (filter (is_of_part must) rows.now))) i }
+fn course_option(courses: &[CourseId], i: usize) -> Option<Pick>
+    ensures { result ≡ slice_get (map Course courses.now) i }
 {
-    let row = nth_reservation(rows, must, i)?;
-    Some(Pick::Reservation(Some(row.id)))
+    let course = courses.get(i)?;
+    Some(Pick::Course(*course))
 }
 
-fn config_option(world: &World, course: CourseId, i: usize) -> Option<Pick>
-    ensures { result ≡ slice_get (config_options (offering_of world.now.world course)) i }
+fn config_option(rows: &Ordered<ConfigRow>, i: usize) -> Option<Pick>
+    ensures { result ≡ slice_get (map (λ g. to_config g.id) (sorted_by (λ g. g.id.0) rows.now)) i }
 {
-    let row = nth(configs(world, course), i)?;
+    let row = rows.get(i)?;
     Some(Pick::Config(row.id))
 }
 
-fn section_option(
-    world: &World,
-    course: CourseId,
-    config: ConfigId,
-    sections: &[SectionId],
-    i: usize,
-) -> Option<Pick>
-    ensures { result ≡ slice_get (section_options (next_subpart world.now.world course config sections.now)) i }
+fn section_option(rows: &Ordered<SectionRow>, i: usize) -> Option<Pick>
+    ensures { result ≡ slice_get (map (λ s. to_section s.id) (sorted_by (λ s. s.id.0) rows.now)) i }
 {
-    let row = nth(next_sections(world, course, config, sections), i)?;
+    let row = rows.get(i)?;
     Some(Pick::Section(row.id))
 }

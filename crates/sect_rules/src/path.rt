@@ -7,6 +7,7 @@ ghost use Rattle.sect_model.specs.Path.{
   close as closed,
   is_complete as has_all,
   options_at,
+  sections_due,
 };
 ghost use Rattle.sect_model.specs.Stands.{MoveStands};
 ghost use Rattle.sect_rules.specs.Added.{with_section};
@@ -74,6 +75,13 @@ impl<const N: usize> PathOf<N> {
         ensures bound { length result.now ≤ 20 }
     {
         &self.cells[..usize::from(self.len)]
+    }
+
+    /// Does nothing: the contract tells that a path is short.
+    pub fn is_short(&self)
+        ensures { N ≤ 20 }
+    {
+        let _ = &self.cells;
     }
 
     /// The course decided on for the next want, if one was.
@@ -181,15 +189,24 @@ impl<const N: usize> PathOf<N> {
         requires option { Contains (options_at world.now.world mv.now self.now) pick }
         ensures { result ≡ extend world.now.world self.now pick }
     {
+        self.extended_by(world, mv, pick, due(world, self.course, self.config))
+    }
+
+    /// The same, where it is known how many sections are due.
+    pub fn extended_by(&self, world: &World, mv: &Move, pick: Pick, due: usize) -> PathOf<N>
+        requires room { length mv.now.take ≤ N }
+        requires option { Contains (options_at world.now.world mv.now self.now) pick }
+        requires due { due ≡ sections_due world.now.world self.now.course self.now.config }
+        ensures { result ≡ extend world.now.world self.now pick }
+    {
+        let _ = mv;
         world.recall_kept();
         let mut path = self.copied();
         match pick {
             Pick::Course(course) => path.course = Some(course),
             Pick::Reservation(id) => path.reservation = Some(id),
             Pick::Config(config) => path.config = Some(config),
-            Pick::Section(section) => {
-                path.add(section, due(world, self.course, self.config));
-            }
+            Pick::Section(section) => path.add(section, due),
         }
         path
     }

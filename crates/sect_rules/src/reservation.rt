@@ -6,8 +6,10 @@ ghost use Rattle.sect_catalog.specs.Catalogue.{places as limit_places};
 ghost use Rattle.sect_model.specs.World.{offering_of, reservation_of};
 ghost use Rattle.sect_model.specs.Counts.{used_of};
 ghost use Rattle.sect_model.specs.Allowed.{applies_to as has_student, must_use as must_be_used, reservations_of};
+ghost use Rattle.sect_rules.specs.Ground.{IsGround};
 ghost use Rattle.sect_model.specs.Rules.{first_broken, least, chosen_rules, none_rules, offering_rules, reservation_rules};
 
+use crate::ground::Ground;
 use crate::moment::Moment;
 use crate::overlap::lesser_of;
 use crate::reserved::{is_over, limited};
@@ -33,7 +35,7 @@ impl Moment<'_> {
         }
     }
 
-    /// The reservation that was decided on, if one was.
+    /// The reservation of an id, if there is an id.
     pub fn named(&self, id: Option<ReservationId>) -> Option<&Reservation>
         ensures { option_copied result ≡ option_and_then (reservation_of self.now.at) id }
     {
@@ -91,10 +93,17 @@ impl Moment<'_> {
     }
 
     /// The rule where no reservation is chosen.
-    fn none_rule(&self, offering: &OfferingRow, course: CourseId) -> Option<(Rule, u32)>
+    fn none_rule(
+        &self,
+        offering: &OfferingRow,
+        rows: &[Reservation],
+        course: CourseId,
+    ) -> Option<(Rule, u32)>
+        requires { rows.now ≡ reservations_of self.now.at offering.now.id }
         ensures { result ≡ first_broken (none_rules self.now.at self.now.student offering.now course) }
     {
-        let number = self.least_must(course, self.reservations(offering.id))?;
+        let _ = offering;
+        let number = self.least_must(course, rows)?;
         Some((Rule::MustUse, number))
     }
 
@@ -103,14 +112,16 @@ impl Moment<'_> {
         &self,
         r: Option<&Reservation>,
         offering: &OfferingRow,
+        rows: &[Reservation],
         course: CourseId,
     ) -> Option<(Rule, u32)>
+        requires { rows.now ≡ reservations_of self.now.at offering.now.id }
         ensures { result ≡ first_broken (offering_rules self.now.at (option_copied r.entry) offering.now course) }
     {
         if !is_over(r) && self.is_full(Level::Course(course)) {
             return Some((Rule::CourseFull, course.0));
         }
-        let closed = self.closed(offering.id, r, Level::Offering(offering.id));
+        let closed = self.closed(offering.id, rows, r, Level::Offering(offering.id));
         if closed.full {
             return Some((Rule::OfferingFull, offering.id.0));
         }
@@ -123,22 +134,20 @@ impl Moment<'_> {
     /// The first rule that the choice of a reservation, or of none, breaks, with its number.
     pub fn reservation_rule(
         &self,
+        ground: &Ground,
         course: CourseId,
-        id: Option<ReservationId>,
+        r: Option<&Reservation>,
     ) -> Option<(Rule, u32)>
-        ensures { result ≡ first_broken (option_map_or
-            (λ o. reservation_rules self.now.at self.now.student o course (option_and_then (reservation_of self.now.at) id))
-            (offering_of self.now.at course) []) }
+        requires { IsGround self.now.at ground.now }
+        ensures { result ≡ first_broken (reservation_rules self.now.at self.now.student ground.now.offering.now course (option_copied r.entry)) }
     {
-        let offering = self.offering(course)?;
-        let r = self.named(id);
         let broken = match r {
             Some(r) => self.chosen_rule(course, r),
-            None => self.none_rule(offering, course),
+            None => self.none_rule(ground.offering, ground.reservations, course),
         };
         match broken {
             Some(rule) => Some(rule),
-            None => self.offering_rule(r, offering, course),
+            None => self.offering_rule(r, ground.offering, ground.reservations, course),
         }
     }
 }

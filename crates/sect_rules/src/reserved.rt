@@ -4,6 +4,7 @@ ghost use Rattle.std.specs.Prelude.{◌≡◌, ◌==◌, ◌&&◌, not, int_le, 
 ghost use Rattle.std.specs.List.{list_any};
 ghost use Rattle.sect_catalog.specs.Catalogue.{places as limit_places};
 ghost use Rattle.sect_model.specs.Counts.{permits_over, count_of};
+ghost use Rattle.sect_model.specs.Allowed.{reservations_of};
 ghost use Rattle.sect_model.specs.Space.{places_at, names as level_named, named_by, space_of};
 ghost use Rattle.sect_model.specs.Rules.{is_full as full_at, is_kept as kept_at};
 ghost use Rattle.sect_rules.specs.Reserved.{held_back as back_at, are_own};
@@ -59,14 +60,23 @@ impl Moment<'_> {
         Some(limit.saturating_sub(self.used(r.id)))
     }
 
-    /// Whether a level with so many places, of this offering, has no unreserved space.
-    fn is_taken(&self, offering: OfferingId, level: Level, places: u64, count: u64) -> bool
+    /// Whether a level with so many places, of this offering with these reservations, has no unreserved space.
+    fn is_taken(
+        &self,
+        offering: OfferingId,
+        rows: &[Reservation],
+        level: Level,
+        places: u64,
+        count: u64,
+    ) -> bool
         requires own { IsTrue (are_own self.now.at offering level) }
+        requires rows { rows.now ≡ reservations_of self.now.at offering }
         requires count { count ≡ count_of self.now.at level }
         ensures { result ≡ int_le (space_of self.now.at level places) (pos 0) }
     {
+        let _ = offering;
         let mut left = places.saturating_sub(count);
-        for r in self.reservations(offering) {
+        for r in rows {
             match self.held_back(r, level) {
                 Some(places) => left = left.saturating_sub(places),
                 None => return true,
@@ -80,11 +90,13 @@ impl Moment<'_> {
     fn closed_in(
         &self,
         offering: OfferingId,
+        rows: &[Reservation],
         r: Option<&Reservation>,
         level: Level,
         places: u64,
     ) -> Closed
         requires own { IsTrue (are_own self.now.at offering level) }
+        requires rows { rows.now ≡ reservations_of self.now.at offering }
         requires places { places_at self.now.at level ≡ Some places }
         ensures full { result.full ≡ full_at self.now.at level }
         ensures reserved { result.reserved ≡ kept_at self.now.at (option_copied r.entry) level }
@@ -95,29 +107,38 @@ impl Moment<'_> {
             full,
             reserved: !full
                 && !is_named_by(r, level)
-                && self.is_taken(offering, level, places, count),
+                && self.is_taken(offering, rows, level, places, count),
         }
     }
 
     /// What closes a level of this offering to a choice by the reservation, or by none. Its places and its enrolments are
     /// asked for once.
-    pub fn closed(&self, offering: OfferingId, r: Option<&Reservation>, level: Level) -> Closed
-        requires { IsTrue (are_own self.now.at offering level) }
+    pub fn closed(
+        &self,
+        offering: OfferingId,
+        rows: &[Reservation],
+        r: Option<&Reservation>,
+        level: Level,
+    ) -> Closed
+        requires own { IsTrue (are_own self.now.at offering level) }
+        requires rows { rows.now ≡ reservations_of self.now.at offering }
         ensures full { result.full ≡ not (permits_over (option_copied r.entry)) && full_at self.now.at level }
         ensures reserved { result.reserved ≡ not (permits_over (option_copied r.entry)) && kept_at self.now.at (option_copied r.entry) level }
     {
-        self.closed_with(offering, r, level, self.places(level))
+        self.closed_with(offering, rows, r, level, self.places(level))
     }
 
     /// The same, where the number of places at the level is known.
     pub fn closed_with(
         &self,
         offering: OfferingId,
+        rows: &[Reservation],
         r: Option<&Reservation>,
         level: Level,
         places: Option<u64>,
     ) -> Closed
         requires own { IsTrue (are_own self.now.at offering level) }
+        requires rows { rows.now ≡ reservations_of self.now.at offering }
         requires places { places ≡ places_at self.now.at level }
         ensures full { result.full ≡ not (permits_over (option_copied r.entry)) && full_at self.now.at level }
         ensures reserved { result.reserved ≡ not (permits_over (option_copied r.entry)) && kept_at self.now.at (option_copied r.entry) level }
@@ -126,7 +147,7 @@ impl Moment<'_> {
             return OPEN;
         }
         match places {
-            Some(places) => self.closed_in(offering, r, level, places),
+            Some(places) => self.closed_in(offering, rows, r, level, places),
             None => OPEN,
         }
     }

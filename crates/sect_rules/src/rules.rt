@@ -1,16 +1,21 @@
 // The first rule that a decision breaks.
 
-ghost use Rattle.std.specs.Prelude.{◌≡◌, Contains, IsTrue};
-ghost use Rattle.sect_model.specs.Path.{options_at};
+ghost use Rattle.std.specs.Prelude.{◌≡◌, Contains, IsTrue, Some, None, option_copied};
+ghost use Rattle.std.specs.Option.{option_and_then};
+ghost use Rattle.sect_model.specs.Path.{options_at, want_at};
 ghost use Rattle.sect_model.specs.Stands.{MoveStands};
-ghost use Rattle.sect_model.specs.Rules.{leaf_of, first_broken, rules_on, joined as decided};
+ghost use Rattle.sect_model.specs.World.{offering_of, reservation_of};
+ghost use Rattle.sect_model.specs.Rules.{leaf_of, first_broken, rules_on, joined};
+ghost use Rattle.sect_rules.specs.Ground.{IsGround, IsGroundOf};
 ghost use Rattle.sect_rules.specs.Standing.{stands};
 
+use crate::ground::Ground;
 use crate::moment::Moment;
-use crate::options::want_of;
 use crate::path::PathOf;
-use sect_base::{Move, ReservationId, Rule, Want};
+use crate::stage::Stage;
+use sect_base::{CourseId, Move, Rule, Want};
 use sect_model::Pick;
+use sect_reserve::Reservation;
 use sect_space::World;
 
 /// The first rule, in numbered order, that the decision breaks, with its number; tested in the
@@ -26,36 +31,100 @@ pub fn broken<const N: usize>(
     requires option { Contains (options_at world.now.world mv.now path.now) pick }
     ensures { result ≡ leaf_of world.now.world mv.now path.now pick }
 {
-    match want_of(mv, path) {
-        Some(want) => first_rule(&Moment::new(world, mv, path), want, path, pick),
+    path.is_short();
+    Stage::new(world, mv, path).broken(pick)
+}
+
+/// The first rule that the decision breaks, where the want, the ground and the reservation of the path are found.
+pub fn broken_at<const N: usize>(
+    world: &World,
+    mv: &Move,
+    path: &PathOf<N>,
+    want: Option<&Want>,
+    ground: Option<Ground>,
+    r: Option<&Reservation>,
+    pick: Pick,
+) -> Option<(Rule, u32)>
+    requires stands { MoveStands world.now.world mv.now }
+    requires option { Contains (options_at world.now.world mv.now path.now) pick }
+    requires want { option_copied want ≡ want_at mv.now path.now }
+    requires ground { IsGroundOf world.now.world path.now.course ground }
+    requires joined { option_copied r ≡ option_and_then (reservation_of world.now.world) (joined path.now.reservation) }
+    ensures { result ≡ leaf_of world.now.world mv.now path.now pick }
+{
+    match want {
+        Some(want) => first_rule(&Moment::new(world, mv, path), ground, r, want, path, pick),
         None => None,
     }
 }
 
+/// The first rule that a decision for this want breaks.
 fn first_rule<const N: usize>(
+    at: &Moment,
+    ground: Option<Ground>,
+    r: Option<&Reservation>,
+    want: &Want,
+    path: &PathOf<N>,
+    pick: Pick,
+) -> Option<(Rule, u32)>
+    requires stands { IsTrue (stands at.now.at path.now pick) }
+    requires ground { IsGroundOf at.now.at path.now.course ground }
+    requires joined { option_copied r ≡ option_and_then (reservation_of at.now.at) (joined path.now.reservation) }
+    ensures { result ≡ first_broken (rules_on at.now.at at.now.student want.now path.now pick) }
+{
+    match ground {
+        Some(ground) => match path.course() {
+            Some(course) => rule_on(at, &ground, course, r, want, path, pick),
+            None => rule_on_none(at, want, path, pick),
+        },
+        None => rule_on_none(at, want, path, pick),
+    }
+}
+
+/// The first rule that a decision breaks, on this ground and by this reservation, or by none.
+fn rule_on<const N: usize>(
+    at: &Moment,
+    ground: &Ground,
+    course: CourseId,
+    r: Option<&Reservation>,
+    want: &Want,
+    path: &PathOf<N>,
+    pick: Pick,
+) -> Option<(Rule, u32)>
+    requires stands { IsTrue (stands at.now.at path.now pick) }
+    requires ground { IsGround at.now.at ground.now }
+    requires course { path.now.course ≡ Some course }
+    requires offering { offering_of at.now.at course ≡ Some ground.now.offering.now }
+    requires joined { option_copied r ≡ option_and_then (reservation_of at.now.at) (joined path.now.reservation) }
+    ensures { result ≡ first_broken (rules_on at.now.at at.now.student want.now path.now pick) }
+{
+    match pick {
+        Pick::Course(id) => at.course_rule(id),
+        Pick::Reservation(id) => at.reservation_rule(ground, course, at.named(id)),
+        Pick::Config(id) => at.config_rule(ground, course, r, id),
+        Pick::Section(id) => {
+            let config = path.config()?;
+            at.section_rule(want, ground, course, r, config, path.sections(), id)
+        }
+    }
+}
+
+/// The first rule that a decision breaks where no offering was found: only a course can break one.
+fn rule_on_none<const N: usize>(
     at: &Moment,
     want: &Want,
     path: &PathOf<N>,
     pick: Pick,
 ) -> Option<(Rule, u32)>
-    requires { IsTrue (stands at.now.at path.now pick) }
+    requires { option_and_then (offering_of at.now.at) path.now.course ≡ None }
     ensures { result ≡ first_broken (rules_on at.now.at at.now.student want.now path.now pick) }
 {
+    let _ = want;
+    let _ = path;
     match pick {
-        Pick::Course(course) => at.course_rule(course),
-        Pick::Reservation(id) => at.reservation_rule(path.course()?, id),
-        Pick::Config(id) => at.config_rule(path.course()?, joined(path), id),
-        Pick::Section(id) => {
-            let course = path.course()?;
-            let config = path.config()?;
-            at.section_rule(want, course, joined(path), config, path.sections(), id)
-        }
+        Pick::Course(id) => at.course_rule(id),
+        Pick::Reservation(_) => None,
+        Pick::Config(_) => None,
+        Pick::Section(_) => None,
     }
-}
-
-/// The reservation that was decided on, if one was.
-fn joined<const N: usize>(path: &PathOf<N>) -> Option<ReservationId>
-    ensures { result ≡ decided path.now.reservation }
-{
-    path.reservation()?
 }

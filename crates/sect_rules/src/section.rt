@@ -1,27 +1,27 @@
 // The rules on a section.
 
-ghost use Rattle.std.specs.Prelude.{◌≡◌, ◌<◌, ◌==◌, [], ◌∷◌, ◌++◌, not, false, length, map, filter, option_copied, IsTrue};
+ghost use Rattle.std.specs.Prelude.{◌≡◌, ◌<◌, ◌==◌, [], ◌∷◌, ◌++◌, Some, not, false, length, map, filter, option_copied, IsTrue};
 ghost use Rattle.std.specs.Option.{option_map_or, option_and_then};
 ghost use Rattle.sect_catalog.specs.Catalogue.{find_section, places as limit_places};
 ghost use Rattle.sect_reserve.specs.Audience.{admits_section as has_section, empty_or_any};
-ghost use Rattle.sect_model.specs.World.{offering_of, reservation_of, meetings_of};
+ghost use Rattle.sect_model.specs.World.{offering_of, meetings_of};
 ghost use Rattle.sect_model.specs.Choice.{has_parent};
 ghost use Rattle.sect_model.specs.Allowed.{free_times, meets_at};
 ghost use Rattle.sect_model.specs.Path.{next_subpart};
 ghost use Rattle.sect_model.specs.Rules.{first_broken, least, section_rules};
 ghost use Rattle.sect_base.specs.declared.limit.Level.TheVariants.{Section};
 ghost use Rattle.sect_time.specs.Pattern.{lists_overlap};
+ghost use Rattle.sect_rules.specs.Ground.{IsGround};
 ghost use Rattle.sect_rules.specs.Reserved.{are_own};
 ghost use Rattle.sect_rules.specs.Standing.{own_section};
 ghost use Rattle.sect_rules.specs.Tables.{standing_rules, space_rules, time_rules};
 ghost use Rattle.sect_rules.specs.FreeTimes.{meets_free, first_free as first_free_time};
 
+use crate::ground::Ground;
 use crate::moment::Moment;
 use crate::reserved::limited;
-use sect_base::{
-    ConfigId, CourseId, Level, OfferingId, ReservationId, Rule, SectionId, Sections, Want,
-};
-use sect_catalog::{OfferingRow, SectionRow};
+use sect_base::{ConfigId, CourseId, Level, Rule, SectionId, Sections, Want};
+use sect_catalog::SectionRow;
 use sect_people::Ask;
 use sect_reserve::{Reservation, admits_section};
 use sect_time::{Meeting, overlaps};
@@ -146,7 +146,7 @@ impl Moment<'_> {
     /// The first rule on where a section stands.
     fn standing_rule(
         &self,
-        offering: &OfferingRow,
+        ground: &Ground,
         course: CourseId,
         r: Option<&Reservation>,
         config: ConfigId,
@@ -154,16 +154,23 @@ impl Moment<'_> {
         section: SectionId,
         row: Option<&SectionRow>,
     ) -> Option<(Rule, u32)>
+        requires ground { IsGround self.now.at ground.now }
         requires bound { length sections < 6 }
         requires row { option_copied row ≡ find_section self.now.at.catalogue.rows section }
-        ensures { result ≡ first_broken (standing_rules self.now.at self.now.student offering.now course (option_copied r.entry) config sections section) }
+        ensures { result ≡ first_broken (standing_rules self.now.at self.now.student ground.now.offering.now course (option_copied r.entry) config sections section) }
     {
         let earlier = sections.as_slice();
         if self.excludes_section(r, course, config, earlier, section) {
             return Some((Rule::NotIncluded, section.0));
         }
         let all = with(sections, section);
-        if self.is_restricted(offering.id, course, config, all.as_slice()) {
+        if self.is_restricted(
+            ground.offering.id,
+            ground.restrictions,
+            course,
+            config,
+            all.as_slice(),
+        ) {
             return Some((Rule::Restricted, section.0));
         }
         if self.catalogue().is_cancelled(section) {
@@ -178,16 +185,23 @@ impl Moment<'_> {
     /// The first rule on the places of a section of this offering.
     fn space_rule(
         &self,
-        offering: OfferingId,
+        ground: &Ground,
         r: Option<&Reservation>,
         section: SectionId,
         row: Option<&SectionRow>,
     ) -> Option<(Rule, u32)>
-        requires own { IsTrue (are_own self.now.at offering (Section section)) }
+        requires ground { IsGround self.now.at ground.now }
+        requires own { IsTrue (are_own self.now.at ground.now.offering.now.id (Section section)) }
         requires row { option_copied row ≡ find_section self.now.at.catalogue.rows section }
         ensures { result ≡ first_broken (space_rules self.now.at (option_copied r.entry) section) }
     {
-        let closed = self.closed_with(offering, r, Level::Section(section), places(row));
+        let closed = self.closed_with(
+            ground.offering.id,
+            ground.reservations,
+            r,
+            Level::Section(section),
+            places(row),
+        );
         if closed.full {
             return Some((Rule::SectionFull, section.0));
         }
@@ -226,27 +240,25 @@ impl Moment<'_> {
     pub fn section_rule(
         &self,
         want: &Want,
+        ground: &Ground,
         course: CourseId,
-        id: Option<ReservationId>,
+        r: Option<&Reservation>,
         config: ConfigId,
         sections: Sections,
         section: SectionId,
     ) -> Option<(Rule, u32)>
-        requires { IsTrue (own_section self.now.at course config sections section) }
-        ensures { result ≡ first_broken (option_map_or
-            (λ o. section_rules self.now.at self.now.student want.now o course
-            (option_and_then (reservation_of self.now.at) id) config sections section) (offering_of self.now.at course) []) }
+        requires ground { IsGround self.now.at ground.now }
+        requires offering { offering_of self.now.at course ≡ Some ground.now.offering.now }
+        requires own { IsTrue (own_section self.now.at course config sections section) }
+        ensures { result ≡ first_broken (section_rules self.now.at self.now.student want.now
+            ground.now.offering.now course (option_copied r.entry) config sections section) }
     {
         self.recall_kept();
-        let offering = self.offering(course)?;
-        let r = self.named(id);
         let row = self.catalogue().section(section);
-        if let Some(rule) = self.standing_rule(
-            offering, course, r, config, sections, section, row,
-        ) {
+        if let Some(rule) = self.standing_rule(ground, course, r, config, sections, section, row) {
             return Some(rule);
         }
-        if let Some(rule) = self.space_rule(offering.id, r, section, row) {
+        if let Some(rule) = self.space_rule(ground, r, section, row) {
             return Some(rule);
         }
         self.time_rule(want, r, sections.as_slice(), section, row)

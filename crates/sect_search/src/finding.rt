@@ -13,7 +13,7 @@ use crate::walk::below;
 use crate::walked::Walked;
 use sect_base::{Block, Budget, Items, Memory, Move};
 use sect_model::Outcome;
-use sect_rules::PathOf;
+use sect_rules::{PathOf, Stage};
 use sect_space::World;
 use sect_steps::Steps;
 use std::alloc::Global;
@@ -78,7 +78,12 @@ fn find<const N: usize>(
     }
     let mut left = budget.get();
     Ok(
-        match below(alloc, world, mv, &start, decisions(mv), &mut left)? {
+        match below(
+            alloc,
+            &Stage::new(world, mv, &start),
+            decisions(mv),
+            &mut left,
+        )? {
             Walked::Found(choices) => Outcome::Found(choices, budget.get() - left),
             Walked::Refuted(trees) => Outcome::Blocked(Block::split(trees), budget.get() - left),
             Walked::Spent => Outcome::Spent(budget.get()),

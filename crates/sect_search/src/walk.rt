@@ -9,24 +9,22 @@ ghost use Rattle.sect_model.specs.Search.{refuted, search_pick, search_from};
 ghost use Rattle.sect_search.specs.Told.{told, seen, WalkedNumbers, SeenNumbers};
 
 use crate::walked::{Visited, Walked};
-use sect_base::{Block, Choice, Items, Memory, Move};
-use sect_rules::{PathOf, Pick, broken, option};
-use sect_space::World;
+use sect_base::{Block, Choice, Items, Memory};
+use sect_rules::{Pick, Stage};
 use std::alloc::Global;
 
 /// The search below a path, of at most so many decisions, with what is left of the budget.
 #[cycle(walking)]
 pub fn below<const N: usize>(
     alloc: Global,
-    world: &World,
-    mv: &Move,
-    path: &PathOf<N>,
+    stage: &Stage<N>,
     decisions: u32,
     left: &mut u32,
 ) -> Result<Walked, Memory>
-    requires stands { MoveStands world.now.world mv.now }
-    requires room { length mv.now.take ≤ N }
-    ensures found { IfOk result (λ r. told r left.new ≡ search_from world.now.world mv.now decisions path.now left.old) }
+    requires stands { MoveStands stage.now.world stage.now.mv }
+    requires room { length stage.now.mv.take ≤ N }
+    requires limit { N ≤ 20 }
+    ensures found { IfOk result (λ r. told r left.new ≡ search_from stage.now.world stage.now.mv decisions stage.now.path left.old) }
     ensures numbers { IfOk result WalkedNumbers }
     ensures less { left.new ≤ left.old }
 {
@@ -36,12 +34,12 @@ pub fn below<const N: usize>(
         return Ok(Walked::Refuted(trees));
     }
     let mut at = 0;
-    'options: while let Some(pick) = option(world, mv, path, at) {
+    'options: while let Some(pick) = stage.option(at) {
         if *left == 0 {
             return Ok(Walked::Spent);
         }
         *left -= 1;
-        match visit(alloc, world, mv, path, pick, decisions, left)? {
+        match visit(alloc, stage, pick, decisions, left)? {
             Visited::Found(choices) => return Ok(Walked::Found(choices)),
             Visited::Refuted(tree) => trees.push(tree)?,
             Visited::Spent => return Ok(Walked::Spent),
@@ -55,33 +53,32 @@ pub fn below<const N: usize>(
 #[cycle(walking)]
 fn visit<const N: usize>(
     alloc: Global,
-    world: &World,
-    mv: &Move,
-    path: &PathOf<N>,
+    stage: &Stage<N>,
     pick: Pick,
     decisions: u32,
     left: &mut u32,
 ) -> Result<Visited, Memory>
-    requires stands { MoveStands world.now.world mv.now }
-    requires room { length mv.now.take ≤ N }
-    requires option { Contains (options_at world.now.world mv.now path.now) pick }
+    requires stands { MoveStands stage.now.world stage.now.mv }
+    requires room { length stage.now.mv.take ≤ N }
+    requires limit { N ≤ 20 }
+    requires option { Contains (options_at stage.now.world stage.now.mv stage.now.path) pick }
     requires some { 0 < decisions }
     ensures found { IfOk result (λ r. seen r left.new
-        ≡ search_pick (leaf_of world.now.world mv.now path.now pick) (is_complete mv.now (extend world.now.world path.now pick))
-        (extend world.now.world path.now pick).done
-        (search_from world.now.world mv.now (decisions - 1) (extend world.now.world path.now pick))
+        ≡ search_pick (leaf_of stage.now.world stage.now.mv stage.now.path pick) (is_complete stage.now.mv (extend stage.now.world stage.now.path pick))
+        (extend stage.now.world stage.now.path pick).done
+        (search_from stage.now.world stage.now.mv (decisions - 1) (extend stage.now.world stage.now.path pick))
         (λ left. refuted [] left) left.old) }
     ensures numbers { IfOk result SeenNumbers }
     ensures less { left.new ≤ left.old }
 {
-    if let Some((rule, number)) = broken(world, mv, path, pick) {
+    if let Some((rule, number)) = stage.broken(pick) {
         return Ok(Visited::Refuted(Block::broken(rule, number)));
     }
-    let next = path.extended(world, mv, pick);
-    if next.is_complete(mv) {
+    let next = stage.extended(pick);
+    if stage.is_complete_by(&next) {
         return Ok(Visited::Found(choices(alloc, next.done())?));
     }
-    match below(alloc, world, mv, &next, decisions - 1, left)? {
+    match below(alloc, &stage.other(&next), decisions - 1, left)? {
         Walked::Found(choices) => Ok(Visited::Found(choices)),
         Walked::Refuted(trees) => Ok(Visited::Refuted(Block::split(trees))),
         Walked::Spent => Ok(Visited::Spent),

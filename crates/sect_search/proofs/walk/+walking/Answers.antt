@@ -10,9 +10,9 @@ use Rattle.sect_search.proofs.walk.+walking.Goals as goal
 
 pub below-returns-then-left-eq0-clause-found : goal.below-returns-then-left-eq0-clause-found
 below-returns-then-left-eq0-clause-found g t c =
-    let w = c.args.world.now.world in
-    let mv = c.args.mv.now in
-    let p = c.args.path.now in
+    let w = c.args.stage.now.world in
+    let mv = c.args.stage.now.mv in
+    let p = c.args.stage.now.path in
     let rest = search_from w mv (c.args.decisions - 1) in
     sym (search-some w mv c.args.decisions p c.args.left.now (omega (arith, c.if-decisions-eq0.false))
     ∙ c.options.invariant.same
@@ -21,9 +21,9 @@ below-returns-then-left-eq0-clause-found g t c =
 
 pub below-returns-in-Found-clause-found : goal.below-returns-in-Found-clause-found
 below-returns-in-Found-clause-found g t c =
-    let w = c.args.world.now.world in
-    let mv = c.args.mv.now in
-    let p = c.args.path.now in
+    let w = c.args.stage.now.world in
+    let mv = c.args.stage.now.mv in
+    let p = c.args.stage.now.path in
     sym (search-some w mv c.args.decisions p c.args.left.now (omega (arith, c.if-decisions-eq0.false))
     ∙ c.options.invariant.same
     ∙ from-found w mv (search_from w mv (c.args.decisions - 1)) p (options_at w mv p) c.options.trees.items c.options.at (c.options.left - 1) c.options.left c.visit.new.left c.in-Some.pick c.in-Found.choices
@@ -31,9 +31,9 @@ below-returns-in-Found-clause-found g t c =
 
 pub below-returns-in-Spent-clause-found : goal.below-returns-in-Spent-clause-found
 below-returns-in-Spent-clause-found g t c =
-    let w = c.args.world.now.world in
-    let mv = c.args.mv.now in
-    let p = c.args.path.now in
+    let w = c.args.stage.now.world in
+    let mv = c.args.stage.now.mv in
+    let p = c.args.stage.now.path in
     sym (search-some w mv c.args.decisions p c.args.left.now (omega (arith, c.if-decisions-eq0.false))
     ∙ c.options.invariant.same
     ∙ from-over w mv (search_from w mv (c.args.decisions - 1)) p (options_at w mv p) c.options.trees.items c.options.at (c.options.left - 1) c.options.left c.in-Some.pick
@@ -44,9 +44,9 @@ below-overflow_add-at g t c = omega (arith, c.options.invariant.less, c.if-left-
 
 pub below-options-preserved : goal.below-options-preserved
 below-options-preserved g t c =
-    let w = c.args.world.now.world in
-    let mv = c.args.mv.now in
-    let p = c.args.path.now in
+    let w = c.args.stage.now.world in
+    let mv = c.args.stage.now.mv in
+    let p = c.args.stage.now.path in
     let rest = search_from w mv (c.args.decisions - 1) in record {
       same = c.options.invariant.same
           ∙ from-next w mv rest p (options_at w mv p) c.options.trees.items c.options.at (c.options.left - 1) c.options.left c.visit.new.left c.in-Some.pick c.in-Refuted.tree
@@ -60,9 +60,9 @@ below-options-preserved g t c =
 
 pub below-returns-clause-found : goal.below-returns-clause-found
 below-returns-clause-found g t c =
-    let w = c.args.world.now.world in
-    let mv = c.args.mv.now in
-    let p = c.args.path.now in
+    let w = c.args.stage.now.world in
+    let mv = c.args.stage.now.mv in
+    let p = c.args.stage.now.path in
     sym (search-some w mv c.args.decisions p c.args.left.now (omega (arith, c.if-decisions-eq0.false))
     ∙ c.options.invariant.same
     ∙ from-none w mv (search_from w mv (c.args.decisions - 1)) p (options_at w mv p) c.options.trees.items c.options.at c.options.left (sym c.option.ensures.value ∙ c.in_default.is))

@@ -15,8 +15,8 @@ decreases-visit g l = 2 * l.decisions
 
 abbrev pub invariant-below-options : goal.invariant-below-options
 invariant-below-options g l = record {
-  same : search_options l.world.world l.mv (search_from l.world.world l.mv (l.decisions - 1)) l.path (options_at l.world.world l.mv l.path) l.initial.left
-      ≡ with_trees l.trees.items (search_options l.world.world l.mv (search_from l.world.world l.mv (l.decisions - 1)) l.path (drop l.at (options_at l.world.world l.mv l.path)) l.left);
+  same : search_options l.stage.world l.stage.mv (search_from l.stage.world l.stage.mv (l.decisions - 1)) l.stage.path (options_at l.stage.world l.stage.mv l.stage.path) l.initial.left
+      ≡ with_trees l.trees.items (search_options l.stage.world l.stage.mv (search_from l.stage.world l.stage.mv (l.decisions - 1)) l.stage.path (drop l.at (options_at l.stage.world l.stage.mv l.stage.path)) l.left);
   less : l.at + l.left ≤ l.budget;
   whole : l.budget ≡ l.initial.left;
   numbers : HaveNumbers (trees_of l.trees.items);

@@ -8,15 +8,15 @@ use Rattle.sect_rules.proofs.moment.Moment.is_taken.Goals as goal
 pub returns-in-None : goal.returns-in-None
 returns-in-None c =
     let v = c.args.self.now.at in
-    sym (taken-all v c.args.level c.loop-r.left c.reservations-r-items.result.now c.loop-r.r-index c.r-item.result c.loop-r-test.true c.r-item.is c.in-None.ensures)
+    sym (taken-all v c.args.level c.loop-r.left c.args.rows.now c.loop-r.r-index c.r-item.result c.loop-r-test.true c.r-item.is c.in-None.ensures)
     ∙ sym c.loop-r.invariant
-    ∙ ap (takes_all v c.args.level (c.args.places - count_of v c.args.level)) c.reservations-r-items.ensures
+    ∙ ap (takes_all v c.args.level (c.args.places - count_of v c.args.level)) c.requires.rows
     ∙ space-taken v c.args.offering c.args.level c.args.places c.requires.own
 
 pub returns : goal.returns
 returns c =
     let v = c.args.self.now.at in
-    sym (taken-end v c.args.level c.loop-r.left c.reservations-r-items.result.now c.loop-r.r-index c.loop-r-test.false)
+    sym (taken-end v c.args.level c.loop-r.left c.args.rows.now c.loop-r.r-index c.loop-r-test.false)
     ∙ sym c.loop-r.invariant
-    ∙ ap (takes_all v c.args.level (c.args.places - count_of v c.args.level)) c.reservations-r-items.ensures
+    ∙ ap (takes_all v c.args.level (c.args.places - count_of v c.args.level)) c.requires.rows
     ∙ space-taken v c.args.offering c.args.level c.args.places c.requires.own

@@ -5,4 +5,4 @@ use Rattle.sect_rules.specs.Reserved.{takes_all}
 use Rattle.sect_rules.proofs.moment.Moment.is_taken.Given as goal
 
 abbrev pub invariant-loop-r : goal.invariant-loop-r
-invariant-loop-r l = takes_all l.self.at l.level (l.places - count_of l.self.at l.level) l.r-items ≡ takes_all l.self.at l.level l.left (drop l.r-index l.r-items)
+invariant-loop-r l = takes_all l.self.at l.level (l.places - count_of l.self.at l.level) l.rows ≡ takes_all l.self.at l.level l.left (drop l.r-index l.rows)

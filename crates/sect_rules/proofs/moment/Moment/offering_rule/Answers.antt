@@ -2,5 +2,5 @@
 use Rattle.sect_rules.proofs.ReservedLemmas.{own-offering}
 use Rattle.sect_rules.proofs.moment.Moment.offering_rule.Goals as goal
 
-pub closed-closed-requires : goal.closed-closed-requires
-closed-closed-requires c = own-offering c.args.self.now.at.reservations c.args.offering.now.id
+pub closed-closed-requires-clause-own : goal.closed-closed-requires-clause-own
+closed-closed-requires-clause-own c = own-offering c.args.self.now.at.reservations c.args.offering.now.id

@@ -1,8 +1,7 @@
 -- the section is the offering's own, and its table is in three parts
-use Rattle.std.proofs.Common.{◌≡◌, ◌++◌, sym, ◌∙◌, ap, Option, Some, None, []}
+use Rattle.std.proofs.Common.{◌≡◌, ◌++◌, sym, ◌∙◌, ap, Option, Some, None}
 use Rattle.sect_catalog.specs.Catalogue.{find_section}
 use Rattle.std.specs.Prelude.{ℕ, List, option_copied}
-use Rattle.std.specs.Option.{option_map_or}
 use Rattle.sect_model.specs.Data.{StudentId, CourseId, ConfigId, SectionId, OfferingRow, Want, Reservation, Rule}
 use Rattle.sect_model.specs.World.{World}
 use Rattle.sect_model.specs.Rules.{first_broken, section_rules}
@@ -15,10 +14,6 @@ module _ (v : World) (st : StudentId) (want : Want) (course : CourseId) (config 
   -- the table of an offering and a reservation
   abbrev table : OfferingRow → Option Reservation → List (Rule × Option ℕ)
   table o r = section_rules v st want o course r config sections section
-
-  -- that of what is found
-  named : (o : OfferingRow) (x : Option OfferingRow) (r s : Option Reservation) → Some o ≡ x → r ≡ s → first_broken (table o r) ≡ first_broken (option_map_or (λ o. table o s) x [])
-  named o x r s e f = (λ i. first_broken (table o (f i))) ∙ (λ i. first_broken (option_map_or (λ o. table o s) (e i) []))
 
   abbrev standing : OfferingRow → Option Reservation → List (Rule × Option ℕ)
   standing o r = standing_rules v st o course r config sections section
@@ -39,35 +34,34 @@ module _ (v : World) (st : StudentId) (want : Want) (course : CourseId) (config 
 
 pub standing_rule-requires : goal.standing_rule-requires
 standing_rule-requires c = record {
-  few = sections-few c.args.self.now.at c.recall_kept.ensures.checked c.args.course c.args.config c.args.sections c.args.section c.requires;
+  ground = c.requires.ground;
+  few = sections-few c.args.self.now.at c.recall_kept.ensures.checked c.args.course c.args.config c.args.sections c.args.section c.requires.own;
   row = c.section-row.ensures ∙ ap (λ k. find_section k.rows c.args.section) c.catalogue.ensures;
 }
 
 pub space_rule-requires : goal.space_rule-requires
 space_rule-requires c = record {
-  own = section-own c.args.self.now.at c.recall_kept.ensures.checked c.args.course c.args.config c.args.sections c.args.section c.in_ok-offering.offering.now c.recall_kept.ensures.fit
-      (sym c.in_ok-offering.ensures) c.requires;
+  ground = c.requires.ground;
+  own = section-own c.args.self.now.at c.recall_kept.ensures.checked c.args.course c.args.config c.args.sections c.args.section c.args.ground.now.offering.now c.recall_kept.ensures.fit
+      c.requires.offering c.requires.own;
   row = c.section-row.ensures ∙ ap (λ k. find_section k.rows c.args.section) c.catalogue.ensures;
 }
 
 pub returns-in-Some : goal.returns-in-Some
 returns-in-Some c =
     let a = c.args in
-    in-standing a.self.now.at a.self.now.student a.want.now a.course a.config a.sections a.section c.in_ok-offering.offering.now (option_copied c.named-r.result) c.in-Some.rule c.in-Some.ensures
-    ∙ named a.self.now.at a.self.now.student a.want.now a.course a.config a.sections a.section c.in_ok-offering.offering.now _ (option_copied c.named-r.result) _ c.in_ok-offering.ensures c.named-r.ensures
+    in-standing a.self.now.at a.self.now.student a.want.now a.course a.config a.sections a.section a.ground.now.offering.now (option_copied a.r) c.in-Some.rule c.in-Some.ensures
 
 pub returns-in-Some-space_rule : goal.returns-in-Some-space_rule
 returns-in-Some-space_rule c =
     let a = c.args in
-    in-space a.self.now.at a.self.now.student a.want.now a.course a.config a.sections a.section c.in_ok-offering.offering.now (option_copied c.named-r.result) c.in-Some-space_rule.rule
+    in-space a.self.now.at a.self.now.student a.want.now a.course a.config a.sections a.section a.ground.now.offering.now (option_copied a.r) c.in-Some-space_rule.rule
     (sym c.in_default.is ∙ c.standing_rule.ensures) c.in-Some-space_rule.ensures
-    ∙ named a.self.now.at a.self.now.student a.want.now a.course a.config a.sections a.section c.in_ok-offering.offering.now _ (option_copied c.named-r.result) _ c.in_ok-offering.ensures c.named-r.ensures
 
 pub returns : goal.returns
 returns c =
     let a = c.args in
     c.time_rule.ensures
-    ∙ (λ i. first_broken (time_rules a.self.now.at a.self.now.student a.want.now (option_copied c.named-r.result) (c.as_slice.ensures i) a.section))
-    ∙ in-time a.self.now.at a.self.now.student a.want.now a.course a.config a.sections a.section c.in_ok-offering.offering.now (option_copied c.named-r.result)
+    ∙ (λ i. first_broken (time_rules a.self.now.at a.self.now.student a.want.now (option_copied a.r) (c.as_slice.ensures i) a.section))
+    ∙ in-time a.self.now.at a.self.now.student a.want.now a.course a.config a.sections a.section a.ground.now.offering.now (option_copied a.r)
     (sym c.in_default.is ∙ c.standing_rule.ensures) (sym c.in_default-space_rule.is ∙ c.space_rule.ensures)
-    ∙ named a.self.now.at a.self.now.student a.want.now a.course a.config a.sections a.section c.in_ok-offering.offering.now _ (option_copied c.named-r.result) _ c.in_ok-offering.ensures c.named-r.ensures

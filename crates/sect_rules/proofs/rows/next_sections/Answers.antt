@@ -5,7 +5,7 @@ use Rattle.sect_people.specs.Order.{all_differ}
 use Rattle.sect_model.specs.Choice.{subparts_of}
 use Rattle.sect_rules.proofs.NthLemmas.{member-got}
 use Rattle.sect_rules.proofs.IdLemmas.{subpart-sections}
-use Rattle.sect_rules.proofs.place.next_sections.Goals as goal
+use Rattle.sect_rules.proofs.rows.next_sections.Goals as goal
 
 pub returns-in-Some-clause-differ : goal.returns-in-Some-clause-differ
 returns-in-Some-clause-differ c =

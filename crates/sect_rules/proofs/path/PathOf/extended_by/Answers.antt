@@ -4,7 +4,7 @@ use Rattle.std.specs.Prelude.{Contains}
 use Rattle.sect_model.specs.Path.{options_at}
 use Rattle.sect_model.specs.declared.pick.Pick.TheVariants.{Section}
 use Rattle.sect_rules.proofs.OwnLemmas.{option-stands, done-few, room}
-use Rattle.sect_rules.proofs.path.PathOf.extended.Goals as goal
+use Rattle.sect_rules.proofs.path.PathOf.extended_by.Goals as goal
 
 pub add-requires : goal.add-requires
 add-requires g c =

@@ -1,0 +1,25 @@
+-- A path of a move in a world, and what is found there.
+use Rattle.std.specs.Prelude.{◌≡◌, Option, option_copied}
+use Rattle.std.specs.Borrow.{Bor}
+use Rattle.std.specs.Option.{option_and_then}
+use Rattle.sect_model.specs.Data.{Move, Want, Reservation}
+use Rattle.sect_model.specs.World.{World, reservation_of}
+use Rattle.sect_model.specs.Path.{Path, want_at, options_at}
+use Rattle.sect_model.specs.Rules.{joined}
+use Rattle.sect_rules.specs.declared.ground.Ground.{Ground}
+use Rattle.sect_rules.specs.declared.options.Options.{Options}
+use Rattle.sect_rules.specs.Ground.{IsGroundOf}
+use Rattle.sect_rules.specs.Listed.{listed}
+
+-- a path of a move in a world
+pub record Place : Type 0 where
+  pub world : World
+  pub mv : Move
+  pub path : Path
+
+-- what is found is what the definitions give
+pub record IsPlace (w : World) (mv : Move) (p : Path) (want : Option (Bor Want)) (ground : Option Ground) (r : Option (Bor Reservation)) (options : Options) : Type 0 where
+  pub wanted : option_copied want ≡ want_at mv p
+  pub ground_is : IsGroundOf w p.course ground
+  pub by : option_copied r ≡ option_and_then (reservation_of w) (joined p.reservation)
+  pub listed_is : listed options ≡ options_at w mv p

@@ -1,0 +1,126 @@
+// The rows of options, on the ground of a course.
+
+ghost use Rattle.std.specs.Prelude.{◌≡◌, map, Some, [], IsTrue, option_copied};
+ghost use Rattle.std.specs.Option.{option_map_or};
+ghost use Rattle.sect_people.specs.Order.{all_differ};
+ghost use Rattle.sect_model.specs.Allowed.{reservations_of};
+ghost use Rattle.sect_model.specs.World.{offering_of};
+ghost use Rattle.sect_model.specs.Choice.{config_in, subparts_of};
+ghost use Rattle.sect_model.specs.Path.{sections_due, next_subpart};
+ghost use Rattle.sect_rules.specs.Ground.{IsGroundOf};
+
+use crate::ground::Ground;
+use crate::place::config_of_offering;
+use sect_base::{ConfigId, CourseId, SectionId};
+use sect_catalog::{ConfigRow, OfferingRow, SectionRow, SubpartRow};
+use sect_reserve::Reservation;
+use sect_space::World;
+
+/// The reservations of the course's offering, no two of one id.
+pub fn reservations<'a>(
+    world: &World,
+    course: CourseId,
+    ground: Option<Ground<'a>>,
+) -> &'a [Reservation]
+    requires { IsGroundOf world.now.world (Some course) ground }
+    ensures value { result.now ≡ option_map_or (λ o. reservations_of world.now.world o.id) (offering_of world.now.world course) [] }
+    ensures differ { IsTrue (all_differ (map (λ r. r.id.0) result.now)) }
+{
+    let _ = course;
+    world.recall_kept();
+    match ground {
+        Some(ground) => ground.reservations,
+        None => &[],
+    }
+}
+
+/// The configurations of the course's offering, no two of one id.
+pub fn configs<'a>(world: &World, course: CourseId, ground: Option<Ground<'a>>) -> &'a [ConfigRow]
+    requires { IsGroundOf world.now.world (Some course) ground }
+    ensures value { result.now ≡ option_map_or (λ o. o.configs) (offering_of world.now.world course) [] }
+    ensures differ { IsTrue (all_differ (map (λ g. g.id.0) result.now)) }
+{
+    let _ = course;
+    world.recall_kept();
+    match ground {
+        Some(ground) => ground.offering.configs.as_slice(),
+        None => &[],
+    }
+}
+
+/// The subparts of a configuration of the course's offering.
+pub fn subparts<'a>(
+    world: &World,
+    course: CourseId,
+    ground: Option<Ground<'a>>,
+    config: ConfigId,
+) -> &'a [SubpartRow]
+    requires { IsGroundOf world.now.world (Some course) ground }
+    ensures { result.now ≡ subparts_of world.now.world course config }
+{
+    let _ = world;
+    let _ = course;
+    match ground {
+        Some(ground) => subparts_in(ground.offering, config),
+        None => &[],
+    }
+}
+
+/// The subparts of a configuration of the offering.
+fn subparts_in(offering: &OfferingRow, config: ConfigId) -> &[SubpartRow]
+    ensures { result.now ≡ option_map_or (λ g. g.subparts) (config_in offering.now config) [] }
+{
+    match config_of_offering(offering, config) {
+        Some(row) => row.subparts.as_slice(),
+        None => &[],
+    }
+}
+
+/// How many sections the choice that is being made takes.
+pub fn due(
+    world: &World,
+    course: Option<CourseId>,
+    ground: Option<Ground>,
+    config: Option<ConfigId>,
+) -> usize
+    requires { IsGroundOf world.now.world course ground }
+    ensures { result ≡ sections_due world.now.world course config }
+{
+    match (course, config) {
+        (Some(course), Some(config)) => subparts(world, course, ground, config).len(),
+        _ => 0,
+    }
+}
+
+/// The subpart that comes after so many sections.
+fn subpart_after<'a>(
+    world: &World,
+    course: CourseId,
+    ground: Option<Ground<'a>>,
+    config: ConfigId,
+    sections: &[SectionId],
+) -> Option<&'a SubpartRow>
+    requires { IsGroundOf world.now.world (Some course) ground }
+    ensures { option_copied result ≡ next_subpart world.now.world course config sections.now }
+{
+    subparts(world, course, ground, config).get(sections.len())
+}
+
+/// The sections of the subpart that comes after those chosen, no two of one id.
+pub fn next_sections<'a>(
+    world: &World,
+    course: CourseId,
+    ground: Option<Ground<'a>>,
+    config: ConfigId,
+    sections: &[SectionId],
+) -> &'a [SectionRow]
+    requires { IsGroundOf world.now.world (Some course) ground }
+    ensures value { result.now ≡ option_map_or (λ p. p.sections) (next_subpart world.now.world course config sections.now) [] }
+    ensures differ { IsTrue (all_differ (map (λ s. s.id.0) result.now)) }
+{
+    world.recall_kept();
+    match subpart_after(world, course, ground, config, sections) {
+        Some(row) => row.sections.as_slice(),
+        None => &[],
+    }
+}
