@@ -1,5 +1,5 @@
 -- Slots, and the list of all their enrolments.
-use Rattle.std.specs.Prelude.{◌≡◌, ℕ, zero, suc, ◌<◌, ◌≤◌, Bool, true, false, not, ◌||◌, ◌==◌, nat_lt, nat_le, cond, List, [], ◌∷◌, ◌++◌, length, filter, insert, refl, slice_set}
+use Rattle.std.specs.Prelude.{◌≡◌, ℕ, zero, suc, ◌+◌, ◌<◌, ◌≤◌, Bool, true, false, not, ◌||◌, ◌==◌, nat_lt, nat_le, cond, List, [], ◌∷◌, ◌++◌, length, filter, insert, refl, slice_set}
 use Rattle.std.specs.List.{list_all, list_any}
 use Rattle.std.specs.List.Sorted.{IsPartitionPoint}
 use Rattle.std.proofs.Common.{sym, ◌∙◌, ap, subst, arith, get_or}
@@ -321,3 +321,24 @@ other-at n ss k s at is other l d =
     same [] j s d l = absurd (omega (arith, l))
     same (t ∷ ts) zero s d l = refl
     same (t ∷ ts) (suc j) s d l = same ts j s d (omega (arith, l))
+
+-- a student above the last that has a slot is above all
+pub all-lower : (n : ℕ) (ss : List Slotted) (m : ℕ) (d : Slotted) → are_slots ss ≡ true → m + 1 ≡ length ss → (get_or ss m d).student < n → rank (λ s. s.student) n ss ≡ length ss
+all-lower n [] m d h e low = refl
+all-lower n (s ∷ []) zero d h e low = ap (λ b. cond b 1 0) (below-it s.student low)
+  where
+    below-it : (a : ℕ) → a < n → nat_lt a n ≡ true
+    below-it a l = grind (arith, nat_tests, l)
+all-lower n (s ∷ []) (suc m) d h e low = absurd (omega (arith, e))
+all-lower n (s ∷ t ∷ ss) zero d h e low = absurd (omega (arith, e))
+all-lower n (s ∷ t ∷ ss) (suc m) d h e low =
+    let rest : rank (λ x. x.student) n (t ∷ ss) ≡ length (t ∷ ss) = all-lower n (t ∷ ss) m d (slots-rest s (t ∷ ss) h) (omega (arith, e)) low in
+    let next : nat_lt s.student t.student ≡ true = both-left (nat_lt s.student t.student) _ (higher-rest s (t ∷ ss) h) in
+    ap (λ b. cond b (suc (rank (λ x. x.student) n (t ∷ ss))) 0) (first s.student t.student (rank (λ x. x.student) n ss) next (omega (arith, rest))) ∙ ap (λ k. suc k) rest
+  where
+    first : (a b k : ℕ) → nat_lt a b ≡ true → 0 < cond (nat_lt b n) (suc k) 0 → nat_lt a n ≡ true
+    first a b k l some = by_test (nat_lt b n) refl some
+      where
+        by_test : (c : Bool) → nat_lt b n ≡ c → 0 < cond c (suc k) 0 → nat_lt a n ≡ true
+        by_test true e f = grind (arith, nat_tests, l, e)
+        by_test false e f = absurd (omega (arith, f))

@@ -99,6 +99,16 @@ impl Roster {
         self.slots[place].reserve(n)
     }
 
+    /// Gives a student a slot, with no room, where there is none: so students who come in order of id stand behind one
+    /// another. Where memory runs out, nothing is changed.
+    pub fn add_slot(&mut self, student: StudentId) -> Result<(), Memory>
+        ensures items { self.new.items ≡ self.old.items }
+        ensures grows { (m : ℕ) → capacity_of self.old.rooms m ≤ capacity_of self.new.rooms m }
+    {
+        let _ = slot_for(&mut self.slots, student)?;
+        Ok(())
+    }
+
     /// Puts the enrolment behind the others of its student. It takes no memory.
     pub fn insert(&mut self, enrolment: Enrolment)
         requires { number_held enrolment.student.0 self.old.items < capacity_of self.old.rooms enrolment.student.0 }
@@ -155,8 +165,32 @@ impl Roster {
     }
 }
 
-/// How many slots are of lower students.
+/// How many slots are of lower students. It takes no search where this student is above all that have one.
 fn rank(slots: &[Slot], student: StudentId) -> usize
+    requires { IsTrue (are_slots slots.now) }
+    ensures { result ≡ rank_of (λ s. s.student) student.0 slots.now }
+{
+    if is_above(slots, student) {
+        slots.len()
+    } else {
+        halved(slots, student)
+    }
+}
+
+/// Whether the student is above the last that has a slot.
+fn is_above(slots: &[Slot], student: StudentId) -> bool
+    requires { IsTrue (are_slots slots.now) }
+    ensures { IsTrue result → rank_of (λ s. s.student) student.0 slots.now ≡ length slots.now }
+{
+    let count = slots.len();
+    if count == 0 {
+        return true;
+    }
+    slots[count - 1].student() < student
+}
+
+/// How many slots are of lower students, found by halves.
+fn halved(slots: &[Slot], student: StudentId) -> usize
     requires { IsTrue (are_slots slots.now) }
     ensures { result ≡ rank_of (λ s. s.student) student.0 slots.now }
 {

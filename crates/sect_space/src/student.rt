@@ -15,23 +15,23 @@ use sect_people::{Ask, StudentRow};
 
 impl Parts {
     /// Adds a student, or replaces a known one's row. Where memory runs out, nothing is changed. A student who comes gets
-    /// room for an enrolment, so that those who come in order of id stand behind one another in the roster.
+    /// a slot, so that those who come in order of id stand behind one another in the roster.
     pub fn put_student(&mut self, row: StudentRow) -> Result<Back, Memory>
         ensures ok { IfOk result (λ back. Made (roomed_of self.old) (roomed_of self.new) (Change.Student row) back) }
         ensures err { OnErr result (Unchanged (roomed_of self.old) (roomed_of self.new)) }
     {
-        self.make_room(row.id)?;
+        self.make_slot(row.id)?;
         self.put_row(row)
     }
 
-    /// Makes room for an enrolment of a student who is unknown. Where memory runs out, there is as much as before.
-    fn make_room(&mut self, student: StudentId) -> Result<(), Memory>
+    /// Makes a slot in the roster for a student who is unknown. Where memory runs out, there is none more.
+    fn make_slot(&mut self, student: StudentId) -> Result<(), Memory>
         ensures same { Unchanged (roomed_of self.old) (roomed_of self.new) }
     {
         if self.people.row(student).is_some() {
             return Ok(());
         }
-        self.roster.reserve(student, 1)
+        self.roster.add_slot(student)
     }
 
     /// Adds a student, or replaces a known one's row, with no room made.

@@ -2,7 +2,7 @@
 use Rattle.std.proofs.Common.{rules, of_calls, nat_lt}
 use Rattle.std.proofs.lemmas.Fn.{always_returns_same}
 use Rattle.sect_slots.proofs.SlotLemmas.{point, parted}
-use Rattle.sect_slots.proofs.roster.rank.Goals as goal
+use Rattle.sect_slots.proofs.roster.halved.Goals as goal
 
 pub returns : goal.returns
 returns c =
