@@ -24,7 +24,7 @@ enrolled-requires-2 c =
     let b = c.requires in
     record {
       row = b.weeks.students c.args.enrolment.now.student (known-in w b.less c.args.enrolment.now b.is_more b.kept);
-      few = credits-few c.args.weeks.now w b.less c.args.enrolment.now b.is_more b.kept b.weeks c.args.enrolment.now.student;
+      bound = credits-few c.args.weeks.now w b.less c.args.enrolment.now b.is_more b.kept b.weeks c.args.enrolment.now.student;
     }
 
 pub returns-clause-weeks : goal.returns-clause-weeks

@@ -26,7 +26,7 @@ left-requires-2 c =
     let a = c.requires in
     record {
       row = a.weeks.students c.args.enrolment.now.student (known-in (with_roster w a.more) w.roster c.args.enrolment.now a.is_more a.kept);
-      few =
+      bound =
           subst (λ n. n ≤ 1000000000) (sym (ap length c.of_student-held.ensures))
           (part-few (with_roster w a.more) w.roster c.args.enrolment.now a.is_more a.kept (λ x. x.student.0 == c.args.enrolment.now.student.0));
     }
