@@ -164,7 +164,7 @@ pub told-on : (student : StudentId) (asks : List Ask) (w_old : World) (l_old : L
 told-on student asks w_old l_old n w l v m few told more b t =
     let one = ask-more asks n few in
     let before = take n (enumerate_from 1 asks) in
-    subst (Tells v m) (sym (ap (batch_asks b student) one.2 ∙ batch_asks-append before ((n + 1, one.0) ∷ []) b student)) (more (batch_asks b student before) one.0 one.1 (capped b t))
+    subst (Tells v m) (sym (ap (batch_asks b student) one.2 ∙ batch_asks-append before ((n + 1, one.0) ∷ []) b student)) (more (batch_asks b student before) one.0 one.1 (told b t))
 
 take_all : {X : Type 0} (n : ℕ) (xs : List X) → length xs ≤ n → take n xs ≡ xs
 take_all zero [] few = refl
@@ -175,7 +175,7 @@ take_all (suc n) (x ∷ xs) few = ap (λ ys. x ∷ ys) (take_all n xs (omega (ar
 pub told-all : (student : StudentId) (asks : List Ask) (w_old : World) (l_old : Lines) (n : ℕ) (w : World) (l : Lines) → length asks ≤ n → ToldAsks student asks w_old l_old n w l
     → (b : Batched) → Tells w_old l_old b → Tells w l (batch_asks b student (enumerate_from 1 asks))
 told-all student asks w_old l_old n w l all told b t =
-    subst (λ xs. Tells w l (batch_asks b student xs)) (take_all n (enumerate_from 1 asks) (enough (length (enumerate_from 1 asks)) (length asks) (length-enumerate_from 1 asks) all)) (capped b t)
+    subst (λ xs. Tells w l (batch_asks b student xs)) (take_all n (enumerate_from 1 asks) (enough (length (enumerate_from 1 asks)) (length asks) (length-enumerate_from 1 asks) all)) (told b t)
   where
     enough : (k j : ℕ) → k ≡ j → j ≤ n → k ≤ n
     enough k j e h = omega (arith, e, h)

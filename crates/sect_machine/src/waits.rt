@@ -1,7 +1,7 @@
 // Who waits: a student joins the waiting list, or leaves it.
 
 ghost use Rattle.std.specs.Prelude.{◌≡◌, IfOk, OnOk};
-ghost use Rattle.sect_wait.specs.Queued.{joined, queue_undo as queue_without};
+ghost use Rattle.sect_wait.specs.Queued.{joined, left as queue_without};
 ghost use Rattle.sect_wait.specs.Undo.{Since as QueueSince, Undoable as QueueUndoable};
 ghost use Rattle.sect_command.specs.declared.reply.Reply.TheVariants.{Waiting as waiting_by};
 

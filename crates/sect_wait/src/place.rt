@@ -10,7 +10,7 @@ ghost use Rattle.sect_model.specs.Fits.{Fits, changed};
 ghost use Rattle.sect_model.specs.Kept.{entry_fits};
 ghost use Rattle.sect_space.specs.Undo.{Since, Undoable};
 ghost use Rattle.sect_wait.specs.Opened.{OthersBut};
-ghost use Rattle.sect_wait.specs.Queued.{queue_undo as queue_without};
+ghost use Rattle.sect_wait.specs.Queued.{left as queue_without};
 ghost use Rattle.sect_wait.specs.Undo.{Since as QueueSince, Undoable as QueueUndoable};
 ghost use Rattle.sect_wait.specs.Placing.{given_up, moved, enrolment_of};
 ghost use Rattle.sect_wait.specs.Touched.{SeeksOnly, candidate_concerns, is_concerned};

@@ -1,7 +1,7 @@
 -- What the leaving may open is marked.
 use Rattle.std.proofs.Common.{◌∙◌, false, refl, sym}
 use Rattle.sect_model.specs.declared.change.Change.TheVariants.{Leave}
-use Rattle.sect_wait.proofs.MarkLemmas.{made-others, queue_undo-fit, on-ok}
+use Rattle.sect_wait.proofs.MarkLemmas.{made-others, left-fit, on-ok}
 use Rattle.sect_wait.proofs.NeedLemmas.{plain-marks}
 use Rattle.sect_wait.proofs.OpenedLemmas.{all-but, fallen-back}
 use Rattle.sect_wait.specs.Touched.{is_concerned}
@@ -10,7 +10,7 @@ use Rattle.sect_wait.proofs.place.leave.Goals as goal
 
 pub returns-in_ok-mark_leaving-clause-fit : goal.returns-in_ok-mark_leaving-clause-fit
 returns-in_ok-mark_leaving-clause-fit c =
-    queue_undo-fit c.args.world.now.world c.make.new.world.world c.args.queue.now.queue.entries c.args.student c.args.course c.make.result c.make.ensures.ok c.requires.fit
+    left-fit c.args.world.now.world c.make.new.world.world c.args.queue.now.queue.entries c.args.student c.args.course c.make.result c.make.ensures.ok c.requires.fit
 
 pub returns-in_ok-mark_leaving-clause-others : goal.returns-in_ok-mark_leaving-clause-others
 returns-in_ok-mark_leaving-clause-others c =

@@ -1,4 +1,4 @@
--- settling what is queue_undo gives what settling all gives, the changes made so far can be taken back, and the searches are counted
+-- settling what is left gives what settling all gives, the changes made so far can be taken back, and the searches are counted
 use Rattle.std.proofs.Common.{length}
 use Rattle.sect_space.specs.Undo.{Since, Undoable}
 use Rattle.sect_wait.specs.Opened.{OthersBut}
