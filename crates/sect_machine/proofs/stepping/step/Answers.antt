@@ -11,13 +11,13 @@ settled-stepped-requires-clause-undoable g c = subst (Undoable c.args.world.now)
 
 pub returns-in-Ok-clause-undo : goal.returns-in-Ok-clause-undo
 returns-in-Ok-clause-undo g c =
-    restores c.args.world.now c.settled-stepped.new.world c.empty-undo.result.backs c.args.queue.now c.settled-stepped.new.queue c.empty-left.result
-    (record { world = c.settled-stepped.new.undo; queue = c.settled-stepped.new.queue_undo }) c.recall_kept.ensures c.empty-undo.ensures c.empty-left.ensures c.settled-stepped.ensures.tracked c.requires.resting
+    restores c.args.world.now c.settled-stepped.new.world c.empty-undo.result.backs c.args.queue.now c.settled-stepped.new.queue c.empty-queue_undo.result
+    (record { world = c.settled-stepped.new.undo; queue = c.settled-stepped.new.queue_undo }) c.recall_kept.ensures c.empty-undo.ensures c.empty-queue_undo.ensures c.settled-stepped.ensures.tracked c.requires.resting
 
 pub returns-in-Err-clause-world_err : goal.returns-in-Err-clause-world_err
 returns-in-Err-clause-world_err g c =
     c.undo.ensures.world
-    ∙ world-back c.args.world.now c.settled-stepped.new.world c.empty-undo.result.backs c.settled-stepped.new.undo.backs c.args.queue.now c.settled-stepped.new.queue c.empty-left.result c.settled-stepped.new.queue_undo
+    ∙ world-back c.args.world.now c.settled-stepped.new.world c.empty-undo.result.backs c.settled-stepped.new.undo.backs c.args.queue.now c.settled-stepped.new.queue c.empty-queue_undo.result c.settled-stepped.new.queue_undo
     c.recall_kept.ensures c.empty-undo.ensures c.settled-stepped.ensures.tracked
 
 pub returns-in-Err-clause-others : goal.returns-in-Err-clause-others
