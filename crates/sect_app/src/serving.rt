@@ -59,6 +59,7 @@ where
 /// The status with which serving ends.
 fn serve_status(end: ServeEnd) -> Status
     ensures status { result ≡ status_of_end end }
+    ensures kept { result ≢ Status.KeeperFault }
     ensures others { (result ≢ Status.BadWords) × (result ≢ Status.ReadFault) × (result ≢ Status.WriteFault) }
 {
     match end {

@@ -21,3 +21,6 @@ returns-in-Ok-clause-back g c = back_there c.serve-end.result.0 c.serve_status.r
 
 pub returns-in-Ok-clause-others : goal.returns-in-Ok-clause-others
 returns-in-Ok-clause-others g c = c.serve_status.ensures.others
+
+pub returns-in-Ok-clause-keeper_fault : goal.returns-in-Ok-clause-keeper_fault
+returns-in-Ok-clause-keeper_fault g c = λ is. absurd (c.serve_status.ensures.kept is)
