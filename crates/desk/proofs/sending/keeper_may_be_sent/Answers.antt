@@ -7,4 +7,4 @@ use Rattle.desk.proofs.sending.keeper_may_be_sent.Goals as goal
 
 pub returns : goal.returns
 returns c =
-    variants_send AnyKeeper.enum ((search (sendable, crosses) depth 30, tt), ((search (sendable, crosses) depth 30, tt), ((search (sendable, crosses) depth 30, tt), tt)))
+    variants_send AnyKeeper.enum (tt, ((search (sendable, crosses) depth 30, tt), ((search (sendable, crosses) depth 30, tt), tt)))
