@@ -16,11 +16,11 @@ ghost use Rattle.sect_model.specs.Batch.{
 ghost use Rattle.sect_batch.specs.Lines.{Tells, MetFits, answer_by, unmet_of, met_of};
 
 use crate::lines::{Answer, Lines};
-use sect_base::{CourseId, Duplicate, Items, Memory, Move, StudentId, Want};
+use sect_base::{CourseId, Items, Memory, Move, StudentId};
 use sect_command::LineResult;
 use sect_model::Outcome;
 use sect_people::CourseAsk;
-use sect_search::{search, usual_budget};
+use sect_search::{search, usual_budget, want_of};
 use sect_space::World;
 use sect_steps::Steps;
 use std::alloc::Global;
@@ -124,11 +124,7 @@ fn request_move(
     ensures { IfOk result (λ mv. mv ≡ move_of_request student ask.now rank) }
 {
     let mut take = Vec::new(alloc);
-    take.push(Want {
-        courses: ask.courses.copy(alloc)?,
-        only: Items::from_vec(Vec::new(alloc)),
-        rank,
-    })?;
+    take.push(want_of(alloc, ask, rank)?)?;
     Ok(Move {
         student,
         give: Items::from_vec(Vec::new(alloc)),

@@ -1,11 +1,11 @@
 // The wants of a student's course requests.
 
 ghost use Rattle.std.specs.Prelude.{◌≡◌, ◌≤◌, length, IfOk};
-ghost use Rattle.sect_model.specs.Batch.{want_of as want_at};
 ghost use Rattle.sect_best.specs.Plan.{course_asks};
 
-use sect_base::{Duplicate, Items, Memory, Want};
-use sect_people::{Ask, CourseAsk};
+use sect_base::{Memory, Want};
+use sect_people::Ask;
+use sect_search::want_of;
 use std::alloc::Global;
 
 /// The want of each course request, at its position.
@@ -22,15 +22,4 @@ pub fn wants_of(alloc: Global, asks: &[Ask]) -> Result<Vec<Want>, Memory>
         rank += 1;
     }
     Ok(wants)
-}
-
-/// The want of a course request of a rank.
-fn want_of(alloc: Global, ask: &CourseAsk, rank: u8) -> Result<Want, Memory>
-    ensures { IfOk result (λ want. want ≡ want_at ask.now rank) }
-{
-    Ok(Want {
-        courses: ask.courses.copy(alloc)?,
-        only: Items::from_vec(Vec::new(alloc)),
-        rank,
-    })
 }

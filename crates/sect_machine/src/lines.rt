@@ -13,7 +13,6 @@ ghost use Rattle.sect_model.specs.Batch.{
   join_line as joined_by,
   join_lines as joined_by_all,
   ticket_of as least_ticket,
-  want_of,
   with_result,
 };
 ghost use Rattle.sect_model.specs.Step.{batched};
@@ -24,11 +23,12 @@ ghost use Rattle.sect_wait.specs.Undo.{Since as QueueSince, Undoable as QueueUnd
 ghost use Rattle.sect_machine.specs.Answering.{answered_of, course_ask, waiting_line};
 ghost use Rattle.sect_machine.specs.Tracked.{Tracked};
 
-use sect_base::{Duplicate, Items, Memory, StudentId, Want};
+use sect_base::{Items, Memory, StudentId};
 use sect_batch::{batch, is_unmet};
 use sect_command::{Line, LineResult};
 use sect_people::{Ask, CourseAsk};
 use sect_refuse::ticket_of;
+use sect_search::want_of;
 use sect_space::{Undo, World};
 use sect_wait::{Queue, QueueUndo};
 use std::alloc::Global;
@@ -187,19 +187,8 @@ fn ticket_or_join(
     match ticket_of(queue.entries(), line.student, ask.courses.as_slice()) {
         Some(ticket) => Ok(ticket),
         None => {
-            let want = want_for(alloc, line.rank, ask)?;
+            let want = want_of(alloc, ask, line.rank)?;
             queue.join(line.student, want, None, BATCH_CLASS, queue_undo)
         }
     }
-}
-
-/// The want of a request at a position.
-fn want_for(alloc: Global, rank: u8, ask: &CourseAsk) -> Result<Want, Memory>
-    ensures { IfOk result (λ want. want ≡ want_of ask.now rank) }
-{
-    Ok(Want {
-        courses: ask.courses.copy(alloc)?,
-        only: Items::from_vec(Vec::new(alloc)),
-        rank,
-    })
 }

@@ -9,25 +9,14 @@ ghost use Rattle.sect_route.specs.Reading.{Passes, Takes, ask_at, ended, id_at, 
 use crate::target::{Route, Target};
 use sect_base::{Caller, Id, OfferingId, SectionId, StudentId};
 use sect_command::Query;
-use sect_words::{Parts, parse_number, same_bytes};
-
-/// The number of at most `most` of which these bytes are the text.
-fn number_of(word: &[u8], most: u64) -> Option<u64>
-    ensures range { IfSome result (λ n. n ≤ most) }
-    ensures reads { result ≡ number_of most word.now }
-{
-    match parse_number(word) {
-        Some(number) if number <= most => Some(number),
-        _ => None,
-    }
-}
+use sect_words::{Parts, number_up_to, same_bytes};
 
 /// The number in the next part, which is taken.
 fn number_at(parts: &mut Parts, most: u64) -> Option<u64>
     ensures range { IfSome result (λ n. n ≤ most) }
     ensures takes { Takes result parts.new (word_at (number_of most) parts.old) }
 {
-    number_of(parts.next()?, most)
+    number_up_to(parts.next()?, most)
 }
 
 /// Takes the next part, which has to be this word.

@@ -7,8 +7,10 @@ pub mod laws;
 mod verifying;
 mod walk;
 mod walked;
+mod wants;
 
 pub use budget::usual_budget;
 pub use finding::{search, search_in};
 pub use sect_model::Outcome;
 pub use verifying::{verify, verify_in};
+pub use wants::want_of;

@@ -5,24 +5,13 @@ ghost use Rattle.sect_usage.specs.Grammar.{usual_or};
 ghost use Rattle.sect_words.specs.ReadingWords.{between_of, day_of, number_of};
 
 use sect_time::{Day, read_day};
-use sect_words::parse_number;
-
-/// The number of at most `most` that is written in digits. None exactly where the word is none.
-pub(crate) fn number(word: &[u8], most: u64) -> Option<u64>
-    ensures value { result ≡ number_of most word.now }
-    ensures high { IfSome result (λ n. n ≤ most) }
-{
-    match parse_number(word) {
-        Some(number) if number <= most => Some(number),
-        _ => None,
-    }
-}
+use sect_words::number_up_to;
 
 /// The number of 32 bits that is written in digits. None exactly where the word is none.
 pub fn id(word: &[u8]) -> Option<u32>
     ensures { result ≡ number_of 4294967295 word.now }
 {
-    Some(number(word, 4_294_967_295)? as u32)
+    Some(number_up_to(word, 4_294_967_295)? as u32)
 }
 
 /// The number from the least to the most. None exactly where the word is none.
@@ -32,7 +21,7 @@ pub(crate) fn between(word: &[u8], least: u32, most: u32) -> Option<u32>
     ensures low { IfSome result (λ n. least ≤ n) }
     ensures high { IfSome result (λ n. n ≤ most) }
 {
-    let number = number(word, u64::from(most))? as u32;
+    let number = number_up_to(word, u64::from(most))? as u32;
     if least <= number { Some(number) } else { None }
 }
 

@@ -19,14 +19,14 @@ ghost use Rattle.sect_usage.specs.Grammar.{
 };
 
 use crate::items::{next_positional, value};
-use crate::number::{between, day, id, number, usual};
+use crate::number::{between, day, id, usual};
 use crate::options::{alone, only};
 use crate::program::{Commands, read_program};
 use crate::verb::{Topic, Verb, read_verb, takes};
 use sect_base::{Budget, OfferingId, SectionId, StudentId};
 use sect_command::{Query, Table};
 use sect_time::Day;
-use sect_words::same_bytes;
+use sect_words::{number_up_to, same_bytes};
 
 /// What the words ask for.
 #[derive(Clone, Copy, Debug, PartialEq, Eq)]
@@ -173,7 +173,7 @@ fn read_import(words: &[String]) -> Option<Words>
     ensures { result ≡ import_of (items_of (map string_bytes words.now)) }
 {
     let table = read_table(only(words)?)?;
-    let first = number(value(b"first", words)?, 18_446_744_073_709_551_615)?;
+    let first = number_up_to(value(b"first", words)?, 18_446_744_073_709_551_615)?;
     let term = read_term(value(b"term", words))?;
     Some(Words::Import { table, first, term })
 }

@@ -14,7 +14,7 @@ mod take;
 pub use fault::Fault;
 pub use parts::Parts;
 pub use read_terms::read_meetings;
-pub use readable::{Readable, parse_number, read_all, read_between, read_list, read_number};
+pub use readable::{Readable, number_up_to, read_all, read_between, read_list, read_number};
 pub use same::same_bytes;
 pub use spelled::{
     Spelled, print_bytes, print_list, print_marked, print_number, print_text, print_whole,

@@ -57,7 +57,7 @@ pub trait Readable: Drop {
 }
 
 /// The number of which these bytes are the text. It takes no memory.
-pub fn parse_number(word: &[u8]) -> Option<u64>
+fn parse_number(word: &[u8]) -> Option<u64>
     ensures found { IfSome result (λ n. decimal n ≡ word.now) }
     ensures only { (n : ℕ) → n < 2 ^ 64 → decimal n ≡ word.now → IsSomeAnd result (λ read. read ≡ n) }
 {
@@ -88,14 +88,25 @@ fn is_plain(word: &[u8]) -> bool
     }
 }
 
-/// The number of at most `most` that is written in digits. It takes no memory.
+/// The number of at most `most` that is written in digits. None exactly where the word is none. It takes no memory.
+pub fn number_up_to(word: &[u8], most: u64) -> Option<u64>
+    ensures value { result ≡ number_of most word.now }
+    ensures range { IfSome result (λ n. n ≤ most) }
+{
+    match parse_number(word) {
+        Some(number) if number <= most => Some(number),
+        _ => None,
+    }
+}
+
+/// The same, `Bad` where the word is none. It takes no memory.
 pub fn read_number(word: &[u8], most: u64) -> Result<u64, Fault>
     ensures range { IfOk result (λ n. n ≤ most) }
     ensures means { Means result (number_of most word.now) }
 {
-    match parse_number(word) {
-        Some(number) if number <= most => Ok(number),
-        _ => Err(Fault::Bad),
+    match number_up_to(word, most) {
+        Some(number) => Ok(number),
+        None => Err(Fault::Bad),
     }
 }
 
