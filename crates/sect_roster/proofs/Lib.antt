@@ -1,7 +1,11 @@
+pub mod Changed
 pub mod ExpiryLemmas
 pub mod FoundLemmas
 pub mod InsertLemmas
 pub mod KeepsLemmas
 pub mod LastLemmas
+pub mod Parts
 pub mod PlaceLemmas
+pub mod SlotLemmas
+pub mod SpotLemmas
 pub mod UndoneLemmas

@@ -6,11 +6,13 @@ mod filed;
 pub mod laws;
 mod listing;
 mod mark;
+mod marks;
 mod rank;
 mod reservations;
 mod restrictions;
 mod room;
-mod starts;
+mod slot;
+mod slots;
 
 pub use reservations::Reservations;
 pub use restrictions::Restrictions;

@@ -3,7 +3,7 @@ use Rattle.std.proofs.Common.{◌∙◌, ap, sym, option_copied}
 use Rattle.std.specs.Option.{option_map}
 use Rattle.sect_roster.specs.declared.mark.Mark.{Mark}
 use Rattle.sect_roster.proofs.FoundLemmas.{got, found-past, found-own, found-other}
-use Rattle.sect_roster.proofs.listing.offering_of.Goals as goal
+use Rattle.sect_roster.proofs.marks.offering_of.Goals as goal
 
 pub returns-in_err-mark : goal.returns-in_err-mark
 returns-in_err-mark c =
