@@ -136,16 +136,17 @@ count-more p (y ∷ ys) (suc k) x mine = by_test (p y) (count-more p ys k x mine
     by_test true ih = ap (λ n. suc n) ih
     by_test false ih = ih
 
+-- no more pass, where the one that was put there doesn't
+pub filter-insert : {X : Type 0} (p : X → Bool) (xs : List X) (k : ℕ) (x : X) → p x ≡ false → filter p (insert xs k x) ≡ filter p xs
+filter-insert p [] zero x other = ap (λ b. cond b (x ∷ []) []) other
+filter-insert p [] (suc k) x other = ap (λ b. cond b (x ∷ []) []) other
+filter-insert p (y ∷ ys) zero x other = ap (λ b. cond b (x ∷ filter p (y ∷ ys)) (filter p (y ∷ ys))) other
+filter-insert {X = X} p (y ∷ ys) (suc k) x other = ap (λ (zs : List X). cond (p y) (y ∷ zs) zs) (filter-insert p ys k x other)
+
 -- what is left where the one that passes was taken out
 pub left-of : {X : Type 0} (p : X → Bool) (old new : List X) (k : ℕ) (x : X) → old ≡ insert new k x → p x ≡ true → length (filter p old) ≡ 1 → new ≡ filter (λ y. not (p y)) old
-left-of {X = X} p old new k x is mine one =
-    sym (none-filter p new (none (sym (ap (λ ys. length (filter p ys)) is) ∙ one))) ∙ sym (out new k) ∙ ap (filter (λ y. not (p y))) (sym is)
+left-of p old new k x is mine one =
+    sym (none-filter p new (none (sym (ap (λ ys. length (filter p ys)) is) ∙ one))) ∙ sym (filter-insert (λ y. not (p y)) new k x (ap not mine)) ∙ ap (filter (λ y. not (p y))) (sym is)
   where
-    out : (xs : List X) (k : ℕ) → filter (λ y. not (p y)) (insert xs k x) ≡ filter (λ y. not (p y)) xs
-    out [] zero = ap (λ b. cond (not b) (x ∷ []) []) mine
-    out [] (suc k) = ap (λ b. cond (not b) (x ∷ []) []) mine
-    out (y ∷ ys) zero = ap (λ b. cond (not b) (x ∷ filter (λ y. not (p y)) (y ∷ ys)) (filter (λ y. not (p y)) (y ∷ ys))) mine
-    out (y ∷ ys) (suc k) = ap (λ (zs : List X). cond (not (p y)) (y ∷ zs) zs) (out ys k)
-
     none : length (filter p (insert new k x)) ≡ 1 → length (filter p new) ≡ 0
     none one = let m = count-more p new k x mine in omega (arith, m, one)

@@ -1,3 +1,4 @@
+pub mod AmongLemmas
 pub mod Changed
 pub mod ExpiryLemmas
 pub mod FoundLemmas

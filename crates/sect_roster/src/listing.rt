@@ -125,6 +125,7 @@ impl<R: Filed> Listing<R> {
         ensures back { self.old.items ≡ put_among R.key_of result.0 result.1 self.new.items }
         ensures within { result.0 ≤ number_of R.key_of (R.key_of result.1) self.new.items }
         ensures rooms { self.new.rooms ≡ self.old.rooms }
+        ensures room { number_of R.key_of (R.key_of result.1) self.old.items ≤ capacity_of self.old.rooms (R.key_of result.1) }
         ensures spare { self.new.spare ≡ self.old.spare + 1 }
     {
         let offering = self.known_offering(id);

@@ -116,6 +116,7 @@ impl Reservations {
         ensures back { self.old.items ≡ put_among (λ r. r.offering.0) result.0 result.1 self.new.items }
         ensures within { result.0 ≤ number_of (λ r. r.offering.0) result.1.offering.0 self.new.items }
         ensures rooms { self.new.rooms ≡ self.old.rooms }
+        ensures room { number_of (λ r. r.offering.0) result.1.offering.0 self.old.items ≤ capacity_of self.old.rooms result.1.offering.0 }
         ensures spare { self.new.spare ≡ self.old.spare + 1 }
     {
         self.listing.remove(id.0)

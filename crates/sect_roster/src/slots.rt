@@ -21,6 +21,7 @@ ghost use Rattle.std.specs.Prelude.{
 };
 ghost use Rattle.std.specs.List.{list_any};
 ghost use Rattle.sect_model.specs.World.{put_behind};
+ghost use Rattle.sect_model.specs.Kept.{is_ordered_by};
 ghost use Rattle.sect_roster.specs.Slots.{
   rows_of,
   number_of,
@@ -40,7 +41,7 @@ use std::alloc::Global;
 use std::marker::Model;
 
 /// Rows in order of a number, and for one number in the order in which they came. They are seen as that list, with the room
-/// that each number has. No call walks or moves the rows of other numbers.
+/// that each number has. No call walks or moves the rows of other numbers, but for `list`.
 #[derive(Drop)]
 pub struct Slots<R: Keyed + Drop> {
     slots: Vec<Slot<R>>,
@@ -67,6 +68,13 @@ impl<R: Keyed + Drop> Slots<R> {
         }
     }
 
+    /// Does nothing: the contract tells what holds of all slots.
+    pub fn recall_order(&self)
+        ensures { IsTrue (is_ordered_by R.key_of self.now.items) }
+    {
+        let _ = &self.slots;
+    }
+
     /// The rows of a number, the earliest first. It takes no memory.
     pub fn rows_of(&self, number: u32) -> &[R]
         ensures { result.now ≡ rows_of R.key_of number self.now.items }
@@ -89,6 +97,16 @@ impl<R: Keyed + Drop> Slots<R> {
         }
         let place = slot_for(&mut self.slots, number)?;
         self.slots[place].reserve(n)
+    }
+
+    /// Gives a number a slot, with no room, where there is none: so numbers that come in rising order stand behind one
+    /// another. Where memory runs out, nothing is changed.
+    pub fn add_slot(&mut self, number: u32) -> Result<(), Memory>
+        ensures items { self.new.items ≡ self.old.items }
+        ensures grows { (m : ℕ) → capacity_of self.old.rooms m ≤ capacity_of self.new.rooms m }
+    {
+        let _ = slot_for(&mut self.slots, number)?;
+        Ok(())
     }
 
     /// Puts a row behind the others of its number. It takes no memory.
@@ -128,6 +146,15 @@ impl<R: Keyed + Drop> Slots<R> {
             Some(slot) => self.slots[slot].put_back(place, row),
             None => unreachable!(),
         }
+    }
+}
+
+impl<R: Keyed + Drop + Copy> Slots<R> {
+    /// All rows, in order of their numbers.
+    pub fn list(&self, alloc: Global) -> Result<Vec<R>, Memory>
+        ensures { IfOk result (λ rows. rows.items ≡ self.now.items) }
+    {
+        listed(self.slots.as_slice(), alloc)
     }
 }
 
@@ -181,4 +208,15 @@ fn new_slot<R: Keyed + Drop>(slots: &mut Vec<Slot<R>>, number: u32) -> Result<us
         unreachable!();
     }
     Ok(place)
+}
+
+/// The rows of all slots.
+fn listed<R: Keyed + Drop + Copy>(slots: &[Slot<R>], alloc: Global) -> Result<Vec<R>, Memory>
+    ensures { IfOk result (λ rows. rows.items ≡ all_held slots.now) }
+{
+    let mut rows = Vec::new(alloc);
+    for slot in slots {
+        rows.extend_from_slice(slot.rows())?;
+    }
+    Ok(rows)
 }

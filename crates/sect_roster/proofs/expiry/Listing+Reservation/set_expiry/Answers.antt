@@ -22,7 +22,7 @@ remove-row-requires c =
     let rs = c.self.inside.slots.items in
     let some : is_some (find p rs) ≡ true = ap (λ v. is_some (find p v.items)) c.self.view_is ∙ c.requires in
     let known : option_map key (find p rs) ≡ Some c.known_offering-offering.result = ap (λ v. option_map key (find p v.items)) c.self.view_is ∙ sym c.known_offering-offering.ensures in
-    place-among key id c.args.id.0 c.known_offering-offering.result rs known c.rows_of.result.now c.first_of-place.result c.rows_of.ensures c.first_of-place.ensures
+    place-among key p c.known_offering-offering.result rs known c.rows_of.result.now c.first_of-place.result c.rows_of.ensures c.first_of-place.ensures
 
 pub put_back-requires-clause-room : goal.put_back-requires-clause-room
 put_back-requires-clause-room c =
@@ -49,7 +49,7 @@ invariant_of-self c =
     let rs = c.self.inside.slots.items in
     let some : is_some (find p rs) ≡ true = ap (λ v. is_some (find p v.items)) c.self.view_is ∙ c.requires in
     let known : option_map key (find p rs) ≡ Some c.known_offering-offering.result = ap (λ v. option_map key (find p v.items)) c.self.view_is ∙ sym c.known_offering-offering.ensures in
-    let row : Some c.remove-row.result ≡ find p rs = c.remove-row.ensures.row ∙ read-among key id c.args.id.0 c.known_offering-offering.result rs known c.rows_of.result.now c.first_of-place.result c.rows_of.ensures c.first_of-place.ensures in
+    let row : Some c.remove-row.result ≡ find p rs = c.remove-row.ensures.row ∙ read-among key p c.known_offering-offering.result rs known c.rows_of.result.now c.first_of-place.result c.rows_of.ensures c.first_of-place.ensures in
     let mine = found-passes p rs c.remove-row.result (sym row) in
     let rest = c.remove-row.new.self.items in
     let left : rest ≡ filter (λ r. not (p r)) rs = left-of p rs rest (rank key (key c.remove-row.result) rest + c.first_of-place.result) c.remove-row.result
@@ -70,7 +70,7 @@ returns-clause-given_back c =
     let rs = c.self.inside.slots.items in
     let some : is_some (find p rs) ≡ true = ap (λ v. is_some (find p v.items)) c.self.view_is ∙ c.requires in
     let known : option_map key (find p rs) ≡ Some c.known_offering-offering.result = ap (λ v. option_map key (find p v.items)) c.self.view_is ∙ sym c.known_offering-offering.ensures in
-    let row : Some c.remove-row.result ≡ find p rs = c.remove-row.ensures.row ∙ read-among key id c.args.id.0 c.known_offering-offering.result rs known c.rows_of.result.now c.first_of-place.result c.rows_of.ensures c.first_of-place.ensures in
+    let row : Some c.remove-row.result ≡ find p rs = c.remove-row.ensures.row ∙ read-among key p c.known_offering-offering.result rs known c.rows_of.result.now c.first_of-place.result c.rows_of.ensures c.first_of-place.ensures in
     ap Some c.replace_expiry-old.ensures.given_back ∙ ap (option_map (λ r. r.expiry)) row ∙ ap (λ v. option_map (λ r. r.expiry) (find p v.items)) c.self.view_is
 
 pub returns-clause-changed : goal.returns-clause-changed
@@ -81,7 +81,7 @@ returns-clause-changed c =
     let rs = c.self.inside.slots.items in
     let some : is_some (find p rs) ≡ true = ap (λ v. is_some (find p v.items)) c.self.view_is ∙ c.requires in
     let known : option_map key (find p rs) ≡ Some c.known_offering-offering.result = ap (λ v. option_map key (find p v.items)) c.self.view_is ∙ sym c.known_offering-offering.ensures in
-    let row : Some c.remove-row.result ≡ find p rs = c.remove-row.ensures.row ∙ read-among key id c.args.id.0 c.known_offering-offering.result rs known c.rows_of.result.now c.first_of-place.result c.rows_of.ensures c.first_of-place.ensures in
+    let row : Some c.remove-row.result ≡ find p rs = c.remove-row.ensures.row ∙ read-among key p c.known_offering-offering.result rs known c.rows_of.result.now c.first_of-place.result c.rows_of.ensures c.first_of-place.ensures in
     let mine = found-passes p rs c.remove-row.result (sym row) in
     let rest = c.remove-row.new.self.items in
     let left : rest ≡ filter (λ r. not (p r)) rs = left-of p rs rest (rank key (key c.remove-row.result) rest + c.first_of-place.result) c.remove-row.result

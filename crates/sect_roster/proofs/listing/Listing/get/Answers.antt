@@ -15,5 +15,5 @@ returns g c =
     let known : option_map key (find p rs) ≡ Some c.in_ok-offering.offering = ap (λ v. option_map key (find p v.items)) c.self.view_is ∙ sym c.offering.ensures ∙ c.in_ok-offering.was in
     got c.get.result c.rows_of-rows.result.now c.first_of.result c.get.ensures.lookup.3
     ∙ ap (λ xs. slice_get xs c.first_of.result) c.rows_of-rows.ensures
-    ∙ read-among key id c.args.id c.in_ok-offering.offering rs known c.rows_of-rows.result.now c.first_of.result c.rows_of-rows.ensures c.first_of.ensures
+    ∙ read-among key p c.in_ok-offering.offering rs known c.rows_of-rows.result.now c.first_of.result c.rows_of-rows.ensures c.first_of.ensures
     ∙ ap (λ v. find p v.items) c.self.view_is

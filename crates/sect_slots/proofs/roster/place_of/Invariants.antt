@@ -2,7 +2,7 @@
 use Rattle.std.proofs.Common.{◌≡◌, ◌≤◌, ◌+◌, ◌-◌, length, drop}
 use Rattle.std.specs.List.{position_or_len}
 use Rattle.sect_model.specs.World.{is_in}
-use Rattle.sect_slots.proofs.slot.place_of.Given as goal
+use Rattle.sect_slots.proofs.roster.place_of.Given as goal
 
 abbrev pub invariant-loop-place : goal.invariant-loop-place
 invariant-loop-place l =
