@@ -12,6 +12,7 @@ ghost use Rattle.std.specs.Prelude.{
   [],
   filter,
   find,
+  map,
   position,
   option_copied,
   Some,
@@ -23,6 +24,7 @@ ghost use Rattle.std.specs.Prelude.{
 };
 ghost use Rattle.std.specs.List.{position_or_len};
 ghost use Rattle.std.specs.Option.{option_map};
+ghost use Rattle.sect_people.specs.Order.{sorted_by};
 ghost use Rattle.sect_model.specs.World.{put_behind};
 ghost use Rattle.sect_roster.specs.Slots.{rows_of, number_of, put_among, capacity_of};
 
@@ -81,6 +83,13 @@ impl<R: Filed> Listing<R> {
         let offering = self.offering(id)?;
         let rows = self.slots.rows_of(offering);
         rows.get(first_of(rows, id))
+    }
+
+    /// The marks of all rows, in order of id. It takes no memory.
+    pub fn marks(&self) -> &[Mark]
+        ensures { map (λ m. m.id) result.now ≡ map R.id_of (sorted_by R.id_of self.now.items) }
+    {
+        self.marks.as_slice()
     }
 
     /// Makes room for `n` rows more of an offering. Where memory runs out, the rows are as before.

@@ -18,11 +18,13 @@ ghost use Rattle.std.specs.Prelude.{
   Some,
   IsSome,
   IsNone,
+  IfOk,
   IsOk,
   OnOk,
   OnErr,
 };
 ghost use Rattle.std.specs.Option.{option_map};
+ghost use Rattle.sect_people.specs.Order.{sorted_by};
 ghost use Rattle.sect_model.specs.World.{put_behind};
 ghost use Rattle.sect_roster.specs.Slots.{rows_of, number_of, put_among, capacity_of};
 ghost use Rattle.sect_model.specs.Change.{expire};
@@ -72,6 +74,17 @@ impl Reservations {
         ensures { option_copied result ≡ find (λ r. r.id.0 == id.0) self.now.items }
     {
         self.listing.get(id.0)
+    }
+
+    /// The ids of all reservations, in rising order.
+    pub fn ids(&self, alloc: Global) -> Result<Vec<ReservationId>, Memory>
+        ensures { IfOk result (λ ids. ids.items ≡ map (λ r. r.id) (sorted_by (λ r. r.id.0) self.now.items)) }
+    {
+        let mut ids = Vec::new(alloc);
+        for mark in self.listing.marks() {
+            ids.push(ReservationId(mark.id))?;
+        }
+        Ok(ids)
     }
 
     /// Makes room for `n` reservations more of an offering. Where memory runs out, the reservations are as before.

@@ -11,7 +11,7 @@ use Rattle.sect_people.proofs.RankLemmas.{rest_rises}
 use Rattle.sect_people.proofs.OrderLemmas.{sorted_by-rises, map-sorted_by}
 
 -- how many elements have the key
-abbrev times : {X : Type 0} → (X → ℕ) → ℕ → List X → ℕ
+abbrev pub times : {X : Type 0} → (X → ℕ) → ℕ → List X → ℕ
 times key n [] = 0
 times key n (x ∷ xs) = cond (key x == n) (suc (times key n xs)) (times key n xs)
 
@@ -38,7 +38,7 @@ times-insert {X = X} key n x (y ∷ ys) = by_test (nat_le (key x) (key y)) (time
     by_test true ih = refl
     by_test false ih = ap (λ t. cond (key y == n) (suc t) t) ih ∙ swapped (key y == n) (key x == n) (times key n ys)
 
-times-sorted : {X : Type 0} (key : X → ℕ) (n : ℕ) (xs : List X) → times key n (sorted_by key xs) ≡ times key n xs
+pub times-sorted : {X : Type 0} (key : X → ℕ) (n : ℕ) (xs : List X) → times key n (sorted_by key xs) ≡ times key n xs
 times-sorted key n [] = refl
 times-sorted key n (x ∷ xs) = times-insert key n x (sorted_by key xs) ∙ ap (λ t. cond (key x == n) (suc t) t) (times-sorted key n xs)
 
@@ -63,7 +63,7 @@ has-first : {X : Type 0} (key : X → ℕ) (x : X) (xs : List X) → times key (
 has-first key x xs = ap (λ b. cond b (suc (times key (key x) xs)) (times key (key x) xs)) (self (key x))
 
 -- lists that rise and have each key equally often are one
-one-order : {X : Type 0} (key : X → ℕ) → ((x y : X) → key x ≡ key y → x ≡ y) → (xs ys : List X) → IsNonDecreasingBy key xs → IsNonDecreasingBy key ys → ((n : ℕ) → times key n xs ≡ times key n ys) → xs ≡ ys
+pub one-order : {X : Type 0} (key : X → ℕ) → ((x y : X) → key x ≡ key y → x ≡ y) → (xs ys : List X) → IsNonDecreasingBy key xs → IsNonDecreasingBy key ys → ((n : ℕ) → times key n xs ≡ times key n ys) → xs ≡ ys
 one-order key unique [] [] up vp same = refl
 one-order key unique [] (y ∷ ys) up vp same = absurd (omega (arith, same (key y), has-first key y ys))
 one-order key unique (x ∷ xs) [] up vp same = absurd (omega (arith, same (key x), has-first key x xs))
