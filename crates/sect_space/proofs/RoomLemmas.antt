@@ -1,12 +1,16 @@
 -- The room of each student, and of each offering, after one row more or less.
-use Rattle.std.specs.Prelude.{◌≡◌, ℕ, ◌+◌, ◌-◌, ◌<◌, ◌≤◌, Bool, true, false, ◌==◌, not, cond, List, length, filter, find, insert, map, Some, refl}
+use Rattle.std.specs.Prelude.{◌≡◌, ℕ, ◌+◌, ◌-◌, ◌<◌, ◌≤◌, Bool, true, false, ◌==◌, not, cond, List, length, filter, find, insert, map, Option, Some, refl}
 use Rattle.std.specs.List.{position_or_len}
-use Rattle.std.proofs.Common.{sym, ◌∙◌, ap, subst, arith, length-insert}
+use Rattle.std.proofs.Common.{sym, ◌∙◌, ap, subst, arith}
 use Rattle.std.proofs.lemmas.Bool.{eqb-true, eq-eqb}
+use Rattle.std.proofs.lemmas.List.Edits.{length-insert}
 use Rattle.sect_base.specs.declared.ids.StudentId.{StudentId}
 use Rattle.sect_base.specs.declared.ids.CourseId.{CourseId}
+use Rattle.sect_base.specs.declared.ids.ReservationId.{ReservationId}
+use Rattle.sect_reserve.specs.declared.row.Reservation.{Reservation}
 use Rattle.sect_people.specs.Index.{rank}
 use Rattle.sect_model.specs.declared.held.Enrolment.{Enrolment}
+use Rattle.sect_model.specs.Change.{expire}
 use Rattle.sect_model.specs.World.{is_in}
 use Rattle.sect_model.proofs.Members.{both-left}
 use Rattle.sect_model.proofs.ListLemmas.{found-passes}
@@ -135,3 +139,11 @@ module _ {X : Type 0} (key : X → ℕ) (xs ys : List X) (old new : List Room) w
     where
       by : (a b : ℕ) → b ≡ a → a ≤ b
       by a b e = omega (arith, e)
+
+-- another expiry day leaves the offering
+pub expired-offering : (id : ReservationId) (day : Option ℕ) (r : Reservation) → (expire id day r).offering.0 ≡ r.offering.0
+expired-offering id day r = by (r.id.0 == id.0)
+  where
+    by : (b : Bool) → (cond b (record r { expiry = day }) r).offering.0 ≡ r.offering.0
+    by true = refl
+    by false = refl

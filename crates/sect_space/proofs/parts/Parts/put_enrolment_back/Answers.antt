@@ -24,7 +24,7 @@ returns c =
       };
       room = record {
         roster = λ n. room-more (roomed_of old) (roomed_of (record old { roster = c.put_back.new.self })) n
-            (subst (λ fs. number_held n es ≤ number_held n fs) (sym items) (at-least n es (put_among c.args.place e es) e (among e es c.args.place c.requires.ready.1)))
+            (subst (λ fs. number_held n es ≤ number_held n fs) (sym items) (at-least n es (put_among c.args.place e es) e (among e es c.args.place c.requires.1)))
             (subst (λ rs. capacity_of old.roster.rooms n ≤ capacity_of rs n) (sym rooms) (same (capacity_of old.roster.rooms n)));
         reservations = λ n. omega arith;
         restrictions = λ n. omega arith;

@@ -12,7 +12,7 @@ returns c =
     let key = λ (r : Reservation). r.offering.0 in
     let new = c.put_back.new.self in
     let row = c.args.row in
-    let n = ap length c.put_back.ensures.items ∙ among-length key c.args.place row old.reservations.items c.requires.2.0 in
+    let n = ap length c.put_back.ensures.items ∙ among-length key c.args.place row old.reservations.items c.requires.2 in
     record {
       world = λ i. record {
         catalogue = old.catalogue;

@@ -1,5 +1,5 @@
 -- one row less
-use Rattle.std.proofs.Common.{◌∙◌, ◌+◌, ◌==◌, ap, sym, arith, length, refl}
+use Rattle.std.proofs.Common.{◌∙◌, ◌+◌, ap, arith, length}
 use Rattle.sect_people.specs.Index.{rank}
 use Rattle.sect_reserve.specs.declared.row.Reservation.{Reservation}
 use Rattle.sect_space.proofs.RoomLemmas.{among-length, less-in}
