@@ -1,5 +1,5 @@
 -- What searches in lists in order find.
-use Rattle.std.specs.Prelude.{◌≡◌, ◌≢◌, ℕ, suc, ◌+◌, ◌≤◌, ◌<◌, Bool, true, false, ◌==◌, nat_lt, nat_le, cond, List, [], ◌∷◌, length, filter, find, position, slice_get, Option, Some, None, refl}
+use Rattle.std.specs.Prelude.{◌≡◌, ◌≢◌, ℕ, suc, ◌≤◌, ◌<◌, Bool, true, false, ◌==◌, nat_lt, nat_le, cond, List, [], ◌∷◌, length, filter, find, position, slice_get, Option, Some, None, refl}
 use Rattle.std.specs.Bool.{then_some}
 use Rattle.std.specs.List.{list_any, list_all, position_or_len, HoldsAt}
 use Rattle.std.specs.Option.{is_some, option_map, option_and_then, MatchOption}
@@ -70,10 +70,6 @@ find-position p xs = ⊎_elim
 pub map-known : {X : Type 0} (key : X → ℕ) (n : ℕ) (o : Option X) → option_map key o ≡ Some n → (x : X) × (o ≡ Some x) × (key x ≡ n)
 map-known key n None e = cc
 map-known key n (Some x) e = (x, refl, cc)
-
-pub map-unknown : {X : Type 0} (key : X → ℕ) (o : Option X) → option_map key o ≡ None → is_some o ≡ false
-map-unknown key None e = refl
-map-unknown key (Some x) e = cc
 
 -- what a look-up finds is found among those that pass another test, if it passes that
 pub find-among : {X : Type 0} (p q : X → Bool) (xs : List X) (r : X) → find p xs ≡ Some r → q r ≡ true → find p (filter q xs) ≡ Some r

@@ -1,21 +1,17 @@
 -- Where elements stand in a list in order of a key.
-use Rattle.std.specs.Prelude.{◌≡◌, ℕ, zero, suc, ◌+◌, ◌-◌, ◌<◌, ◌≤◌, Bool, true, false, not, ◌||◌, ◌==◌, nat_lt, nat_le, cond, List, [], ◌∷◌, ◌++◌, length, filter, find, take, drop, insert, position, slice_get, Some, None, refl}
+use Rattle.std.specs.Prelude.{◌≡◌, ℕ, zero, suc, ◌+◌, ◌<◌, ◌≤◌, Bool, true, false, not, ◌||◌, ◌==◌, nat_lt, nat_le, cond, List, [], ◌∷◌, ◌++◌, length, filter, find, take, drop, insert, position, slice_get, Some, None, refl}
 use Rattle.std.specs.List.{list_any, list_all, position_or_len}
 use Rattle.std.specs.List.Sorted.{IsNonDecreasingBy}
 use Rattle.std.specs.Option.{is_some}
 use Rattle.std.proofs.Common.{sym, ◌∙◌, ap, arith, get_or}
-use Rattle.std.proofs.lemmas.Bool.{eqb-true}
 use Rattle.std.proofs.lemmas.List.Folds.{find_at}
 use Rattle.std.proofs.lemmas.Option.{slice_get_read}
 use Rattle.std.proofs.lemmas.Bool.Decides.{nat_tests}
-use Rattle.sect_base.specs.declared.ids.StudentId.{StudentId}
-use Rattle.sect_base.specs.declared.ids.CourseId.{CourseId}
 use Rattle.sect_people.specs.Index.{rank}
-use Rattle.sect_model.specs.declared.held.Enrolment.{Enrolment}
-use Rattle.sect_model.specs.World.{is_in, put_behind}
+use Rattle.sect_model.specs.World.{put_behind}
 use Rattle.sect_model.specs.Kept.{is_ordered_by}
-use Rattle.sect_model.proofs.Members.{both-left, both-right, known, not_both}
-use Rattle.sect_model.proofs.ListLemmas.{any-find, at_most, found-passes, some-is}
+use Rattle.sect_model.proofs.Members.{both-left, both-right, not_both}
+use Rattle.sect_model.proofs.ListLemmas.{at_most, some-is}
 
 -- ---- order
 

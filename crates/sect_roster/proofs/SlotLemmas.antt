@@ -1,5 +1,5 @@
 -- Slots, and the list of all their elements.
-use Rattle.std.specs.Prelude.{◌≡◌, ℕ, zero, suc, ◌+◌, ◌<◌, ◌≤◌, Bool, true, false, not, ◌||◌, ◌==◌, nat_lt, nat_le, cond, List, [], ◌∷◌, ◌++◌, length, insert, refl, slice_set}
+use Rattle.std.specs.Prelude.{◌≡◌, ℕ, zero, suc, ◌<◌, ◌≤◌, Bool, true, false, not, ◌||◌, ◌==◌, nat_lt, nat_le, cond, List, [], ◌∷◌, ◌++◌, length, insert, refl, slice_set}
 use Rattle.std.specs.List.{list_all, list_any}
 use Rattle.std.proofs.Common.{sym, ◌∙◌, ap, subst, arith, get_or}
 use Rattle.std.proofs.lemmas.Bool.{eq-eqb, eqb-true, false_from_ne_true}
@@ -8,7 +8,7 @@ use Rattle.std.proofs.lemmas.List.Concat.{flat_map-append}
 use Rattle.std.proofs.lemmas.List.Folds.{list_all-append}
 use Rattle.sect_people.specs.Index.{rank}
 use Rattle.sect_model.specs.Kept.{is_ordered_by}
-use Rattle.sect_model.proofs.Members.{both, both-left, both-right, neither-left, neither-right, not_true, not_both}
+use Rattle.sect_model.proofs.Members.{both, both-left, both-right, neither-left, neither-right, not_both}
 use Rattle.sect_model.proofs.ListLemmas.{all-weaker}
 use Rattle.sect_roster.specs.Slots.{Room, Slotted, rows_of, is_of, all_held, room_of, all_rooms, capacity_in, are_slots, HasSlot}
 use Rattle.sect_roster.proofs.Parts.{below, above, none-kept}

@@ -1,5 +1,5 @@
 -- Where the first that passes stands among those of its number.
-use Rattle.std.specs.Prelude.{◌≡◌, ℕ, ◌<◌, Bool, true, ◌==◌, List, find, position, slice_get, Option, Some}
+use Rattle.std.specs.Prelude.{◌≡◌, ℕ, ◌<◌, Bool, true, ◌==◌, List, find, position, slice_get, Some}
 use Rattle.std.specs.List.{list_any, position_or_len}
 use Rattle.std.specs.Option.{is_some, option_map}
 use Rattle.std.proofs.Common.{sym, ◌∙◌, ap, arith}

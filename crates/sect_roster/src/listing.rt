@@ -114,8 +114,7 @@ impl<R: Filed> Listing<R> {
         ensures rooms { (m : ℕ) → capacity_of self.old.rooms m ≤ capacity_of self.new.rooms m }
         ensures spare { self.old.spare ≤ self.new.spare + 1 }
         ensures grows { OnErr result (self.old.spare ≤ self.new.spare) }
-        ensures enough {
-            number_of R.key_of (R.key_of row) self.old.items < capacity_of self.old.rooms (R.key_of row) → 0 < self.old.spare → IsOk result }
+        ensures enough { number_of R.key_of (R.key_of row) self.old.items < capacity_of self.old.rooms (R.key_of row) → 0 < self.old.spare → IsOk result }
     {
         self.reserve(row.key(), 1)?;
         put_mark(&mut self.marks, mark_of(&row));

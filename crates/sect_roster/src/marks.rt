@@ -50,6 +50,10 @@ pub fn take_mark(marks: &mut Vec<Mark>, id: u32)
     ensures len { vec_len marks.old ≡ vec_len marks.new + 1 }
     ensures capacity { vec_capacity marks.new ≡ vec_capacity marks.old }
 {
-    let rank = rank_near(marks.as_slice(), id as u64, first_guess(marks.as_slice(), id));
+    let rank = rank_near(
+        marks.as_slice(),
+        id as u64,
+        first_guess(marks.as_slice(), id),
+    );
     let _ = marks.remove(rank);
 }

@@ -77,8 +77,7 @@ impl Restrictions {
         ensures spare { OnOk result (n ≤ self.new.spare) }
         ensures room_grows { (m : ℕ) → capacity_of self.old.rooms m ≤ capacity_of self.new.rooms m }
         ensures spare_grows { self.old.spare ≤ self.new.spare }
-        ensures enough {
-            n ≤ capacity_of self.old.rooms offering.0 - number_of (λ r. r.offering.0) offering.0 self.old.items → n ≤ self.old.spare
+        ensures enough { n ≤ capacity_of self.old.rooms offering.0 - number_of (λ r. r.offering.0) offering.0 self.old.items → n ≤ self.old.spare
             → IsOk result }
     {
         self.listing.reserve(offering.0, n)
@@ -93,8 +92,7 @@ impl Restrictions {
         ensures rooms { (m : ℕ) → capacity_of self.old.rooms m ≤ capacity_of self.new.rooms m }
         ensures spare { self.old.spare ≤ self.new.spare + 1 }
         ensures grows { OnErr result (self.old.spare ≤ self.new.spare) }
-        ensures enough {
-            number_of (λ r. r.offering.0) row.offering.0 self.old.items < capacity_of self.old.rooms row.offering.0 → 0 < self.old.spare
+        ensures enough { number_of (λ r. r.offering.0) row.offering.0 self.old.items < capacity_of self.old.rooms row.offering.0 → 0 < self.old.spare
             → IsOk result }
     {
         self.listing.insert(row)

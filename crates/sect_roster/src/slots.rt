@@ -202,7 +202,11 @@ fn new_slot<R: Keyed + Drop>(slots: &mut Vec<Slot<R>>, number: u32) -> Result<us
     ensures place { IfOk result (λ k. HasSlot slots.new.items number k) }
 {
     slots.reserve(1)?;
-    let place = rank_near(slots.as_slice(), number as u64, first_guess(slots.as_slice(), number));
+    let place = rank_near(
+        slots.as_slice(),
+        number as u64,
+        first_guess(slots.as_slice(), number),
+    );
     let slot = Slot::empty(*slots.allocator(), number);
     if slots.insert(place, slot).is_err() {
         unreachable!();

@@ -44,9 +44,6 @@ at-most-one n less more e m = by (e.student.0 == n) refl
     by true t = omega (arith, held-more n less more e m true t)
     by false t = omega (arith, held-more n less more e m false t)
 
-pub own-more : (less more : List Enrolment) (e : Enrolment) → IsMore less more e → number_held e.student.0 more ≡ number_held e.student.0 less + 1
-own-more less more e m = omega (arith, held-more e.student.0 less more e m true (eq-eqb e.student.0 e.student.0 refl))
-
 -- ---- rooms
 
 -- more enrolments and no less capacity: no less room

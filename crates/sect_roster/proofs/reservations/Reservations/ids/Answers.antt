@@ -1,5 +1,5 @@
 -- The marks stand in order of id.
-use Rattle.std.proofs.Common.{◌≡◌, ◌∙◌, ap, sym, map}
+use Rattle.std.proofs.Common.{◌∙◌, ap, sym, map}
 use Rattle.std.proofs.lemmas.List.{take_all}
 use Rattle.sect_people.specs.Order.{sorted_by}
 use Rattle.sect_reserve.specs.declared.row.Reservation.{Reservation}
