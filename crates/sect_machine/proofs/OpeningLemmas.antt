@@ -23,7 +23,7 @@ use Rattle.sect_model.specs.Change.{reservation_from, restriction_from, cancel, 
 use Rattle.sect_model.specs.Refusals.{restriction_of}
 use Rattle.sect_model.specs.Outcome.{outcome_of}
 use Rattle.sect_model.specs.Move.{are_allowed}
-use Rattle.sect_model.specs.Allowed.{is_allowed}
+use Rattle.sect_model.specs.Allowed.{is_allowed, reservations_of}
 use Rattle.sect_model.specs.Settle.{found_in, make_move}
 use Rattle.sect_model.specs.Fits.{Fits, changed}
 use Rattle.sect_model.specs.Kept.{KeptWorld, KeptState, entry_fits}
@@ -34,19 +34,20 @@ use Rattle.sect_model.specs.Step.{Acted, act, batched, moved, enrolled, enrol_mo
 use Rattle.sect_base.specs.declared.limit.Cap.TheVariants.{Section as cap_section}
 use Rattle.sect_model.specs.Freer.{Among, caps_wanted, may_open, flips, wants}
 use Rattle.sect_model.proofs.Members
-use Rattle.sect_model.proofs.Members.{all-at, neither-left, neither-right, none-of, both-left, not_both}
+use Rattle.sect_model.proofs.Members.{all-at, member-of_filter, neither-left, neither-right, none-at, none-of, both-left, not_both}
 use Rattle.sect_model.proofs.FreerLemmas.{member}
 use Rattle.sect_model.proofs.KeptMoves.{found-allowed}
 use Rattle.sect_model.proofs.FreerIndex.{wants-listed}
 use Rattle.sect_space.specs.declared.back.Back.{Back}
 use Rattle.sect_space.specs.Back.{back_of}
+use Rattle.sect_space.proofs.Bounds.{of-offering}
 use Rattle.sect_wait.specs.Queued.{Queued, new_entry, state_of}
 use Rattle.sect_wait.specs.Marked.{Marked, Needless, is_marked, is_noted, is_noted_in, may_need, OthersNeedNoSearch, MarksKept, MarksMore, concerns}
 use Rattle.sect_wait.specs.Indexed.{MarksTold}
 use Rattle.sect_wait.proofs.MarkLemmas.{changed-others, among-append, more-test, on-ok, others-without}
 use Rattle.sect_wait.proofs.NeedLemmas.{both-kept, neither, plain-marks, plain-need, same-notes}
 use Rattle.sect_wait.proofs.ToldLemmas.{nobody-marked, told-marks}
-use Rattle.sect_machine.specs.Opening.{RecordsLimit, batch_opens, enrolled_opens, flip_opens, last_offering, opened, opens, reserved_in, restricted_in, sectioned_in, swap_opens}
+use Rattle.sect_machine.specs.Opening.{RecordsLimit, batch_opens, enrolled_opens, flip_opens, flip_opens_of, last_offering, opened, opens, reserved_in, restricted_in, sectioned_in, swap_opens}
 use Rattle.sect_machine.proofs.LimitLemmas.{cancel-closed, limit-closed}
 use Rattle.sect_machine.proofs.OpenedLemmas.{Stays, batch-stays, swap-stays}
 
@@ -256,12 +257,20 @@ same-day w day es m h = nobody-marked (λ e. may_open w e (Day (max w.day day)))
     same : (a b : ℕ) → nat_lt a b ≡ false → max a b ≡ a
     same a b h = grind (arith, nat_tests, h)
 
+-- where no offering has such a reservation, there is none
+none-filed : (w : World) → KeptWorld w → (f : Reservation → Bool) → list_any (λ o. list_any f (reservations_of w o.id)) w.catalogue.rows ≡ false → list_any f w.reservations ≡ false
+none-filed w k f none = none-of f w.reservations (λ r m.
+    let o = of-offering w k r m in
+    none-at f (reservations_of w o.0.id) (none-at (λ o. list_any f (reservations_of w o.id)) w.catalogue.rows none o.0 o.1) r (member-of_filter (λ x. x.offering.0 == o.0.id.0) w.reservations r m o.2))
+
 -- on the way to a later day
-pub later-day : {A E : Type 0} (w : World) (day : ℕ) (rs : List Reservation) (es : List Waiting) (m n : Marked) (result : Result A E) → nat_lt w.day day ≡ true → rs ≡ w.reservations
-    → OnOk result (MarksMore (λ e. list_any (λ r. flip_opens w day r e) rs) es m n) → OnOk result (MarksMore (λ e. may_open w e (Day (max w.day day))) es m n)
-later-day w day rs es m n result h all marks =
+pub later-day : {A E : Type 0} (w : World) (day : ℕ) (rows : List OfferingRow) (es : List Waiting) (m n : Marked) (result : Result A E) → KeptWorld w → nat_lt w.day day ≡ true → rows ≡ w.catalogue.rows
+    → OnOk result (MarksMore (λ e. list_any (λ o. flip_opens_of w day o e) rows) es m n) → OnOk result (MarksMore (λ e. may_open w e (Day (max w.day day))) es m n)
+later-day w day rows es m n result k h all marks =
     subst (λ d. OnOk result (MarksMore (λ e. may_open w e (Day d)) es m n)) (later w.day day h)
-    (subst (λ xs. OnOk result (MarksMore (λ e. list_any (λ r. flip_opens w day r e) xs) es m n)) all marks)
+    (on-ok result
+    (more-test (λ e. list_any (λ r. flip_opens w day r e) w.reservations) (λ e. list_any (λ o. flip_opens_of w day o e) w.catalogue.rows) es m n (λ e none. none-filed w k (λ r. flip_opens w day r e) none))
+    (subst (λ xs. OnOk result (MarksMore (λ e. list_any (λ o. flip_opens_of w day o e) xs) es m n)) all marks))
   where
     later : (a b : ℕ) → nat_lt a b ≡ true → b ≡ max a b
     later a b h = grind (arith, nat_tests, h)

@@ -14,6 +14,7 @@ use Rattle.sect_model.specs.Data.{StudentId, CourseId, SectionId, ReservationId,
 use Rattle.sect_model.specs.declared.held.Waiting.{Waiting}
 use Rattle.sect_model.specs.declared.change.Change.TheVariants.{Cap as new_cap, Enrol as new_enrolment, Leave}
 use Rattle.sect_model.specs.World.{World, reservation_of}
+use Rattle.sect_model.specs.Allowed.{reservations_of}
 use Rattle.sect_model.specs.Refusals.{restriction_of}
 use Rattle.sect_model.specs.Freer.{flips, may_open, wants}
 use Rattle.sect_space.specs.declared.back.Back.{Back}
@@ -35,6 +36,10 @@ restricted_in w id = option_and_then (λ r. find_offering w.catalogue.rows r.off
 -- the reservation is of a wanted offering, and begins or ends on the way to the day
 abbrev pub flip_opens : World → ℕ → Reservation → Waiting → Bool
 flip_opens w day r e = wants w e.want r.offering && flips w day r
+
+-- a reservation of the offering does
+abbrev pub flip_opens_of : World → ℕ → OfferingRow → Waiting → Bool
+flip_opens_of w day o e = list_any (λ r. flip_opens w day r e) (reservations_of w o.id)
 
 -- what a command may open whose change is known before it acts; a cancelled section touches the spent searches of those who want
 -- its offering

@@ -5,9 +5,10 @@ ghost use Rattle.std.specs.List.{list_any};
 ghost use Rattle.sect_model.specs.Freer.{flips as is_flipping, may_open};
 ghost use Rattle.sect_model.specs.declared.change.Change.TheVariants.{Day as NextDay};
 ghost use Rattle.sect_wait.specs.Marked.{MarksMore};
-ghost use Rattle.sect_machine.specs.Opening.{flip_opens};
+ghost use Rattle.sect_machine.specs.Opening.{flip_opens, flip_opens_of};
 
 use sect_base::Memory;
+use sect_catalog::OfferingRow;
 use sect_reserve::{Reservation, active};
 use sect_space::World;
 use sect_time::Day;
@@ -18,8 +19,9 @@ use sect_wait::{Marks, Queue, mark};
 pub fn mark_day(world: &World, queue: &Queue, day: Day, marks: &mut Marks) -> Result<(), Memory>
     ensures { OnOk result (MarksMore (λ e. may_open world.now.world e (NextDay (max world.now.world.day day))) queue.now.queue.entries marks.old marks.new) }
 {
+    world.recall_kept();
     if is_later(day, world.day()) {
-        mark_flips(world, queue, day, world.all_reservations(), marks)
+        mark_offerings(world, queue, day, world.catalogue().rows(), marks)
     } else {
         Ok(())
     }
@@ -29,6 +31,22 @@ fn is_later(day: Day, than: Day) -> bool
     ensures { result ≡ nat_lt than day }
 {
     than.get() < day.get()
+}
+
+/// Marks the entries that want one of the offerings of which a reservation begins or ends on the way to the day.
+fn mark_offerings(
+    world: &World,
+    queue: &Queue,
+    day: Day,
+    rows: &[OfferingRow],
+    marks: &mut Marks,
+) -> Result<(), Memory>
+    ensures { OnOk result (MarksMore (λ e. list_any (λ o. flip_opens_of world.now.world day o e) rows.now) queue.now.queue.entries marks.old marks.new) }
+{
+    for row in rows {
+        mark_flips(world, queue, day, world.reservations(row.id), marks)?;
+    }
+    Ok(())
 }
 
 /// Marks the entries that want an offering of one of the reservations that begin or end on the way to the day.

@@ -1,5 +1,5 @@
 -- What searches in lists in order find.
-use Rattle.std.specs.Prelude.{◌≡◌, ◌≢◌, ℕ, suc, ◌+◌, ◌≤◌, ◌<◌, Bool, true, false, ◌==◌, nat_lt, nat_le, cond, List, [], ◌∷◌, length, drop, find, position, slice_get, Option, Some, None, refl}
+use Rattle.std.specs.Prelude.{◌≡◌, ◌≢◌, ℕ, suc, ◌≤◌, ◌<◌, Bool, true, false, ◌==◌, nat_lt, nat_le, cond, List, [], ◌∷◌, length, filter, find, position, slice_get, Option, Some, None, refl}
 use Rattle.std.specs.Bool.{then_some}
 use Rattle.std.specs.List.{list_any, list_all, position_or_len, HoldsAt}
 use Rattle.std.specs.Option.{is_some, option_map, option_and_then, MatchOption}
@@ -10,9 +10,9 @@ use Rattle.std.proofs.lemmas.List.Folds.{find_at}
 use Rattle.std.proofs.lemmas.Option.{slice_get_past, slice_get_read}
 use Rattle.sect_people.specs.Index.{rank}
 use Rattle.sect_model.specs.Kept.{is_ordered_by}
-use Rattle.sect_model.proofs.Members.{both-right, decide}
-use Rattle.sect_model.proofs.ListLemmas.{any-find}
-use Rattle.sect_roster.proofs.PlaceLemmas.{none-keyed, place-none, place-skip, place-some}
+use Rattle.sect_model.proofs.Members.{both-right, decide, not_both}
+use Rattle.sect_model.proofs.ListLemmas.{any-find, some-is}
+use Rattle.sect_roster.proofs.PlaceLemmas.{none-keyed, place-none, place-some}
 use Rattle.sect_roster.proofs.InsertLemmas.{none-kept}
 
 -- what a checked access of a slice answers
@@ -67,22 +67,20 @@ find-position p xs = ⊎_elim
     (λ f. let none = any-find p xs ∙ f in ap (λ o. option_and_then (slice_get xs) o) (place-none p xs none) ∙ sym (is_none (find p xs) none))
     (decide (list_any p xs))
 
-map-known : {X : Type 0} (key : X → ℕ) (n : ℕ) (o : Option X) → option_map key o ≡ Some n → (x : X) × (o ≡ Some x) × (key x ≡ n)
+pub map-known : {X : Type 0} (key : X → ℕ) (n : ℕ) (o : Option X) → option_map key o ≡ Some n → (x : X) × (o ≡ Some x) × (key x ≡ n)
 map-known key n None e = cc
 map-known key n (Some x) e = (x, refl, cc)
 
-pub map-unknown : {X : Type 0} (key : X → ℕ) (o : Option X) → option_map key o ≡ None → is_some o ≡ false
-map-unknown key None e = refl
-map-unknown key (Some x) e = cc
-
--- where the key of what a look-up finds is known, the place is found from the key's rank on
-pub placed : {X : Type 0} (key : X → ℕ) (p : X → Bool) (xs ys zs : List X) (n start at : ℕ) → option_map key (find p xs) ≡ Some n
-    → ys ≡ xs → zs ≡ xs → start ≡ rank key n ys → at ≡ start + position_or_len p (drop start zs) → Some at ≡ position p xs
-placed key p xs ys zs n start at e same_ys same_zs starts ends =
-    let found = map-known key n (find p xs) e in
-    let from : start ≡ rank key n xs = starts ∙ ap (rank key n) same_ys in
-    let is : at ≡ position_or_len p xs = ends ∙ (λ i. from i + position_or_len p (drop (from i) (same_zs i))) ∙ place-skip key p n xs found.0 found.1 found.2 in
-    ap (λ k. Some k) is ∙ sym (place-some p xs (sym (any-find p xs) ∙ ap is_some found.1))
+-- what a look-up finds is found among those that pass another test, if it passes that
+pub find-among : {X : Type 0} (p q : X → Bool) (xs : List X) (r : X) → find p xs ≡ Some r → q r ≡ true → find p (filter q xs) ≡ Some r
+find-among p q [] r e t = e
+find-among p q (x ∷ xs) r e t = by_test (p x) (q x) refl refl e (λ g. find-among p q xs r g t)
+  where
+    by_test : (a b : Bool) → p x ≡ a → q x ≡ b → cond a (Some x) (find p xs) ≡ Some r → (find p xs ≡ Some r → find p (filter q xs) ≡ Some r) → find p (cond b (x ∷ filter q xs) (filter q xs)) ≡ Some r
+    by_test true true f g e ih = ap (λ c. cond c (Some x) (find p (filter q xs))) f ∙ e
+    by_test true false f g e ih = absurd (not_both (q x) (ap q (some-is r x e) ∙ t) g)
+    by_test false true f g e ih = ap (λ c. cond c (Some x) (find p (filter q xs))) f ∙ ih e
+    by_test false false f g e ih = ih e
 
 -- a look-up that finds has a place
 pub found-place : {X : Type 0} (p : X → Bool) (xs : List X) → is_some (find p xs) ≡ true → position p xs ≡ Some (position_or_len p xs)

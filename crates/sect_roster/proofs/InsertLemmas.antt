@@ -11,7 +11,7 @@ use Rattle.sect_model.specs.World.{put_behind}
 use Rattle.sect_model.specs.Kept.{is_ordered_by}
 use Rattle.sect_model.proofs.Members.{both, both-left, both-right, neither-left, neither-right, not_both, not_true}
 use Rattle.sect_model.proofs.ListLemmas.{any-find}
-use Rattle.sect_roster.proofs.PlaceLemmas.{put-insert, none-keyed}
+use Rattle.sect_roster.proofs.PlaceLemmas.{put-insert, none-keyed, none-filter}
 
 -- ---- ids
 
@@ -122,3 +122,31 @@ rank-place {X = X} key n (x ∷ xs) h f =
       where
         past : (a : ℕ) → nat_lt a n ≡ false → a == n ≡ false → nat_lt a (suc n) ≡ false
         past a t u = grind (arith, nat_tests)
+
+-- ---- one taken out
+
+-- one more passes, where the one that was put there does
+pub count-more : {X : Type 0} (p : X → Bool) (xs : List X) (k : ℕ) (x : X) → p x ≡ true → length (filter p (insert xs k x)) ≡ suc (length (filter p xs))
+count-more p [] zero x mine = ap (λ b. length (cond b (x ∷ []) [])) mine
+count-more p [] (suc k) x mine = ap (λ b. length (cond b (x ∷ []) [])) mine
+count-more p (y ∷ ys) zero x mine = ap (λ b. length (cond b (x ∷ filter p (y ∷ ys)) (filter p (y ∷ ys)))) mine
+count-more p (y ∷ ys) (suc k) x mine = by_test (p y) (count-more p ys k x mine)
+  where
+    by_test : (b : Bool) → length (filter p (insert ys k x)) ≡ suc (length (filter p ys)) → length (cond b (y ∷ filter p (insert ys k x)) (filter p (insert ys k x))) ≡ suc (length (cond b (y ∷ filter p ys) (filter p ys)))
+    by_test true ih = ap (λ n. suc n) ih
+    by_test false ih = ih
+
+-- no more pass, where the one that was put there doesn't
+pub filter-insert : {X : Type 0} (p : X → Bool) (xs : List X) (k : ℕ) (x : X) → p x ≡ false → filter p (insert xs k x) ≡ filter p xs
+filter-insert p [] zero x other = ap (λ b. cond b (x ∷ []) []) other
+filter-insert p [] (suc k) x other = ap (λ b. cond b (x ∷ []) []) other
+filter-insert p (y ∷ ys) zero x other = ap (λ b. cond b (x ∷ filter p (y ∷ ys)) (filter p (y ∷ ys))) other
+filter-insert {X = X} p (y ∷ ys) (suc k) x other = ap (λ (zs : List X). cond (p y) (y ∷ zs) zs) (filter-insert p ys k x other)
+
+-- what is left where the one that passes was taken out
+pub left-of : {X : Type 0} (p : X → Bool) (old new : List X) (k : ℕ) (x : X) → old ≡ insert new k x → p x ≡ true → length (filter p old) ≡ 1 → new ≡ filter (λ y. not (p y)) old
+left-of p old new k x is mine one =
+    sym (none-filter p new (none (sym (ap (λ ys. length (filter p ys)) is) ∙ one))) ∙ sym (filter-insert (λ y. not (p y)) new k x (ap not mine)) ∙ ap (filter (λ y. not (p y))) (sym is)
+  where
+    none : length (filter p (insert new k x)) ≡ 1 → length (filter p new) ≡ 0
+    none one = let m = count-more p new k x mine in omega (arith, m, one)

@@ -12,7 +12,7 @@ use Rattle.sect_model.specs.Kept.{is_ordered_by}
 use Rattle.sect_model.proofs.Easy.{differ-filter, map-key, new-key}
 use Rattle.sect_model.proofs.ListLemmas.{any-find}
 use Rattle.sect_model.proofs.Members.{find-filter, find-map}
-use Rattle.sect_model.proofs.PutLemmas.{differ-put, find-put, ordered-put, ordered-map}
+use Rattle.sect_model.proofs.PutLemmas.{differ-put, find-put, ordered-put}
 use Rattle.sect_model.proofs.RosterLemmas.{ordered-filter}
 use Rattle.sect_roster.specs.declared.mark.Mark.{Mark}
 use Rattle.sect_roster.specs.Filed.{Keeps}
@@ -49,11 +49,9 @@ module _ {R : Type 0} (key id : R → ℕ) (rows : List R) (marks : List Mark) (
       ∙ k.told n
       ∙ ap (option_map key) (sym (find-insert (λ r. id r == n) rows place row e))
 
-  -- a row more, at a place that keeps the order
-  pub put-keeps : (row : R) (place : ℕ) → is_some (find (λ r. id r == id row) rows) ≡ false → is_ordered_by key (insert rows place row) ≡ true
-      → Keeps key id (insert rows place row) (put_behind (λ m. m.id) (mark_of row) marks)
-  put-keeps row place new ordered = record {
-    in_order = ordered;
+  -- a row more
+  pub put-keeps : (row : R) (place : ℕ) → is_some (find (λ r. id r == id row) rows) ≡ false → Keeps key id (insert rows place row) (put_behind (λ m. m.id) (mark_of row) marks)
+  put-keeps row place new = record {
     differ = differ-insert id rows place row k.differ (new-id id (id row) rows new);
     marks_in_order = ordered-put (λ m. m.id) (mark_of row) marks k.marks_in_order;
     marks_differ = differ-put (λ m. m.id) (λ m. m.id) (mark_of row) marks k.marks_differ (new-key (λ m. m.id) marks (id row) (marked (id row) ∙ new));
@@ -79,35 +77,15 @@ module _ {R : Type 0} (key id : R → ℕ) (rows : List R) (marks : List Mark) (
   -- without the row of an id
   pub drop-keeps : (n : ℕ) → Keeps key id (filter (λ r. not (id r == n)) rows) (filter (λ m. not (m.id == n)) marks)
   drop-keeps n = record {
-    in_order = ordered-filter key (λ r. not (id r == n)) rows k.in_order;
     differ = differ-filter id (λ r. not (id r == n)) rows k.differ;
     marks_in_order = ordered-filter (λ m. m.id) (λ m. not (m.id == n)) marks k.marks_in_order;
     marks_differ = differ-filter (λ m. m.id) (λ m. not (m.id == n)) marks k.marks_differ;
     told = λ m. told-drop n m (m == n) refl;
   }
 
-  -- ---- what is left
-
-  once-row : (n : ℕ) → is_some (find (λ r. id r == n) rows) ≡ true → length (filter (λ r. id r == n) rows) ≡ 1
+  -- one row has an id that is known
+  pub once-row : (n : ℕ) → is_some (find (λ r. id r == n) rows) ≡ true → length (filter (λ r. id r == n) rows) ≡ 1
   once-row n h = once id n rows k.differ h
-
-  once-mark : (n : ℕ) → is_some (find (λ r. id r == n) rows) ≡ true → length (filter (λ m. m.id == n) marks) ≡ 1
-  once-mark n h = once (λ m. m.id) n marks k.marks_differ (marked n ∙ h)
-
-  pub rows-left : (n : ℕ) → is_some (find (λ r. id r == n) rows) ≡ true → remove rows (position_or_len (λ r. id r == n) rows) ≡ filter (λ r. not (id r == n)) rows
-  rows-left n h = remove-one (λ r. id r == n) rows (once-row n h)
-
-  at-rank : (n : ℕ) → is_some (find (λ r. id r == n) rows) ≡ true → rank (λ m. m.id) n marks ≡ position_or_len (λ m. m.id == n) marks
-  at-rank n h = rank-place (λ m. m.id) n marks k.marks_in_order (marked n ∙ h)
-
-  pub marks-left : (n : ℕ) → is_some (find (λ r. id r == n) rows) ≡ true → remove marks (rank (λ m. m.id) n marks) ≡ filter (λ m. not (m.id == n)) marks
-  marks-left n h = ap (remove marks) (at-rank n h) ∙ remove-one (λ m. m.id == n) marks (once-mark n h)
-
-  pub marks-within : (n : ℕ) → is_some (find (λ r. id r == n) rows) ≡ true → rank (λ m. m.id) n marks < length marks
-  marks-within n h =
-      let at = at-rank n h in
-      let within = place-within (λ m. m.id == n) marks (found-any (λ m. m.id == n) marks (marked n ∙ h)) in
-      omega (arith, at, within)
 
   -- ---- a change of rows that keeps their offerings and ids
 
@@ -122,9 +100,20 @@ module _ {R : Type 0} (key id : R → ℕ) (rows : List R) (marks : List Mark) (
 
   pub change-keeps : (f : R → R) → ((r : R) → key (f r) ≡ key r) → ((r : R) → id (f r) ≡ id r) → Keeps key id (map f rows) marks
   change-keeps f same_key same_id = record {
-    in_order = ordered-map key f rows same_key ∙ k.in_order;
     differ = ap all_differ (map-key id f rows same_id) ∙ k.differ;
     marks_in_order = k.marks_in_order;
     marks_differ = k.marks_differ;
     told = told-map f same_key same_id;
   }
+
+-- ---- the marks
+
+module _ (marks : List Mark) (n : ℕ) (ordered : is_ordered_by (λ m. m.id) marks ≡ true) (differ : all_differ (map (λ m. m.id) marks) ≡ true) (some : is_some (find (λ m. m.id == n) marks) ≡ true) where
+  at-rank : rank (λ m. m.id) n marks ≡ position_or_len (λ m. m.id == n) marks
+  at-rank = rank-place (λ m. m.id) n marks ordered some
+
+  pub marks-left : remove marks (rank (λ m. m.id) n marks) ≡ filter (λ m. not (m.id == n)) marks
+  marks-left = ap (remove marks) at-rank ∙ remove-one (λ m. m.id == n) marks (once (λ m. m.id) n marks differ some)
+
+  pub marks-within : rank (λ m. m.id) n marks < length marks
+  marks-within = let within = place-within (λ m. m.id == n) marks (found-any (λ m. m.id == n) marks some) in omega (arith, at-rank, within)

@@ -1,7 +1,14 @@
+pub mod AmongLemmas
+pub mod Changed
 pub mod ExpiryLemmas
 pub mod FoundLemmas
+pub mod IdLemmas
 pub mod InsertLemmas
 pub mod KeepsLemmas
 pub mod LastLemmas
+pub mod Parts
 pub mod PlaceLemmas
+pub mod SlotLemmas
+pub mod SortLemmas
+pub mod SpotLemmas
 pub mod UndoneLemmas

@@ -1,21 +1,17 @@
 -- Where elements stand in a list in order of a key.
-use Rattle.std.specs.Prelude.{◌≡◌, ℕ, zero, suc, ◌+◌, ◌-◌, ◌<◌, ◌≤◌, Bool, true, false, not, ◌||◌, ◌==◌, nat_lt, nat_le, cond, List, [], ◌∷◌, ◌++◌, length, filter, find, take, drop, insert, position, slice_get, Some, None, refl}
+use Rattle.std.specs.Prelude.{◌≡◌, ℕ, zero, suc, ◌+◌, ◌<◌, ◌≤◌, Bool, true, false, not, ◌||◌, ◌==◌, nat_lt, nat_le, cond, List, [], ◌∷◌, ◌++◌, length, filter, find, take, drop, insert, position, slice_get, Some, None, refl}
 use Rattle.std.specs.List.{list_any, list_all, position_or_len}
 use Rattle.std.specs.List.Sorted.{IsNonDecreasingBy}
 use Rattle.std.specs.Option.{is_some}
 use Rattle.std.proofs.Common.{sym, ◌∙◌, ap, arith, get_or}
-use Rattle.std.proofs.lemmas.Bool.{eqb-true}
 use Rattle.std.proofs.lemmas.List.Folds.{find_at}
 use Rattle.std.proofs.lemmas.Option.{slice_get_read}
 use Rattle.std.proofs.lemmas.Bool.Decides.{nat_tests}
-use Rattle.sect_base.specs.declared.ids.StudentId.{StudentId}
-use Rattle.sect_base.specs.declared.ids.CourseId.{CourseId}
 use Rattle.sect_people.specs.Index.{rank}
-use Rattle.sect_model.specs.declared.held.Enrolment.{Enrolment}
-use Rattle.sect_model.specs.World.{is_in, put_behind}
+use Rattle.sect_model.specs.World.{put_behind}
 use Rattle.sect_model.specs.Kept.{is_ordered_by}
-use Rattle.sect_model.proofs.Members.{both-left, both-right, known, not_both}
-use Rattle.sect_model.proofs.ListLemmas.{any-find, at_most, found-passes, some-is}
+use Rattle.sect_model.proofs.Members.{both-left, both-right, not_both}
+use Rattle.sect_model.proofs.ListLemmas.{at_most, some-is}
 
 -- ---- order
 
@@ -47,23 +43,6 @@ put-insert key x (y ∷ ys) = by_test (put-insert key x ys) (nat_lt (key y) (suc
     by_test ih true = ap (λ zs. y ∷ zs) ih
     by_test ih false = refl
 
--- the rank that a search for the next number tells
-pub behind-rank : {X : Type 0} (key : X → ℕ) (x : X) (xs read : List X) (n r : ℕ) → read ≡ xs → n ≡ key x → r ≡ rank key (n + 1) read → r ≡ rank key (suc (key x)) xs
-behind-rank key x xs read n r same is at = at ∙ (λ i. rank key (n + 1) (same i)) ∙ ap (λ k. rank key k xs) (next n (key x) is)
-  where
-    next : (a b : ℕ) → a ≡ b → a + 1 ≡ suc b
-    next a b e = omega (arith, e)
-
--- the rank of the next number isn't lower
-pub rank-rises : {X : Type 0} (key : X → ℕ) (n : ℕ) (xs : List X) → rank key n xs ≤ rank key (n + 1) xs
-rank-rises key n [] = omega arith
-rank-rises key n (x ∷ xs) = by_side (nat_lt (key x) n) (nat_lt (key x) (n + 1)) refl refl (rank-rises key n xs)
-  where
-    by_side : (a b : Bool) → nat_lt (key x) n ≡ a → nat_lt (key x) (n + 1) ≡ b → rank key n xs ≤ rank key (n + 1) xs → cond a (suc (rank key n xs)) 0 ≤ cond b (suc (rank key (n + 1) xs)) 0
-    by_side true true t u ih = omega (arith, ih)
-    by_side true false t u ih = absurd (grind (arith, nat_tests))
-    by_side false b t u ih = omega arith
-
 -- where no key is the number, none is kept
 pub none-keyed : {X : Type 0} (key : X → ℕ) (n : ℕ) (x : X) (xs : List X) → is_ordered_by key (x ∷ xs) ≡ true → nat_lt (key x) (suc n) ≡ false → filter (λ y. key y == n) xs ≡ []
 none-keyed key n x [] h past = refl
@@ -81,14 +60,11 @@ none-keyed key n x (y ∷ ys) h past =
     later a b n h k = grind (arith, nat_tests)
 
 -- the elements of a key stand between its rank and that of the next number
-pub keyed-range : {X : Type 0} (key : X → ℕ) (n : ℕ) (xs : List X) → is_ordered_by key xs ≡ true
-    → take (rank key (suc n) xs - rank key n xs) (drop (rank key n xs) xs) ≡ filter (λ x. key x == n) xs
-keyed-range key n [] h = refl
-keyed-range {X = X} key n (x ∷ xs) h = by_side (nat_lt (key x) n) (nat_lt (key x) (suc n)) (key x == n) refl refl refl (keyed-range key n xs (both-right (list_all (λ y. nat_le (key x) (key y)) xs) _ h))
+pub rank-next : {X : Type 0} (key : X → ℕ) (n : ℕ) (xs : List X) → is_ordered_by key xs ≡ true → rank key n xs + length (filter (λ x. key x == n) xs) ≡ rank key (suc n) xs
+rank-next key n [] h = omega arith
+rank-next {X = X} key n (x ∷ xs) h =
+    by_side (nat_lt (key x) n) (nat_lt (key x) (suc n)) (key x == n) refl refl refl (rank-next key n xs (both-right (list_all (λ y. nat_le (key x) (key y)) xs) _ h))
   where
-    below : (r s : ℕ) (zs : List X) → take (s - r) (drop r xs) ≡ zs → take (suc s - suc r) (drop r xs) ≡ zs
-    below r s zs e = ap (λ k. take k (drop r xs)) (omega arith) ∙ e
-
     -- nothing of a lower key stands behind
     none_below : nat_lt (key x) n ≡ false → rank key n xs ≡ 0
     none_below t = first xs (both-left _ (is_ordered_by key xs) h)
@@ -100,25 +76,14 @@ keyed-range {X = X} key n (x ∷ xs) h = by_side (nat_lt (key x) n) (nat_lt (key
             not_below : (a b : ℕ) → nat_lt a n ≡ false → nat_le a b ≡ true → nat_lt b n ≡ false
             not_below a b h k = grind (arith, nat_tests)
 
-    here : (r s : ℕ) (zs : List X) → r ≡ 0 → take (s - r) (drop r xs) ≡ zs → take s xs ≡ zs
-    here r s zs e g = (λ i. take (minus_none i) (drop (sym e i) xs)) ∙ g
-      where
-        minus_none : s ≡ s - r
-        minus_none = omega (arith, e)
-
-    whole : (k : ℕ) → k - 0 ≡ k
-    whole k = omega arith
-
-    by_side : (a b c : Bool) → nat_lt (key x) n ≡ a → nat_lt (key x) (suc n) ≡ b → key x == n ≡ c
-        → take (rank key (suc n) xs - rank key n xs) (drop (rank key n xs) xs) ≡ filter (λ y. key y == n) xs
-        → take (cond b (suc (rank key (suc n) xs)) 0 - cond a (suc (rank key n xs)) 0) (drop (cond a (suc (rank key n xs)) 0) (x ∷ xs))
-        ≡ cond c (x ∷ filter (λ y. key y == n) xs) (filter (λ y. key y == n) xs)
-    by_side true true false e f g ih = below (rank key n xs) (rank key (suc n) xs) _ ih
+    by_side : (a b c : Bool) → nat_lt (key x) n ≡ a → nat_lt (key x) (suc n) ≡ b → key x == n ≡ c → rank key n xs + length (filter (λ y. key y == n) xs) ≡ rank key (suc n) xs
+        → cond a (suc (rank key n xs)) 0 + length (cond c (x ∷ filter (λ y. key y == n) xs) (filter (λ y. key y == n) xs)) ≡ cond b (suc (rank key (suc n) xs)) 0
+    by_side true true false e f g ih = omega (arith, ih)
     by_side true true true e f g ih = absurd (grind (arith, nat_tests))
     by_side true false c e f g ih = absurd (grind (arith, nat_tests))
-    by_side false true true e f g ih = ap (λ k. take k (x ∷ xs)) (whole (suc (rank key (suc n) xs))) ∙ ap (λ zs. x ∷ zs) (here (rank key n xs) (rank key (suc n) xs) _ (none_below e) ih)
+    by_side false true true e f g ih = omega (arith, ih, none_below e)
     by_side false true false e f g ih = absurd (grind (arith, nat_tests))
-    by_side false false false e f g ih = sym (none-keyed key n x xs h f)
+    by_side false false false e f g ih = let none = ap length (none-keyed key n x xs h f) in omega (arith, none)
     by_side false false true e f g ih = absurd (grind (arith, nat_tests))
 
 -- ---- places
@@ -150,24 +115,6 @@ place-none p xs h = ap (λ b. cond b (Some (position_or_len p xs)) None) (past (
         by_test : (is_some (find p ys) ≡ false → position_or_len p ys ≡ length ys) → (b : Bool) → is_some (cond b (Some y) (find p ys)) ≡ false → cond (not b) (1 + position_or_len p ys) 0 ≡ suc (length ys)
         by_test ih true h = absurd (not_both true refl h)
         by_test ih false h = omega (arith, ih h)
-
--- the first that passes is looked for from the rank of its key on
-pub place-skip : {X : Type 0} (key : X → ℕ) (p : X → Bool) (n : ℕ) (xs : List X) (r : X) → find p xs ≡ Some r → key r ≡ n
-    → rank key n xs + position_or_len p (drop (rank key n xs) xs) ≡ position_or_len p xs
-place-skip key p n [] r e k = refl
-place-skip {X = X} key p n (x ∷ xs) r e k = by_side (nat_lt (key x) n) (p x) refl refl e (λ g. place-skip key p n xs r g k)
-  where
-    by_side : (a b : Bool) → nat_lt (key x) n ≡ a → p x ≡ b → cond b (Some x) (find p xs) ≡ Some r
-        → (find p xs ≡ Some r → rank key n xs + position_or_len p (drop (rank key n xs) xs) ≡ position_or_len p xs)
-        → cond a (suc (rank key n xs)) 0 + position_or_len p (drop (cond a (suc (rank key n xs)) 0) (x ∷ xs)) ≡ cond (not (p x)) (1 + position_or_len p xs) 0
-    by_side true true t u e ih = absurd (own (key x) n t (ap key (some-is r x e) ∙ k))
-      where
-        own : (a b : ℕ) → nat_lt a b ≡ true → a ≡ b → ⊥
-        own a b h e = grind (arith, nat_tests)
-    by_side true false t u e ih =
-        let rest : suc (rank key n xs) + position_or_len p (drop (rank key n xs) xs) ≡ 1 + position_or_len p xs = omega (arith, ih e) in
-        rest ∙ ap {B = ℕ} (λ b. cond (not b) (1 + position_or_len p xs) 0) (sym u)
-    by_side false b t u e ih = omega arith
 
 -- ---- the one that passes
 
@@ -233,13 +180,3 @@ one-any p (x ∷ xs) h = by_test (one-any p xs) (p x) h
     by_test : (length (filter p xs) ≡ 1 → list_any p xs ≡ true) → (b : Bool) → length (cond b (x ∷ filter p xs) (filter p xs)) ≡ 1 → b || list_any p xs ≡ true
     by_test ih true h = refl
     by_test ih false h = ih h
-
--- ---- enrolments
-
--- the first enrolment of a student in a course is looked for from the student's rank on
-pub held-skip : (student : StudentId) (course : CourseId) (es : List Enrolment) → list_any (is_in student course) es ≡ true
-    → rank (λ e. e.student.0) student.0 es + position_or_len (is_in student course) (drop (rank (λ e. e.student.0) student.0 es) es) ≡ position_or_len (is_in student course) es
-held-skip student course es h =
-    let found = known (find (is_in student course) es) (any-find (is_in student course) es ∙ h) in
-    place-skip (λ e. e.student.0) (is_in student course) student.0 es found.0 found.1
-    (eqb-true found.0.student.0 student.0 (both-left (found.0.student.0 == student.0) _ (found-passes (is_in student course) es found.0 found.1)))

@@ -7,10 +7,13 @@ use Rattle.std.proofs.lemmas.Bool.{eq-eqb}
 use Rattle.sect_people.specs.Order.{all_differ}
 use Rattle.sect_model.specs.declared.held.Enrolment.{Enrolment}
 use Rattle.sect_model.specs.World.{insert_enrolment, put_behind}
-use Rattle.sect_model.specs.Kept.{is_ordered}
-use Rattle.sect_model.proofs.ListLemmas.{some-is}
+use Rattle.sect_model.specs.Kept.{is_ordered, is_ordered_by}
+use Rattle.sect_model.proofs.ListLemmas.{any-find, some-is}
 use Rattle.sect_model.proofs.PutLemmas.{filter-put}
 use Rattle.sect_roster.specs.Last.{last_of, drop_last_of}
+use Rattle.sect_roster.specs.Slots.{rows_of, put_among}
+use Rattle.sect_roster.proofs.AmongLemmas.{comes-back}
+use Rattle.sect_roster.proofs.FoundLemmas.{find-among}
 use Rattle.sect_roster.proofs.InsertLemmas.{none-found, once}
 use Rattle.sect_roster.proofs.LastLemmas.{drop-put, last-put}
 use Rattle.sect_roster.proofs.PlaceLemmas.{none-filter, one-any, place-some, put-one-back}
@@ -22,10 +25,15 @@ put-back p xs k x one found at =
     let same : k ≡ position_or_len p xs = sym (some-is k (position_or_len p xs) (sym (at ∙ place-some p xs (one-any p xs one)))) in
     ap (λ j. insert (filter (λ y. not (p y)) xs) j x) same ∙ put-one-back p xs x one found
 
--- the row of an id, taken out and put back at its place
-pub put-row-back : {X : Type 0} (id : X → ℕ) (n : ℕ) (xs : List X) (k : ℕ) (x : X) → all_differ (map id xs) ≡ true → Some x ≡ find (λ y. id y == n) xs → Some k ≡ position (λ y. id y == n) xs
-    → insert (filter (λ y. not (id y == n)) xs) k x ≡ xs
-put-row-back id n xs k x differ found at = put-back (λ y. id y == n) xs k x (once id n xs differ (ap is_some (sym found))) found at
+-- the row of an id, taken out and put back at its place among those of its offering
+pub put-row-back : {X : Type 0} (key id : X → ℕ) (n : ℕ) (xs : List X) (k : ℕ) (x : X) → is_ordered_by key xs ≡ true → all_differ (map id xs) ≡ true → Some x ≡ find (λ y. id y == n) xs
+    → Some k ≡ position (λ y. id y == n) (rows_of key (key x) xs) → put_among key k x (filter (λ y. not (id y == n)) xs) ≡ xs
+put-row-back key id n xs k x h differ found at =
+    let p = λ (y : _). id y == n in
+    let own = rows_of key (key x) xs in
+    let among = find-among p (λ y. key y == key x) xs x (sym found) (eq-eqb (key x) (key x) refl) in
+    let same : k ≡ position_or_len p own = sym (some-is k (position_or_len p own) (sym (at ∙ place-some p own (sym (any-find p own) ∙ ap is_some among)))) in
+    ap (λ j. put_among key j x (filter (λ y. not (p y)) xs)) same ∙ comes-back key p (key x) xs x h (once id n xs differ (ap is_some (sym found))) found refl
 
 -- a row of a new id, put behind and taken out
 pub taken-back : {X : Type 0} (key id : X → ℕ) (x : X) (xs : List X) → is_some (find (λ y. id y == id x) xs) ≡ false

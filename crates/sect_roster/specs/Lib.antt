@@ -1,4 +1,5 @@
 pub mod Filed
 pub mod Last
 pub mod Listed
+pub mod Slots
 pub mod Undone

@@ -4,7 +4,7 @@ ghost use Rattle.std.specs.Prelude.{◌≡◌, ◌==◌, find, map, Some, IsSome
 ghost use Rattle.std.specs.Option.{option_map};
 ghost use Rattle.sect_model.specs.Change.{expire};
 
-use crate::listing::Listing;
+use crate::listing::{Listing, first_of};
 use sect_base::ReservationId;
 use sect_reserve::Reservation;
 use sect_time::Day;
@@ -16,8 +16,12 @@ impl Listing<Reservation> {
         ensures given_back { Some result ≡ option_map (λ r. r.expiry) (find (λ r. r.id.0 == id.0) self.old.items) }
         ensures changed { self.new ≡ record self.old { items = map (expire id expiry) self.old.items } }
     {
-        let place = self.known_place(id.0);
-        replace_expiry(&mut self.rows[place], expiry)
+        let offering = self.known_offering(id.0);
+        let place = first_of(self.slots.rows_of(offering), id.0);
+        let mut row = self.slots.remove(offering, place);
+        let old = replace_expiry(&mut row, expiry);
+        self.slots.put_back(place, row);
+        old
     }
 }
 

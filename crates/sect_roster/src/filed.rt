@@ -1,8 +1,9 @@
-// What lists are ordered by: the offering of a row, the id of a mark.
+// What lists are ordered by: the offering of a row, the student of an enrolment, the id of a mark.
 
 ghost use Rattle.std.specs.Prelude.{◌≡◌, ℕ};
 
 use crate::mark::Mark;
+use sect_model::Enrolment;
 use sect_reserve::{Reservation, Restriction};
 
 /// An element of a list that stands in order of a number.
@@ -28,6 +29,14 @@ impl Keyed for Mark {
 
     fn key(&self) -> u32 {
         self.id
+    }
+}
+
+impl Keyed for Enrolment {
+    ghost key_of = { λ e. e.student.0 };
+
+    fn key(&self) -> u32 {
+        self.student.0
     }
 }
 

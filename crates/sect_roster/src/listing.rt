@@ -5,19 +5,17 @@ ghost use Rattle.std.specs.Prelude.{
   ◌<◌,
   ◌≤◌,
   ◌+◌,
+  ◌-◌,
   ◌==◌,
+  ℕ,
   not,
   [],
-  drop,
-  length,
-  insert,
   filter,
   find,
   map,
   position,
   option_copied,
   Some,
-  IsTrue,
   IsSome,
   IsNone,
   IsOk,
@@ -26,15 +24,14 @@ ghost use Rattle.std.specs.Prelude.{
 };
 ghost use Rattle.std.specs.List.{position_or_len};
 ghost use Rattle.std.specs.Option.{option_map};
-ghost use Rattle.sect_people.specs.Order.{all_differ};
+ghost use Rattle.sect_people.specs.Order.{sorted_by};
 ghost use Rattle.sect_model.specs.World.{put_behind};
-ghost use Rattle.sect_model.specs.Kept.{is_ordered_by};
+ghost use Rattle.sect_roster.specs.Slots.{rows_of, number_of, put_among, capacity_of};
 
 use crate::filed::Filed;
 use crate::mark::Mark;
-use crate::rank::{of_key, rank, rank_near};
-use crate::room::put_at;
-use crate::starts::Starts;
+use crate::marks::{offering_of, put_mark, take_mark};
+use crate::slots::Slots;
 use sect_base::Memory;
 use std::alloc::Global;
 use std::marker::Model;
@@ -42,14 +39,13 @@ use std::marker::Model;
 /// Rows in order of offering, and for one offering in the order in which they came, no two with one id.
 #[derive(Drop)]
 pub struct Listing<R: Filed> {
-    pub(crate) rows: Vec<R>,
+    pub(crate) slots: Slots<R>,
     /// The offering of each id, in order of id.
     marks: Vec<Mark>,
-    starts: Starts,
 }
 
 impl<R: Filed> Model for Listing<R> {
-    ghost use Rattle.std.specs.Prelude.{◌-◌, min};
+    ghost use Rattle.std.specs.Prelude.{◌-◌};
     ghost use Rattle.std.specs.Vec.{vec_len, vec_capacity};
     ghost use Rattle.sect_roster.specs.Listed.{Listed};
 
@@ -57,57 +53,55 @@ impl<R: Filed> Model for Listing<R> {
 
     ghost use Rattle.sect_roster.specs.Filed.{Keeps};
 
-    ghost view = { λ l. record { items = l.rows.items; spare = min (vec_capacity l.rows - vec_len l.rows) (vec_capacity l.marks - vec_len l.marks) } };
+    ghost view = { λ l. record { items = l.slots.items; rooms = l.slots.rooms; spare = vec_capacity l.marks - vec_len l.marks } };
 
-    ghost invariant = { λ l. Keeps R.key_of R.id_of l.rows.items l.marks.items };
+    ghost invariant = { λ l. Keeps R.key_of R.id_of l.slots.items l.marks.items };
 }
 
 impl<R: Filed> Listing<R> {
     /// No rows. It takes no memory.
     pub fn empty(alloc: Global) -> Listing<R>
-        ensures { result ≡ record { items = []; spare = 0 } }
+        ensures { result ≡ record { items = []; rooms = []; spare = 0 } }
     {
         Listing {
-            rows: Vec::new(alloc),
+            slots: Slots::empty(alloc),
             marks: Vec::new(alloc),
-            starts: Starts::empty(alloc),
         }
-    }
-
-    /// All rows, in order of offering. It takes no memory.
-    pub fn rows(&self) -> &[R]
-        ensures value { result.now ≡ self.now.items }
-        ensures in_order { IsTrue (is_ordered_by R.key_of result.now) }
-        ensures differ { IsTrue (all_differ (map R.id_of result.now)) }
-    {
-        self.rows.as_slice()
     }
 
     /// The rows of an offering, the earliest first. It takes no memory.
     pub fn of_key(&self, key: u32) -> &[R]
         ensures { result.now ≡ filter (λ r. R.key_of r == key) self.now.items }
     {
-        let start = self.start(key as u64);
-        let end = self.start(key as u64 + 1);
-        of_key(self.rows.as_slice(), key, start, end)
+        self.slots.rows_of(key)
     }
 
     /// The row of an id, None exactly where it is unknown. It takes no memory.
     pub fn get(&self, id: u32) -> Option<&R>
         ensures { option_copied result ≡ find (λ r. R.id_of r == id) self.now.items }
     {
-        let place = self.place(id)?;
-        self.rows.get(place)
+        let offering = self.offering(id)?;
+        let rows = self.slots.rows_of(offering);
+        rows.get(first_of(rows, id))
     }
 
-    /// Makes room for `n` rows more. Where memory runs out, the rows are as before.
-    pub fn reserve(&mut self, n: usize) -> Result<(), Memory>
-        ensures items { self.new.items ≡ self.old.items }
-        ensures room { OnOk result (n ≤ self.new.spare) }
-        ensures grows { self.old.spare ≤ self.new.spare }
-        ensures enough { n ≤ self.old.spare → IsOk result }
+    /// The marks of all rows, in order of id. It takes no memory.
+    pub fn marks(&self) -> &[Mark]
+        ensures { map (λ m. m.id) result.now ≡ map R.id_of (sorted_by R.id_of self.now.items) }
     {
-        self.rows.reserve(n)?;
+        self.marks.as_slice()
+    }
+
+    /// Makes room for `n` rows more of an offering. Where memory runs out, the rows are as before.
+    pub fn reserve(&mut self, key: u32, n: usize) -> Result<(), Memory>
+        ensures items { self.new.items ≡ self.old.items }
+        ensures room { OnOk result (n ≤ capacity_of self.new.rooms key - number_of R.key_of key self.old.items) }
+        ensures spare { OnOk result (n ≤ self.new.spare) }
+        ensures room_grows { (m : ℕ) → capacity_of self.old.rooms m ≤ capacity_of self.new.rooms m }
+        ensures spare_grows { self.old.spare ≤ self.new.spare }
+        ensures enough { n ≤ capacity_of self.old.rooms key - number_of R.key_of key self.old.items → n ≤ self.old.spare → IsOk result }
+    {
+        self.slots.reserve(key, n)?;
         self.marks.reserve(n)?;
         Ok(())
     }
@@ -117,113 +111,85 @@ impl<R: Filed> Listing<R> {
         requires { IsNone (find (λ r. R.id_of r == R.id_of row) self.old.items) }
         ensures ok { OnOk result (self.new.items ≡ put_behind R.key_of row self.old.items) }
         ensures err { OnErr result (self.new.items ≡ self.old.items) }
+        ensures rooms { (m : ℕ) → capacity_of self.old.rooms m ≤ capacity_of self.new.rooms m }
         ensures spare { self.old.spare ≤ self.new.spare + 1 }
         ensures grows { OnErr result (self.old.spare ≤ self.new.spare) }
-        ensures enough { 0 < self.old.spare → IsOk result }
+        ensures enough { number_of R.key_of (R.key_of row) self.old.items < capacity_of self.old.rooms (R.key_of row) → 0 < self.old.spare → IsOk result }
     {
-        self.reserve(1)?;
-        let offering = row.key();
-        let guess = self.start(offering as u64 + 1);
-        let place = rank_near(self.rows.as_slice(), offering as u64 + 1, guess);
-        self.starts.reach(offering, place);
-        self.put_back(place, row);
+        self.reserve(row.key(), 1)?;
+        put_mark(&mut self.marks, mark_of(&row));
+        self.slots.insert(row);
         Ok(())
     }
 
-    /// Takes the row of an id out, and gives it back with its place. It takes no memory.
+    /// Takes the row of an id out, and gives it back with its place among those of its offering. It takes no memory.
     pub fn remove(&mut self, id: u32) -> (usize, R)
         requires { IsSome (find (λ r. R.id_of r == id) self.old.items) }
         ensures row { Some result.1 ≡ find (λ r. R.id_of r == id) self.old.items }
         ensures id { R.id_of result.1 ≡ id }
-        ensures place { Some result.0 ≡ position (λ r. R.id_of r == id) self.old.items }
+        ensures place { Some result.0 ≡ position (λ r. R.id_of r == id) (rows_of R.key_of (R.key_of result.1) self.old.items) }
         ensures rest { self.new.items ≡ filter (λ r. not (R.id_of r == id)) self.old.items }
         ensures gone { IsNone (find (λ r. R.id_of r == id) self.new.items) }
-        ensures back { self.old.items ≡ insert self.new.items result.0 result.1 }
-        ensures within { result.0 ≤ length self.new.items }
+        ensures back { self.old.items ≡ put_among R.key_of result.0 result.1 self.new.items }
+        ensures within { result.0 ≤ number_of R.key_of (R.key_of result.1) self.new.items }
+        ensures rooms { self.new.rooms ≡ self.old.rooms }
+        ensures room { number_of R.key_of (R.key_of result.1) self.old.items ≤ capacity_of self.old.rooms (R.key_of result.1) }
         ensures spare { self.new.spare ≡ self.old.spare + 1 }
     {
-        let place = self.known_place(id);
-        let rank = rank(self.marks.as_slice(), id as u64);
-        let _ = self.marks.remove(rank);
-        let row = self.rows.remove(place);
-        self.starts.went(row.key());
-        (place, row)
+        let offering = self.known_offering(id);
+        let place = first_of(self.slots.rows_of(offering), id);
+        take_mark(&mut self.marks, id);
+        (place, self.slots.remove(offering, place))
     }
 
-    /// Puts a row back where it stood. It takes no memory.
+    /// Puts a row back where it stood among those of its offering. It takes no memory.
     pub fn put_back(&mut self, place: usize, row: R)
-        requires room { 0 < self.old.spare }
-        requires within { place ≤ length self.old.items }
+        requires room { number_of R.key_of (R.key_of row) self.old.items < capacity_of self.old.rooms (R.key_of row) }
+        requires spare { 0 < self.old.spare }
+        requires within { place ≤ number_of R.key_of (R.key_of row) self.old.items }
         requires absent { IsNone (find (λ r. R.id_of r == R.id_of row) self.old.items) }
-        requires in_order { IsTrue (is_ordered_by R.key_of (insert self.old.items place row)) }
-        ensures items { self.new.items ≡ insert self.old.items place row }
+        ensures items { self.new.items ≡ put_among R.key_of place row self.old.items }
+        ensures rooms { self.new.rooms ≡ self.old.rooms }
         ensures spare { self.new.spare + 1 ≡ self.old.spare }
     {
-        let mark = Mark {
-            id: row.id(),
-            offering: row.key(),
-        };
-        let rank = rank(self.marks.as_slice(), mark.id as u64 + 1);
-        self.starts.came(mark.offering);
-        put_at(&mut self.marks, rank, mark);
-        put_at(&mut self.rows, place, row);
+        put_mark(&mut self.marks, mark_of(&row));
+        self.slots.put_back(place, row);
     }
 
-    /// A guess of where the rows of an offering begin: behind all others, if it has none.
-    fn start(&self, offering: u64) -> usize {
-        self.starts.guess(offering, self.rows.len())
-    }
-
-    /// Where the row of an id stands, None exactly where it is unknown.
-    fn place(&self, id: u32) -> Option<usize>
-        ensures { result ≡ position (λ r. R.id_of r == id) self.now.items }
+    /// The offering of an id, None exactly where it is unknown.
+    fn offering(&self, id: u32) -> Option<u32>
+        ensures { result ≡ option_map R.key_of (find (λ r. R.id_of r == id) self.now.items) }
     {
-        let offering = offering_of(self.marks.as_slice(), id)?;
-        let guess = self.start(offering as u64);
-        let start = rank_near(self.rows.as_slice(), offering as u64, guess);
-        Some(first_from(self.rows.as_slice(), start, id))
+        offering_of(self.marks.as_slice(), id)
     }
 
-    /// Where the row of a known id stands.
-    pub fn known_place(&self, id: u32) -> usize
+    /// The offering of a known id.
+    pub(crate) fn known_offering(&self, id: u32) -> u32
         requires { IsSome (find (λ r. R.id_of r == id) self.now.items) }
-        ensures { result ≡ position_or_len (λ r. R.id_of r == id) self.now.items }
+        ensures { Some result ≡ option_map R.key_of (find (λ r. R.id_of r == id) self.now.items) }
     {
-        match self.place(id) {
-            Some(place) => place,
+        match self.offering(id) {
+            Some(offering) => offering,
             None => unreachable!(),
         }
     }
 }
 
-/// The offering of an id, None exactly where no mark has the id.
-fn offering_of(marks: &[Mark], id: u32) -> Option<u32>
-    requires { IsTrue (is_ordered_by (λ m. m.id) marks.now) }
-    ensures { result ≡ option_map (λ m. m.offering) (find (λ m. m.id == id) marks.now) }
+/// The mark of a row.
+fn mark_of<R: Filed>(row: &R) -> Mark
+    ensures { result ≡ record { id = R.id_of row.now; offering = R.key_of row.now } }
 {
-    let rank = rank_near(marks, id as u64, first_guess(marks, id));
-    let mark = marks.get(rank)?;
-    if mark.id == id {
-        Some(mark.offering)
-    } else {
-        None
+    Mark {
+        id: row.id(),
+        offering: row.key(),
     }
 }
 
-/// Where the mark of an id stands if each id between the first and this one has one, as it mostly is.
-fn first_guess(marks: &[Mark], id: u32) -> usize {
-    match marks.first() {
-        Some(first) => id.saturating_sub(first.id) as usize,
-        None => 0,
-    }
-}
-
-/// The place of the first row of an id, from a place on; the length where there is none.
-fn first_from<R: Filed>(rows: &[R], start: usize, id: u32) -> usize
-    requires { start ≤ length rows.now }
-    ensures { result ≡ start + position_or_len (λ r. R.id_of r == id) (drop start rows.now) }
+/// The place of the first row of an id; the length where there is none.
+pub fn first_of<R: Filed>(rows: &[R], id: u32) -> usize
+    ensures { result ≡ position_or_len (λ r. R.id_of r == id) rows.now }
 {
-    let mut place = start;
+    let mut place = 0;
     while place < rows.len() && rows[place].id() != id {
         place += 1;
     }

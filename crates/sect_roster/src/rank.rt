@@ -1,13 +1,13 @@
 // Searches in lists in order of a number.
 
-ghost use Rattle.std.specs.Prelude.{◌≡◌, ◌≤◌, ◌==◌, ◌+◌, filter, true, IsTrue};
+ghost use Rattle.std.specs.Prelude.{◌≡◌, ◌≤◌, true, IsTrue};
 ghost use Rattle.sect_people.specs.Index.{rank as rank_of};
 ghost use Rattle.sect_model.specs.Kept.{is_ordered_by};
 
 use crate::filed::Keyed;
 
 /// How many elements have a number below the bound, which is where one of it would stand first.
-pub fn rank<T: Keyed>(items: &[T], bound: u64) -> usize
+fn rank<T: Keyed>(items: &[T], bound: u64) -> usize
     requires { IsTrue (is_ordered_by T.key_of items.now) }
     ensures { result ≡ rank_of T.key_of bound items.now }
 {
@@ -68,12 +68,11 @@ pub fn rank_near<T: Keyed>(items: &[T], bound: u64, guess: usize) -> usize
     }
 }
 
-/// The elements of a number, which stand together. Where they begin and end may be guessed.
-pub fn of_key<T: Keyed>(items: &[T], key: u32, guess: usize, guessed_end: usize) -> &[T]
-    requires { IsTrue (is_ordered_by T.key_of items.now) }
-    ensures { result.now ≡ filter (λ x. T.key_of x == key) items.now }
-{
-    let start = rank_near(items, key as u64, guess);
-    let end = rank_near(items, key as u64 + 1, guessed_end);
-    &items[start..end]
+/// Where the element of a number stands if each number between the first and this one has one, as it mostly is; the length
+/// where it would stand behind all.
+pub fn first_guess<T: Keyed>(items: &[T], number: u32) -> usize {
+    match items.first() {
+        Some(first) => items.len().min(number.saturating_sub(first.key()) as usize),
+        None => 0,
+    }
 }

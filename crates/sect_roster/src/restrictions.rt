@@ -5,27 +5,24 @@ ghost use Rattle.std.specs.Prelude.{
   ◌<◌,
   ◌≤◌,
   ◌+◌,
+  ◌-◌,
   ◌==◌,
+  ℕ,
   not,
   [],
-  length,
-  insert,
   filter,
   find,
-  map,
   position,
   option_copied,
   Some,
-  IsTrue,
   IsSome,
   IsNone,
   IsOk,
   OnOk,
   OnErr,
 };
-ghost use Rattle.sect_people.specs.Order.{all_differ};
 ghost use Rattle.sect_model.specs.World.{put_behind};
-ghost use Rattle.sect_model.specs.Kept.{is_ordered_by};
+ghost use Rattle.sect_roster.specs.Slots.{rows_of, number_of, put_among, capacity_of};
 
 use crate::listing::Listing;
 use sect_base::{Memory, OfferingId, RestrictionId};
@@ -34,7 +31,7 @@ use std::alloc::Global;
 use std::marker::Model;
 
 /// The restrictions in order of offering, and for one offering in the order in which they came, no
-/// two with one id. They are seen as that list, with its room.
+/// two with one id. They are seen as that list, with the room of each offering and of the index of ids.
 #[derive(Drop)]
 pub struct Restrictions {
     listing: Listing<Restriction>,
@@ -52,20 +49,11 @@ impl Model for Restrictions {
 impl Restrictions {
     /// No restrictions. It takes no memory.
     pub fn empty(alloc: Global) -> Restrictions
-        ensures { result ≡ record { items = []; spare = 0 } }
+        ensures { result ≡ record { items = []; rooms = []; spare = 0 } }
     {
         Restrictions {
             listing: Listing::empty(alloc),
         }
-    }
-
-    /// All restrictions, in order of offering. It takes no memory.
-    pub fn rows(&self) -> &[Restriction]
-        ensures value { result.now ≡ self.now.items }
-        ensures in_order { IsTrue (is_ordered_by (λ r. r.offering.0) result.now) }
-        ensures differ { IsTrue (all_differ (map (λ r. r.id.0) result.now)) }
-    {
-        self.listing.rows()
     }
 
     /// The restrictions of an offering, the earliest first. It takes no memory.
@@ -82,14 +70,17 @@ impl Restrictions {
         self.listing.get(id.0)
     }
 
-    /// Makes room for `n` restrictions more. Where memory runs out, the restrictions are as before.
-    pub fn reserve(&mut self, n: usize) -> Result<(), Memory>
+    /// Makes room for `n` restrictions more of an offering. Where memory runs out, the restrictions are as before.
+    pub fn reserve(&mut self, offering: OfferingId, n: usize) -> Result<(), Memory>
         ensures items { self.new.items ≡ self.old.items }
-        ensures room { OnOk result (n ≤ self.new.spare) }
-        ensures grows { self.old.spare ≤ self.new.spare }
-        ensures enough { n ≤ self.old.spare → IsOk result }
+        ensures room { OnOk result (n ≤ capacity_of self.new.rooms offering.0 - number_of (λ r. r.offering.0) offering.0 self.old.items) }
+        ensures spare { OnOk result (n ≤ self.new.spare) }
+        ensures room_grows { (m : ℕ) → capacity_of self.old.rooms m ≤ capacity_of self.new.rooms m }
+        ensures spare_grows { self.old.spare ≤ self.new.spare }
+        ensures enough { n ≤ capacity_of self.old.rooms offering.0 - number_of (λ r. r.offering.0) offering.0 self.old.items → n ≤ self.old.spare
+            → IsOk result }
     {
-        self.listing.reserve(n)
+        self.listing.reserve(offering.0, n)
     }
 
     /// Puts a restriction behind the others of its offering. Where memory runs out, the restrictions
@@ -98,35 +89,41 @@ impl Restrictions {
         requires { IsNone (find (λ r. r.id.0 == row.id.0) self.old.items) }
         ensures ok { OnOk result (self.new.items ≡ put_behind (λ r. r.offering.0) row self.old.items) }
         ensures err { OnErr result (self.new.items ≡ self.old.items) }
+        ensures rooms { (m : ℕ) → capacity_of self.old.rooms m ≤ capacity_of self.new.rooms m }
         ensures spare { self.old.spare ≤ self.new.spare + 1 }
         ensures grows { OnErr result (self.old.spare ≤ self.new.spare) }
-        ensures enough { 0 < self.old.spare → IsOk result }
+        ensures enough { number_of (λ r. r.offering.0) row.offering.0 self.old.items < capacity_of self.old.rooms row.offering.0 → 0 < self.old.spare
+            → IsOk result }
     {
         self.listing.insert(row)
     }
 
-    /// Takes the restriction of an id out, and gives it back with its place. It takes no memory.
+    /// Takes the restriction of an id out, and gives it back with its place among those of its offering. It
+    /// takes no memory.
     pub fn remove(&mut self, id: RestrictionId) -> (usize, Restriction)
         requires { IsSome (find (λ r. r.id.0 == id.0) self.old.items) }
         ensures row { Some result.1 ≡ find (λ r. r.id.0 == id.0) self.old.items }
         ensures id { result.1.id ≡ id }
-        ensures place { Some result.0 ≡ position (λ r. r.id.0 == id.0) self.old.items }
+        ensures place { Some result.0 ≡ position (λ r. r.id.0 == id.0) (rows_of (λ r. r.offering.0) result.1.offering.0 self.old.items) }
         ensures rest { self.new.items ≡ filter (λ r. not (r.id.0 == id.0)) self.old.items }
         ensures gone { IsNone (find (λ r. r.id.0 == id.0) self.new.items) }
-        ensures back { self.old.items ≡ insert self.new.items result.0 result.1 }
-        ensures within { result.0 ≤ length self.new.items }
+        ensures back { self.old.items ≡ put_among (λ r. r.offering.0) result.0 result.1 self.new.items }
+        ensures within { result.0 ≤ number_of (λ r. r.offering.0) result.1.offering.0 self.new.items }
+        ensures rooms { self.new.rooms ≡ self.old.rooms }
+        ensures room { number_of (λ r. r.offering.0) result.1.offering.0 self.old.items ≤ capacity_of self.old.rooms result.1.offering.0 }
         ensures spare { self.new.spare ≡ self.old.spare + 1 }
     {
         self.listing.remove(id.0)
     }
 
-    /// Puts a restriction back where it stood. It takes no memory.
+    /// Puts a restriction back where it stood among those of its offering. It takes no memory.
     pub fn put_back(&mut self, place: usize, row: Restriction)
-        requires room { 0 < self.old.spare }
-        requires within { place ≤ length self.old.items }
+        requires room { number_of (λ r. r.offering.0) row.offering.0 self.old.items < capacity_of self.old.rooms row.offering.0 }
+        requires spare { 0 < self.old.spare }
+        requires within { place ≤ number_of (λ r. r.offering.0) row.offering.0 self.old.items }
         requires absent { IsNone (find (λ r. r.id.0 == row.id.0) self.old.items) }
-        requires in_order { IsTrue (is_ordered_by (λ r. r.offering.0) (insert self.old.items place row)) }
-        ensures items { self.new.items ≡ insert self.old.items place row }
+        ensures items { self.new.items ≡ put_among (λ r. r.offering.0) place row self.old.items }
+        ensures rooms { self.new.rooms ≡ self.old.rooms }
         ensures spare { self.new.spare + 1 ≡ self.old.spare }
     {
         self.listing.put_back(place, row);

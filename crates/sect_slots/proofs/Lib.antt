@@ -1,4 +1,1 @@
-pub mod Changed
-pub mod Parts
-pub mod Places
-pub mod SlotLemmas
+pub mod OwnLemmas

@@ -1,2 +1,1 @@
 pub mod Rostered
-pub mod Slots

@@ -3,6 +3,5 @@
 
 pub mod laws;
 mod roster;
-mod slot;
 
 pub use roster::Roster;

@@ -74,7 +74,7 @@ configs-few w k id o f =
 -- ---- reservations
 
 -- each reservation is of an offering of the catalogue
-of-offering : (w : World) → KeptWorld w → (r : Reservation) → Member w.reservations r → (o : OfferingRow) × Member w.catalogue.rows o × (r.offering.0 == o.id.0 ≡ true)
+pub of-offering : (w : World) → KeptWorld w → (r : Reservation) → Member w.reservations r → (o : OfferingRow) × Member w.catalogue.rows o × (r.offering.0 == o.id.0 ≡ true)
 of-offering w k r m =
     let f = known-test (lists_own r.includes) (find_offering w.catalogue.rows r.offering) (all-at (λ r. includes_fit w r.offering r.includes) w.reservations k.reservations_fit r m) in
     let g = find-member (λ o. o.id.0 == r.offering.0) w.catalogue.rows f.0 f.1 in

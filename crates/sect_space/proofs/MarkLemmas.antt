@@ -18,6 +18,7 @@ use Rattle.sect_model.specs.declared.held.Enrolment.{Enrolment}
 use Rattle.sect_model.specs.declared.change.Change.{Change}
 use Rattle.sect_model.specs.declared.change.Change.TheVariants.{Offering, Student as student_change, Requests, Reserve, Unreserve, Expiry, Restrict, Unrestrict, Cap as new_cap, Cancelled, Day, Enrol, Leave}
 use Rattle.sect_model.specs.World.{World, reservation_of, is_in, holds}
+use Rattle.sect_model.specs.Allowed.{reservations_of, restrictions_of}
 use Rattle.sect_model.specs.Refusals.{restriction_of}
 use Rattle.sect_model.specs.Fits.{Fits, is_known_cap}
 use Rattle.sect_model.proofs.Members
@@ -36,7 +37,7 @@ requests-marked : (w : World) (student : StudentId) (o : Option Student) → is_
 requests-marked w student None h = absurd (not_both false h refl)
 requests-marked w student (Some s) h = refl
 
-unreserve-marked : (w : World) (place : ℕ) (o : Option Reservation) → is_some o ≡ true → mark_of (option_map_or (ReservationRemoved place) o (no_change w)) ≡ of_offering (option_map (λ r. r.offering) o)
+unreserve-marked : (w : World) (place : Reservation → ℕ) (o : Option Reservation) → is_some o ≡ true → mark_of (option_map_or (λ r. ReservationRemoved (place r) r) o (no_change w)) ≡ of_offering (option_map (λ r. r.offering) o)
 unreserve-marked w place None h = absurd (not_both false h refl)
 unreserve-marked w place (Some r) h = refl
 
@@ -45,7 +46,7 @@ expiry-marked : (w : World) (id : ReservationId) (o : Option Reservation) → is
 expiry-marked w id None h = absurd (not_both false h refl)
 expiry-marked w id (Some r) h = refl
 
-unrestrict-marked : (w : World) (place : ℕ) (o : Option Restriction) → is_some o ≡ true → mark_of (option_map_or (RestrictionRemoved place) o (no_change w)) ≡ of_offering (option_map (λ r. r.offering) o)
+unrestrict-marked : (w : World) (place : Restriction → ℕ) (o : Option Restriction) → is_some o ≡ true → mark_of (option_map_or (λ r. RestrictionRemoved (place r) r) o (no_change w)) ≡ of_offering (option_map (λ r. r.offering) o)
 unrestrict-marked w place None h = absurd (not_both false h refl)
 unrestrict-marked w place (Some r) h = refl
 
@@ -66,10 +67,10 @@ marked w (Offering row) f = refl
 marked w (student_change row) f = student-marked w row (find_student w.students row.id) refl
 marked w (Requests student asks) f = requests-marked w student (find_student w.students student) (both-left (is_some (find_student w.students student)) _ f)
 marked w (Reserve r) f = refl
-marked w (Unreserve id) f = unreserve-marked w (position_or_len (λ r. r.id.0 == id.0) w.reservations) (reservation_of w id) (both-left (is_some (reservation_of w id)) _ f)
+marked w (Unreserve id) f = unreserve-marked w (λ r. position_or_len (λ x. x.id.0 == id.0) (reservations_of w r.offering)) (reservation_of w id) (both-left (is_some (reservation_of w id)) _ f)
 marked w (Expiry id day) f = expiry-marked w id (reservation_of w id) f
 marked w (Restrict r) f = refl
-marked w (Unrestrict id) f = unrestrict-marked w (position_or_len (λ r. r.id.0 == id.0) w.restrictions) (restriction_of w id) f
+marked w (Unrestrict id) f = unrestrict-marked w (λ r. position_or_len (λ x. x.id.0 == id.0) (restrictions_of w r.offering)) (restriction_of w id) f
 marked w (new_cap cap limit) f = cap-marked w cap (limit_in w.catalogue.rows cap) (known_limit w cap (both-left (is_known_cap w cap) _ f))
 marked w (Cancelled id) f = refl
 marked w (Day day) f = refl

@@ -132,7 +132,7 @@ pub back-ready : (p : Parts) (n : Numbers) (b : Back) → MadeBy (numbered_of p 
 back-ready p n b m =
     let l = m.room.lists in
     subst (Ready (roomed_of p)) m.recorded
-    (ready (roomed_of p) m.before m.change m.kept m.fits (record { roster = l.roster; reservations = l.reservations; restrictions = l.restrictions }) m.led)
+    (ready (roomed_of p) m.before m.change m.kept m.fits (record { roster = l.roster; reservations = l.reservations; restrictions = l.restrictions; reservation_ids = l.reservation_ids; restriction_ids = l.restriction_ids }) m.led)
 
 leaves : (w : World) (student : StudentId) (course : CourseId) (o : Option Enrolment) → find (is_in student course) w.roster ≡ o → holds w student course ≡ true
     → is_of_quiet (option_map_or (λ e. Left (position_or_len (is_in student course) (of_student student.0 w.roster)) e (offering_id w course)) o (no_change w)) ≡ true → false ≡ true

@@ -1,5 +1,5 @@
 -- After a change that fits, what it refers to is there, and there is room for what is put back.
-use Rattle.std.specs.Prelude.{◌≡◌, ℕ, ◌+◌, ◌<◌, ◌≤◌, Bool, true, false, not, ◌==◌, nat_le, cond, List, [], ◌∷◌, ◌++◌, length, map, flat_map, filter, find, Option, Some, None, refl}
+use Rattle.std.specs.Prelude.{◌≡◌, ℕ, ◌+◌, ◌-◌, ◌<◌, ◌≤◌, Bool, true, false, not, ◌==◌, nat_le, cond, List, [], ◌∷◌, ◌++◌, length, map, flat_map, filter, find, Option, Some, None, refl}
 use Rattle.std.specs.List.{list_any, position_or_len}
 use Rattle.std.specs.Option.{option_map, option_map_or, is_some, is_none}
 use Rattle.std.proofs.Common.{sym, ◌∙◌, ap, subst, arith, length-append}
@@ -27,6 +27,7 @@ use Rattle.sect_model.specs.declared.held.Enrolment.{Enrolment}
 use Rattle.sect_model.specs.declared.change.Change.{Change}
 use Rattle.sect_model.specs.declared.change.Change.TheVariants.{Offering, Student as student_change, Requests, Reserve, Unreserve, Expiry, Restrict, Unrestrict, Cap as new_cap, Cancelled, Day, Enrol, Leave}
 use Rattle.sect_model.specs.World.{World, put_behind, reservation_of, is_in, holds, leave}
+use Rattle.sect_model.specs.Allowed.{reservations_of, restrictions_of}
 use Rattle.sect_model.specs.Refusals.{restriction_of}
 use Rattle.sect_model.specs.Kept.{KeptWorld}
 use Rattle.sect_model.specs.Change.{put_student, put_asks, put_limit, cancel, put_expiry, expire, drop_reservation, drop_restriction}
@@ -41,7 +42,9 @@ use Rattle.sect_roster.proofs.PlaceLemmas.{put-one-back, place-left}
 use Rattle.sect_space.specs.Back.{back_of, no_change, offering_id, reservation_offering, cap_offering}
 use Rattle.sect_space.specs.declared.back.Back.TheVariants.{StudentAdded, StudentReplaced, RequestsReplaced, ReservationRemoved, ExpiryReplaced, RestrictionRemoved, LimitReplaced, Left}
 use Rattle.sect_space.specs.Roomed.{Roomed}
-use Rattle.sect_slots.specs.Rostered.{Room, of_student, number_held}
+use Rattle.sect_roster.specs.Slots.{Room, capacity_of, number_of}
+use Rattle.sect_roster.proofs.AmongLemmas.{left-place as left-among}
+use Rattle.sect_slots.specs.Rostered.{of_student, number_held}
 use Rattle.sect_model.proofs.ListLemmas.{found-passes}
 use Rattle.sect_space.specs.Room.{HasLists, free_for}
 use Rattle.sect_space.proofs.RoomLemmas.{left-place}
@@ -83,6 +86,10 @@ removed p xs x spare h e room =
     one : (m n s : ℕ) → m ≡ n + 1 → m ≤ n + s → 0 < s
     one m n s e h = omega (arith, e, h)
 
+-- the place of its number's that it had is free again
+fits-again : (a b c : ℕ) → a ≡ 1 + b → a ≤ b + (c - b) → b < c
+fits-again a b c e h = omega (arith, e, h)
+
 -- ---- limits
 
 parts-after : {X Y : Type 0} (parts : X → List Y) (f : X → X) (g : Y → Y) (xs : List X) → ((x : X) → parts (f x) ≡ map g (parts x)) → flat_map parts (map f xs) ≡ map g (flat_map parts xs)
@@ -108,9 +115,17 @@ limit-after rows (cap_section id) limit h =
 
 -- ---- each change
 
-module _ (w : World) (k : KeptWorld w) (rooms : List Room) (reservation_spare restriction_spare : ℕ) (counted : List ℕ) where
+module _ (w : World) (k : KeptWorld w) (rooms reservation_rooms restriction_rooms : List Room) (reservation_spare restriction_spare : ℕ) (counted : List ℕ) where
   abbrev in_room : World → Roomed
-  in_room v = record { world = v; rooms = rooms; reservation_spare = reservation_spare; restriction_spare = restriction_spare; counted_ids = counted }
+  in_room v = record {
+    world = v;
+    rooms = rooms;
+    reservation_rooms = reservation_rooms;
+    restriction_rooms = restriction_rooms;
+    reservation_spare = reservation_spare;
+    restriction_spare = restriction_spare;
+    counted_ids = counted;
+  }
 
   -- another row keeps the student's id
   row-key : (row : StudentRow) (s : Student) → (with_row row s).row.id.0 ≡ s.row.id.0
@@ -143,26 +158,30 @@ module _ (w : World) (k : KeptWorld w) (rooms : List Room) (reservation_spare re
   requests-ready student asks (Some s) e h = known-after (λ x. x.row.id.0) (with_asks student asks) student.0 w.students (asks-key student asks) ∙ ap is_some e
 
   unreserve-ready : (id : ReservationId) (o : Option Reservation) → reservation_of w id ≡ o → is_some o ≡ true → HasLists (in_room (drop_reservation w id)) w
-      → Ready (in_room (drop_reservation w id)) (option_map_or (ReservationRemoved (position_or_len (λ r. r.id.0 == id.0) w.reservations)) o (no_change w))
+      → Ready (in_room (drop_reservation w id)) (option_map_or (λ r. ReservationRemoved (position_or_len (λ x. x.id.0 == id.0) (reservations_of w r.offering)) r) o (no_change w))
   unreserve-ready id None e h room = absurd (not_both false h refl)
   unreserve-ready id (Some r) e h room =
       let p = λ (x : Reservation). x.id.0 == id.0 in
       let n = once (λ x. x.id.0) id.0 w.reservations k.reservations_differ (ap is_some e) in
+      let left = left-among (λ x. x.offering.0) p r.offering.0 w.reservations r n (sym e) refl in
       let own = eqb-true r.id.0 id.0 (Members.find-member p w.reservations r e).1 in (
-        removed p w.reservations r reservation_spare n e room.reservations,
-        place-left p w.reservations n,
+        fits-again (number_of (λ x. x.offering.0) r.offering.0 w.reservations) _ (capacity_of reservation_rooms r.offering.0) left.0 (room.reservations r.offering.0),
+        removed p w.reservations r reservation_spare n e room.reservation_ids,
+        left.1,
         ap (λ m. is_none (find (λ x. x.id.0 == m) (filter (λ x. not (p x)) w.reservations))) own ∙ ap is_none (find-dropped p w.reservations),
       )
 
   unrestrict-ready : (id : RestrictionId) (o : Option Restriction) → restriction_of w id ≡ o → is_some o ≡ true → HasLists (in_room (drop_restriction w id)) w
-      → Ready (in_room (drop_restriction w id)) (option_map_or (RestrictionRemoved (position_or_len (λ r. r.id.0 == id.0) w.restrictions)) o (no_change w))
+      → Ready (in_room (drop_restriction w id)) (option_map_or (λ r. RestrictionRemoved (position_or_len (λ x. x.id.0 == id.0) (restrictions_of w r.offering)) r) o (no_change w))
   unrestrict-ready id None e h room = absurd (not_both false h refl)
   unrestrict-ready id (Some r) e h room =
       let p = λ (x : Restriction). x.id.0 == id.0 in
       let n = once (λ x. x.id.0) id.0 w.restrictions k.restrictions_differ (ap is_some e) in
+      let left = left-among (λ x. x.offering.0) p r.offering.0 w.restrictions r n (sym e) refl in
       let own = eqb-true r.id.0 id.0 (Members.find-member p w.restrictions r e).1 in (
-        removed p w.restrictions r restriction_spare n e room.restrictions,
-        place-left p w.restrictions n,
+        fits-again (number_of (λ x. x.offering.0) r.offering.0 w.restrictions) _ (capacity_of restriction_rooms r.offering.0) left.0 (room.restrictions r.offering.0),
+        removed p w.restrictions r restriction_spare n e room.restriction_ids,
+        left.1,
         ap (λ m. is_none (find (λ x. x.id.0 == m) (filter (λ x. not (p x)) w.restrictions))) own ∙ ap is_none (find-dropped p w.restrictions),
       )
 
@@ -206,5 +225,5 @@ module _ (w : World) (k : KeptWorld w) (rooms : List Room) (reservation_spare re
 
 pub ready : (r : Roomed) (w : World) (c : Change) → KeptWorld w → Fits w c → HasLists r w → changed w c ≡ r.world → Ready r (back_of w c)
 ready r w c k f room e =
-    subst (λ v. HasLists (in_room w k r.rooms r.reservation_spare r.restriction_spare r.counted_ids v) w → Ready (in_room w k r.rooms r.reservation_spare r.restriction_spare r.counted_ids v) (back_of w c)) e
-    (each-ready w k r.rooms r.reservation_spare r.restriction_spare r.counted_ids c f) room
+    subst (λ v. HasLists (in_room w k r.rooms r.reservation_rooms r.restriction_rooms r.reservation_spare r.restriction_spare r.counted_ids v) w → Ready (in_room w k r.rooms r.reservation_rooms r.restriction_rooms r.reservation_spare r.restriction_spare r.counted_ids v) (back_of w c)) e
+    (each-ready w k r.rooms r.reservation_rooms r.restriction_rooms r.reservation_spare r.restriction_spare r.counted_ids c f) room

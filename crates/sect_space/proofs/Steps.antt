@@ -1,5 +1,5 @@
 -- One change more, or one less: what changes lead to, what is kept of them, and what is undone.
-use Rattle.std.specs.Prelude.{◌≡◌, ℕ, ◌+◌, ◌≤◌, ◌==◌, List, [], ◌∷◌, ◌++◌, length, take, drop, refl, ◌⊎◌}
+use Rattle.std.specs.Prelude.{◌≡◌, ℕ, ◌+◌, ◌-◌, ◌≤◌, ◌==◌, List, [], ◌∷◌, ◌++◌, length, take, drop, refl, ◌⊎◌}
 use Rattle.std.specs.List.{list_any}
 use Rattle.std.specs.Option.{is_some}
 use Rattle.std.proofs.Common.{sym, ◌∙◌, ap, subst, arith, inl, inr, append_assoc, length-append}
@@ -14,6 +14,7 @@ use Rattle.sect_model.proofs.Members.{or-left}
 use Rattle.sect_space.specs.declared.back.Back.{Back}
 use Rattle.sect_space.specs.Back.{back_of, taken_back}
 use Rattle.sect_space.specs.Roomed.{Roomed}
+use Rattle.sect_roster.specs.Slots.{capacity_of, number_of}
 use Rattle.sect_slots.specs.Rostered.{number_held}
 use Rattle.sect_space.specs.Room.{HasRoom, KeepsRoom, free_for}
 use Rattle.sect_space.specs.Undo.{undone, all_changed, backs_of, AllFit, RoomFor, Undoable, Since}
@@ -57,8 +58,10 @@ has-more : (r s : Roomed) (w : World) → KeepsRoom r s → HasRoom r w → HasR
 has-more r s w k h = record {
   lists = record {
     roster = λ n. trans (h.lists.roster n) (k.lists.roster n);
-    reservations = trans h.lists.reservations k.lists.reservations;
-    restrictions = trans h.lists.restrictions k.lists.restrictions;
+    reservations = λ n. trans (h.lists.reservations n) (k.lists.reservations n);
+    restrictions = λ n. trans (h.lists.restrictions n) (k.lists.restrictions n);
+    reservation_ids = trans h.lists.reservation_ids k.lists.reservation_ids;
+    restriction_ids = trans h.lists.restriction_ids k.lists.restriction_ids;
   };
   uses = λ id known. k.uses id (h.uses id known);
 }
@@ -84,8 +87,10 @@ own-room : (r : Roomed) (w : World) → r.world ≡ w → HasRoom r w
 own-room r w e = subst (HasRoom r) e (record {
   lists = record {
     roster = λ n. enough (number_held n r.world.roster) (free_for r n);
-    reservations = enough (length r.world.reservations) r.reservation_spare;
-    restrictions = enough (length r.world.restrictions) r.restriction_spare;
+    reservations = λ n. enough (number_of (λ x. x.offering.0) n r.world.reservations) (capacity_of r.reservation_rooms n - number_of (λ x. x.offering.0) n r.world.reservations);
+    restrictions = λ n. enough (number_of (λ x. x.offering.0) n r.world.restrictions) (capacity_of r.restriction_rooms n - number_of (λ x. x.offering.0) n r.world.restrictions);
+    reservation_ids = enough (length r.world.reservations) r.reservation_spare;
+    restriction_ids = enough (length r.world.restrictions) r.restriction_spare;
   };
   uses = λ id known. or-left (is_some (reservation_of r.world id)) (list_any (λ k. k == id.0) r.counted_ids) known;
 })

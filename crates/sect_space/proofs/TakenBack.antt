@@ -26,18 +26,18 @@ use Rattle.sect_model.specs.Refusals.{restriction_of}
 use Rattle.sect_model.specs.Kept.{KeptWorld}
 use Rattle.sect_model.specs.Change.{put_student, put_asks, put_limit, cancel, put_expiry, expire, drop_reservation, drop_restriction}
 use Rattle.sect_model.specs.Fits.{Fits, changed, is_known_cap, lists_fit, new_restriction_fits}
-use Rattle.sect_model.specs.Allowed.{restrictions_of}
+use Rattle.sect_model.specs.Allowed.{reservations_of, restrictions_of}
 use Rattle.sect_model.proofs.Members
 use Rattle.sect_model.proofs.Members.{any-at, both-left, both-right, not_both, not_true}
 use Rattle.sect_model.proofs.ChangeLemmas.{new_id, not_in_use}
 use Rattle.sect_space.specs.declared.back.Back.TheVariants.{StudentAdded, StudentReplaced, RequestsReplaced, ReservationRemoved, ExpiryReplaced, RestrictionRemoved, LimitReplaced, Left}
 use Rattle.sect_space.specs.Back.{back_of, taken_back, no_change, offering_id, reservation_offering, cap_offering, but_last}
+use Rattle.sect_roster.proofs.AmongLemmas.{comes-back as own-back}
 use Rattle.sect_roster.proofs.InsertLemmas.{once}
 use Rattle.sect_roster.proofs.LastLemmas.{drop-put}
-use Rattle.sect_roster.proofs.PlaceLemmas.{put-one-back}
 use Rattle.sect_roster.proofs.UndoneLemmas.{taken-back as gone-again}
 use Rattle.sect_slots.specs.Rostered.{of_student}
-use Rattle.sect_slots.proofs.Places.{comes-back}
+use Rattle.sect_slots.proofs.OwnLemmas.{own-student}
 use Rattle.sect_space.proofs.Bounds.{held-once}
 use Rattle.sect_space.proofs.Lists.{but-last, map-back}
 use Rattle.sect_space.proofs.StudentBack.{new-back, row-back, asks-back}
@@ -78,23 +78,23 @@ cancel-back : (w : World) (id : SectionId) → is_cancelled w.catalogue id ≡ f
 cancel-back w id h = (λ i. but_last (cond (h i) w.catalogue.cancelled (w.catalogue.cancelled ++ id ∷ []))) ∙ but-last w.catalogue.cancelled id
 
 unreserve-back : (w : World) → KeptWorld w → (id : ReservationId) (o : Option Reservation) → reservation_of w id ≡ o → is_some o ≡ true
-    → taken_back (drop_reservation w id) (option_map_or (ReservationRemoved (position_or_len (λ r. r.id.0 == id.0) w.reservations)) o (no_change w)) ≡ w
+    → taken_back (drop_reservation w id) (option_map_or (λ r. ReservationRemoved (position_or_len (λ x. x.id.0 == id.0) (reservations_of w r.offering)) r) o (no_change w)) ≡ w
 unreserve-back w k id None e h = absurd (Members.not_both false h refl)
 unreserve-back w k id (Some r) e h =
-    λ i. record w { reservations = put-one-back (λ x. x.id.0 == id.0) w.reservations r (once (λ x. x.id.0) id.0 w.reservations k.reservations_differ (ap is_some e)) (sym e) i }
+    λ i. record w { reservations = own-back (λ x. x.offering.0) (λ x. x.id.0 == id.0) r.offering.0 w.reservations r k.reservations_in_order (once (λ x. x.id.0) id.0 w.reservations k.reservations_differ (ap is_some e)) (sym e) refl i }
 
 unrestrict-back : (w : World) → KeptWorld w → (id : RestrictionId) (o : Option Restriction) → restriction_of w id ≡ o → is_some o ≡ true
-    → taken_back (drop_restriction w id) (option_map_or (RestrictionRemoved (position_or_len (λ r. r.id.0 == id.0) w.restrictions)) o (no_change w)) ≡ w
+    → taken_back (drop_restriction w id) (option_map_or (λ r. RestrictionRemoved (position_or_len (λ x. x.id.0 == id.0) (restrictions_of w r.offering)) r) o (no_change w)) ≡ w
 unrestrict-back w k id None e h = absurd (Members.not_both false h refl)
 unrestrict-back w k id (Some r) e h =
-    λ i. record w { restrictions = put-one-back (λ x. x.id.0 == id.0) w.restrictions r (once (λ x. x.id.0) id.0 w.restrictions k.restrictions_differ (ap is_some e)) (sym e) i }
+    λ i. record w { restrictions = own-back (λ x. x.offering.0) (λ x. x.id.0 == id.0) r.offering.0 w.restrictions r k.restrictions_in_order (once (λ x. x.id.0) id.0 w.restrictions k.restrictions_differ (ap is_some e)) (sym e) refl i }
 
 leave-back : (w : World) → KeptWorld w → (student : StudentId) (course : CourseId) (o : Option Enrolment) → find (is_in student course) w.roster ≡ o → holds w student course ≡ true
     → taken_back (leave w student course) (option_map_or (λ e. Left (position_or_len (is_in student course) (of_student student.0 w.roster)) e (offering_id w course)) o (no_change w)) ≡ w
 leave-back w k student course None e h =
     let f = any-at (is_in student course) w.roster h in
     absurd (not_both (is_some (find (is_in student course) w.roster)) (Members.find-some (is_in student course) w.roster f.0 f.1 f.2) (ap is_some e))
-leave-back w k student course (Some x) e h = λ i. record w { roster = comes-back student course w.roster x k.in_order (held-once w k student course h) (sym e) i }
+leave-back w k student course (Some x) e h = λ i. record w { roster = own-back (λ y. y.student.0) (is_in student course) student.0 w.roster x k.in_order (held-once w k student course h) (sym e) (own-student student course w.roster x e) i }
 
 map-known : {X Y : Type 0} (f : X → Y) (o : Option X) → is_some (option_map f o) ≡ is_some o
 map-known f None = refl

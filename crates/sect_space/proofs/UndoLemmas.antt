@@ -18,14 +18,19 @@ pub room-both : (r s t : Roomed) → KeepsRoom r s → KeepsRoom s t → KeepsRo
 room-both r s t h k = record {
   lists = record {
     roster = λ n. trans (h.lists.roster n) (k.lists.roster n);
-    reservations = trans h.lists.reservations k.lists.reservations;
-    restrictions = trans h.lists.restrictions k.lists.restrictions;
+    reservations = λ n. trans (h.lists.reservations n) (k.lists.reservations n);
+    restrictions = λ n. trans (h.lists.restrictions n) (k.lists.restrictions n);
+    reservation_ids = trans h.lists.reservation_ids k.lists.reservation_ids;
+    restriction_ids = trans h.lists.restriction_ids k.lists.restriction_ids;
   };
   uses = λ id known. k.uses id (h.uses id known);
 }
 
 pub room-same : (r : Roomed) → KeepsRoom r r
-room-same r = record { lists = record { roster = λ n. omega arith; reservations = omega arith; restrictions = omega arith }; uses = λ id known. known }
+room-same r = record {
+  lists = record { roster = λ n. omega arith; reservations = λ n. omega arith; restrictions = λ n. omega arith; reservation_ids = omega arith; restriction_ids = omega arith };
+  uses = λ id known. known;
+}
 
 -- the last recorded change made the world
 pub last-made : (r : Roomed) (backs : List Back) (back : Back) → Undoable r (backs ++ back ∷ []) → MadeBy r back

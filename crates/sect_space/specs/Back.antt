@@ -1,5 +1,5 @@
 -- What is kept of a change, the world after it is taken back, and what it concerns.
-use Rattle.std.specs.Prelude.{ℕ, Bool, true, false, ◌-◌, ◌==◌, List, length, take, insert, find, Option, None, Some}
+use Rattle.std.specs.Prelude.{ℕ, Bool, true, false, ◌-◌, ◌==◌, List, length, take, find, Option, None, Some}
 use Rattle.std.specs.List.{list_any, position_or_len}
 use Rattle.std.specs.Option.{option_map, option_map_or}
 use Rattle.sect_base.specs.declared.limit.Cap.{Cap}
@@ -19,10 +19,12 @@ use Rattle.sect_model.specs.declared.held.Enrolment.{Enrolment}
 use Rattle.sect_model.specs.declared.change.Change.{Change}
 use Rattle.sect_model.specs.declared.change.Change.TheVariants.{Offering, Student, Requests, Reserve, Unreserve, Expiry, Restrict, Unrestrict, Cap as new_cap, Cancelled, Day, Enrol, Leave}
 use Rattle.sect_model.specs.World.{World, offering_of, reservation_of, is_in}
+use Rattle.sect_model.specs.Allowed.{reservations_of, restrictions_of}
 use Rattle.sect_model.specs.Refusals.{restriction_of}
 use Rattle.sect_model.specs.Kept.{has_config}
 use Rattle.sect_model.specs.Change.{put_student, put_asks, put_limit, put_expiry, drop_reservation, drop_restriction, put_day}
 use Rattle.sect_roster.specs.Last.{drop_last_of}
+use Rattle.sect_roster.specs.Slots.{put_among as put_among_its_own}
 use Rattle.sect_slots.specs.Rostered.{of_student as own_of, put_among}
 use Rattle.sect_space.specs.declared.back.Back.{Back}
 use Rattle.sect_space.specs.declared.back.Back.TheVariants.{OfferingAdded, StudentAdded, StudentReplaced, RequestsReplaced, ReservationAdded, ReservationRemoved, ExpiryReplaced, RestrictionAdded, RestrictionRemoved, LimitReplaced, SectionCancelled, DayReplaced, Enrolled, Left}
@@ -68,10 +70,10 @@ back_of w (Offering row) = OfferingAdded row.id
 back_of w (Student row) = option_map_or StudentReplaced (option_map (λ s. s.row) (find_student w.students row.id)) (StudentAdded row.id)
 back_of w (Requests student asks) = option_map_or (RequestsReplaced student) (option_map (λ s. s.asks) (find_student w.students student)) (no_change w)
 back_of w (Reserve r) = ReservationAdded r.id r.offering
-back_of w (Unreserve id) = option_map_or (ReservationRemoved (position_or_len (λ r. r.id.0 == id.0) w.reservations)) (reservation_of w id) (no_change w)
+back_of w (Unreserve id) = option_map_or (λ r. ReservationRemoved (position_or_len (λ x. x.id.0 == id.0) (reservations_of w r.offering)) r) (reservation_of w id) (no_change w)
 back_of w (Expiry id day) = option_map_or (ExpiryReplaced id (reservation_offering w id)) (option_map (λ r. r.expiry) (reservation_of w id)) (no_change w)
 back_of w (Restrict r) = RestrictionAdded r.id r.offering
-back_of w (Unrestrict id) = option_map_or (RestrictionRemoved (position_or_len (λ r. r.id.0 == id.0) w.restrictions)) (restriction_of w id) (no_change w)
+back_of w (Unrestrict id) = option_map_or (λ r. RestrictionRemoved (position_or_len (λ x. x.id.0 == id.0) (restrictions_of w r.offering)) r) (restriction_of w id) (no_change w)
 back_of w (new_cap cap limit) = option_map_or (LimitReplaced cap (cap_offering w cap)) (limit_in w.catalogue.rows cap) (no_change w)
 back_of w (Cancelled id) = SectionCancelled id (section_offering w id)
 back_of w (Day day) = DayReplaced w.day day
@@ -114,13 +116,13 @@ drop_student w = record w { students = but_last w.students }
 abbrev pub uncancel : World → World
 uncancel w = record w { catalogue = record { rows = w.catalogue.rows; cancelled = but_last w.catalogue.cancelled } }
 
--- a reservation at its place again
+-- a reservation at its place among those of its offering again
 abbrev pub put_reservation_back : World → ℕ → Reservation → World
-put_reservation_back w place r = record w { reservations = insert w.reservations place r }
+put_reservation_back w place r = record w { reservations = put_among_its_own (λ x. x.offering.0) place r w.reservations }
 
--- a restriction at its place again
+-- a restriction at its place among those of its offering again
 abbrev pub put_restriction_back : World → ℕ → Restriction → World
-put_restriction_back w place r = record w { restrictions = insert w.restrictions place r }
+put_restriction_back w place r = record w { restrictions = put_among_its_own (λ x. x.offering.0) place r w.restrictions }
 
 -- without the last enrolment of the student
 abbrev pub drop_enrolment : World → StudentId → World

@@ -12,6 +12,7 @@ use Rattle.sect_space.specs.declared.back.Back.{Back}
 use Rattle.sect_space.specs.declared.back.Back.TheVariants.{OfferingAdded, StudentAdded, StudentReplaced, RequestsReplaced, ReservationAdded, ReservationRemoved, ExpiryReplaced, RestrictionAdded, RestrictionRemoved, LimitReplaced, SectionCancelled, DayReplaced, Enrolled, Left}
 use Rattle.sect_space.specs.Back.{back_of, taken_back}
 use Rattle.sect_space.specs.Roomed.{Roomed}
+use Rattle.sect_roster.specs.Slots.{capacity_of, number_of}
 use Rattle.sect_slots.specs.Rostered.{number_held}
 use Rattle.sect_space.specs.Room.{KeepsLists, free_for}
 
@@ -38,10 +39,14 @@ Ready r (StudentAdded id) = 0 < length r.world.students
 Ready r (StudentReplaced row) = IsTrue (is_some (find_student r.world.students row.id))
 Ready r (RequestsReplaced student asks) = IsTrue (is_some (find_student r.world.students student))
 Ready r (ReservationAdded id offering) = IsTrue (is_some (reservation_of r.world id))
-Ready r (ReservationRemoved place row) = (0 < r.reservation_spare) × (place ≤ length r.world.reservations) × IsTrue (is_none (reservation_of r.world row.id))
+Ready r (ReservationRemoved place row) =
+    (number_of (λ x. x.offering.0) row.offering.0 r.world.reservations < capacity_of r.reservation_rooms row.offering.0) × (0 < r.reservation_spare)
+    × (place ≤ number_of (λ x. x.offering.0) row.offering.0 r.world.reservations) × IsTrue (is_none (reservation_of r.world row.id))
 Ready r (ExpiryReplaced id offering day) = IsTrue (is_some (reservation_of r.world id))
 Ready r (RestrictionAdded id offering) = IsTrue (is_some (restriction_of r.world id))
-Ready r (RestrictionRemoved place row) = (0 < r.restriction_spare) × (place ≤ length r.world.restrictions) × IsTrue (is_none (restriction_of r.world row.id))
+Ready r (RestrictionRemoved place row) =
+    (number_of (λ x. x.offering.0) row.offering.0 r.world.restrictions < capacity_of r.restriction_rooms row.offering.0) × (0 < r.restriction_spare)
+    × (place ≤ number_of (λ x. x.offering.0) row.offering.0 r.world.restrictions) × IsTrue (is_none (restriction_of r.world row.id))
 Ready r (LimitReplaced cap offering limit) = IsTrue (is_some (limit_in r.world.catalogue.rows cap))
 Ready r (SectionCancelled id offering) = 0 < length r.world.catalogue.cancelled
 Ready r (DayReplaced old new) = ⊤

@@ -4,7 +4,7 @@ ghost use Rattle.std.specs.Prelude.{◌≡◌, ℕ, ◌<◌, ◌≤◌, ◌+◌,
 ghost use Rattle.sect_model.specs.Fits.{Fits, changed};
 ghost use Rattle.sect_space.specs.Back.{back_of};
 ghost use Rattle.sect_space.specs.Made.{Unchanged};
-ghost use Rattle.sect_slots.specs.Rostered.{capacity_of};
+ghost use Rattle.sect_roster.specs.Slots.{capacity_of};
 ghost use Rattle.sect_space.specs.Room.{HasPlace, HasRoomFor, HasSpare, KeepsRoom, KeepsUses, free_for};
 ghost use Rattle.sect_space.specs.Undo.{undone, Undoable, takes_none};
 ghost use Rattle.sect_space.specs.Undoing.{UndoneLast};

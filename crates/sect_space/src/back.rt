@@ -20,12 +20,12 @@ pub enum Back {
     /// The old requests.
     RequestsReplaced(StudentId, Items<Ask>),
     ReservationAdded(ReservationId, OfferingId),
-    /// The place in the list of all reservations, and the row.
+    /// The place among those of the offering, and the row.
     ReservationRemoved(usize, Reservation),
     /// The offering, and the old expiry day.
     ExpiryReplaced(ReservationId, Option<OfferingId>, Option<Day>),
     RestrictionAdded(RestrictionId, OfferingId),
-    /// The place in the list of all restrictions, and the row.
+    /// The place among those of the offering, and the row.
     RestrictionRemoved(usize, Restriction),
     /// The offering, and the old limit.
     LimitReplaced(Cap, Option<OfferingId>, Limit),

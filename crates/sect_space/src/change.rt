@@ -3,7 +3,6 @@
 ghost use Rattle.std.specs.Prelude.{◌≡◌, ◌<◌, IfOk, IsOk, OnErr, IsTrue};
 ghost use Rattle.sect_model.specs.Fits.{Fits};
 ghost use Rattle.sect_model.specs.Kept.{KeptWorld};
-ghost use Rattle.sect_space.specs.Back.{taken_back};
 ghost use Rattle.sect_space.specs.Made.{Made, Unchanged, Taken, Ready};
 ghost use Rattle.sect_space.specs.Parts.{roomed_of};
 ghost use Rattle.sect_space.specs.Room.{HasPlace};
@@ -45,8 +44,7 @@ impl Parts {
 
     /// Takes a change back. It takes no memory.
     pub fn take_back(&mut self, back: Back)
-        requires ready { Ready (roomed_of self.old) back }
-        requires kept { KeptWorld (taken_back (roomed_of self.old).world back) }
+        requires { Ready (roomed_of self.old) back }
         ensures { Taken (roomed_of self.old) (roomed_of self.new) back }
     {
         match back {

@@ -4,7 +4,6 @@ ghost use Rattle.std.specs.Prelude.{◌≡◌, ◌<◌, ◌≤◌, IfOk, IsOk, O
 ghost use Rattle.sect_model.specs.Fits.{Fits};
 ghost use Rattle.sect_model.specs.Kept.{KeptWorld};
 ghost use Rattle.sect_model.specs.World.{insert_enrolment};
-ghost use Rattle.sect_space.specs.Back.{taken_back};
 ghost use Rattle.sect_space.specs.Made.{Made, Unchanged, Taken, Ready};
 ghost use Rattle.sect_slots.specs.Rostered.{number_held, put_among};
 ghost use Rattle.sect_space.specs.Parts.{roomed_of};
@@ -70,8 +69,7 @@ impl Parts {
         enrolment: Enrolment,
         offering: Option<OfferingId>,
     )
-        requires ready { Ready (roomed_of self.old) (Back.Left place enrolment offering) }
-        requires kept { KeptWorld (taken_back (roomed_of self.old).world (Back.Left place enrolment offering)) }
+        requires { Ready (roomed_of self.old) (Back.Left place enrolment offering) }
         ensures { Taken (roomed_of self.old) (roomed_of self.new) (Back.Left place enrolment offering) }
     {
         let _ = offering;

@@ -2,8 +2,6 @@
 
 ghost use Rattle.std.specs.Prelude.{◌≡◌, IfOk, OnErr};
 ghost use Rattle.sect_model.specs.Fits.{Fits};
-ghost use Rattle.sect_model.specs.Kept.{KeptWorld};
-ghost use Rattle.sect_space.specs.Back.{taken_back};
 ghost use Rattle.sect_space.specs.Made.{Made, Unchanged, Taken, Ready};
 ghost use Rattle.sect_space.specs.Parts.{roomed_of};
 
@@ -46,8 +44,7 @@ impl Parts {
 
     /// Puts a reservation back where it stood. There is room.
     pub fn put_reservation_back(&mut self, place: usize, row: Reservation)
-        requires ready { Ready (roomed_of self.old) (Back.ReservationRemoved place row) }
-        requires kept { KeptWorld (taken_back (roomed_of self.old).world (Back.ReservationRemoved place row)) }
+        requires { Ready (roomed_of self.old) (Back.ReservationRemoved place row) }
         ensures { Taken (roomed_of self.old) (roomed_of self.new) (Back.ReservationRemoved place row) }
     {
         self.reservations.put_back(place, row);

@@ -1,7 +1,8 @@
 // The world: offerings, students, reservations, restrictions, enrolments, and a day.
 
-ghost use Rattle.std.specs.Prelude.{◌≡◌, option_copied, IfOk, IsTrue};
+ghost use Rattle.std.specs.Prelude.{◌≡◌, map, option_copied, IfOk, IsTrue};
 ghost use Rattle.std.specs.Option.{is_some};
+ghost use Rattle.sect_people.specs.Order.{sorted_by};
 ghost use Rattle.sect_people.specs.Student.{find_student};
 ghost use Rattle.sect_model.specs.World.{empty_world, held_by, reservation_of};
 ghost use Rattle.sect_model.specs.Batch.{asks_of};
@@ -118,18 +119,11 @@ impl World {
         self.parts.restrictions.of_offering(offering)
     }
 
-    /// All reservations, in order of offering. It takes no memory.
-    pub fn all_reservations(&self) -> &[Reservation]
-        ensures { result.now ≡ self.now.world.reservations }
+    /// The ids of all reservations, in rising order.
+    pub fn reservation_ids(&self, alloc: Global) -> Result<Vec<ReservationId>, Memory>
+        ensures { IfOk result (λ ids. ids.items ≡ map (λ r. r.id) (sorted_by (λ r. r.id.0) self.now.world.reservations)) }
     {
-        self.parts.reservations.rows()
-    }
-
-    /// All restrictions, in order of offering. It takes no memory.
-    pub fn all_restrictions(&self) -> &[Restriction]
-        ensures { result.now ≡ self.now.world.restrictions }
-    {
-        self.parts.restrictions.rows()
+        self.parts.reservations.ids(alloc)
     }
 
     /// The reservation of an id. None exactly where no row has it. It takes no memory.

@@ -3,4 +3,3 @@ pub mod DifferLemmas
 pub mod FoundLemmas
 pub mod RowLemmas
 pub mod ScheduleLemmas
-pub mod SortLemmas

@@ -119,20 +119,8 @@ fn reservations(alloc: Global, world: &World) -> Result<Items<Reservation>, Memo
     ensures { IfOk result (λ rows. rows ≡ sorted_by (λ r. r.id.0) world.now.world.reservations) }
 {
     world.recall_kept();
-    let ids = reservation_ids(alloc, world.all_reservations())?;
+    let ids = world.reservation_ids(alloc)?;
     reservations_of(alloc, world, ids.as_slice())
-}
-
-/// The ids of the rows, in rising order.
-fn reservation_ids(alloc: Global, rows: &[Reservation]) -> Result<Vec<ReservationId>, Memory>
-    ensures { IfOk result (λ ids. ids.items ≡ map (λ r. r.id) (sorted_by (λ r. r.id.0) rows.now)) }
-{
-    let mut ids = Vec::new(alloc);
-    for row in rows {
-        ids.push(row.id)?;
-    }
-    ids.sort_unstable();
-    Ok(ids)
 }
 
 /// The reservations of these ids.

@@ -7,7 +7,7 @@ pub returns-clause-enrolment : goal.returns-clause-enrolment
 returns-clause-enrolment c = λ es student course place e one found at. put-back (is_in student course) es place e one found at
 
 pub returns-clause-reservation : goal.returns-clause-reservation
-returns-clause-reservation c = λ rs id place r differ found at. put-row-back (λ r. r.id.0) id.0 rs place r differ found at
+returns-clause-reservation c = λ rs id place r ordered differ found at. put-row-back (λ r. r.offering.0) (λ r. r.id.0) id.0 rs place r ordered differ found at
 
 pub returns-clause-restriction : goal.returns-clause-restriction
-returns-clause-restriction c = λ rs id place r differ found at. put-row-back (λ r. r.id.0) id.0 rs place r differ found at
+returns-clause-restriction c = λ rs id place r ordered differ found at. put-row-back (λ r. r.offering.0) (λ r. r.id.0) id.0 rs place r ordered differ found at

@@ -1,7 +1,7 @@
 -- the students passed so far have room
 use Rattle.std.proofs.Common.{◌≡◌, ◌<◌, ◌≤◌, ℕ, slice_index_or}
 use Rattle.sect_people.specs.Student.{Student}
-use Rattle.sect_slots.specs.Rostered.{capacity_of}
+use Rattle.sect_roster.specs.Slots.{capacity_of}
 use Rattle.sect_space.specs.Room.{HasRoomFor}
 use Rattle.sect_space.proofs.apply.reserve_each.Given as goal
 

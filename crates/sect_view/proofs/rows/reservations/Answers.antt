@@ -9,5 +9,5 @@ pub returns : goal.returns
 returns c =
     let w = c.args.world.now.world in
     subst (λ xs. IfOk c.reservations_of.result (λ rows. rows ≡ xs))
-    (ap (reservation_rows w) (c.as_slice.ensures.value ∙ c.in_ok-ids.ensures ∙ ap (λ rows. map (λ o. o.id) (sorted_by (λ o. o.id.0) rows)) (c.all_reservations.ensures)) ∙ reservations-by-id w c.recall_kept.ensures)
+    (ap (reservation_rows w) (c.as_slice.ensures.value ∙ c.in_ok-ids.ensures) ∙ reservations-by-id w c.recall_kept.ensures)
     c.reservations_of.ensures

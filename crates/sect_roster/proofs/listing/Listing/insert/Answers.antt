@@ -1,30 +1,23 @@
--- The place is behind the rows of the offering.
-use Rattle.std.proofs.Common.{◌∙◌, ap, arith, suc}
-use Rattle.std.specs.List.{insert}
-use Rattle.sect_people.proofs.RankLemmas.{rank_le-length}
-use Rattle.sect_model.specs.Kept.{is_ordered_by}
+-- The row stands behind those of its offering, and its mark behind the lower ids.
+use Rattle.std.proofs.Common.{◌≡◌, ◌∙◌, ◌==◌, ap, sym, suc, false}
+use Rattle.std.specs.List.{find, insert}
+use Rattle.std.specs.Option.{is_some}
+use Rattle.sect_people.specs.Index.{rank}
 use Rattle.sect_model.specs.World.{put_behind}
-use Rattle.sect_model.proofs.PutLemmas.{ordered-put}
-use Rattle.sect_roster.proofs.PlaceLemmas.{behind-rank, put-insert}
+use Rattle.sect_roster.proofs.PlaceLemmas.{put-insert}
+use Rattle.sect_roster.proofs.KeepsLemmas.{keeps-as, put-keeps}
 use Rattle.sect_roster.proofs.listing.Listing.insert.Goals as goal
 
-pub put_back-requires-clause-within : goal.put_back-requires-clause-within
-put_back-requires-clause-within g c =
+pub invariant_of-self : goal.invariant_of-self
+invariant_of-self g c =
+    let rs = c.self.inside.slots.items in
+    let ms = c.self.inside.marks.items in
     let key = g.R.Keyed.key_of in
-    let rs = c.self.inside.rows.items in
-    let at = behind-rank key c.args.row rs c.as_slice.result.now c.key-offering.result c.rank_near-place.result c.as_slice.ensures.value c.key-offering.ensures c.rank_near-place.ensures in
-    omega (arith, at, rank_le-length key (suc (key c.args.row)) rs)
-
-pub put_back-requires-clause-in_order : goal.put_back-requires-clause-in_order
-put_back-requires-clause-in_order g c =
-    let key = g.R.Keyed.key_of in
-    let rs = c.self.inside.rows.items in
-    let at = behind-rank key c.args.row rs c.as_slice.result.now c.key-offering.result c.rank_near-place.result c.as_slice.ensures.value c.key-offering.ensures c.rank_near-place.ensures in
-    ap (is_ordered_by key) (ap (λ k. insert rs k c.args.row) at ∙ put-insert key c.args.row rs) ∙ ordered-put key c.args.row rs c.self.invariant.in_order
-
-pub returns-clause-ok : goal.returns-clause-ok
-returns-clause-ok g c =
-    let key = g.R.Keyed.key_of in
-    let rs = c.self.inside.rows.items in
-    let at = behind-rank key c.args.row rs c.as_slice.result.now c.key-offering.result c.rank_near-place.result c.as_slice.ensures.value c.key-offering.ensures c.rank_near-place.ensures in
-    c.put_back.ensures.items ∙ ap (λ k. insert rs k c.args.row) at ∙ put-insert key c.args.row rs ∙ ap (put_behind key c.args.row) (ap (λ v. v.items) c.self.view_is ∙ c.reserve.ensures.items)
+    let id = g.R.Filed.id_of in
+    let place = rank key (suc (key c.args.row)) rs in
+    let new : is_some (find (λ r. id r == id c.args.row) rs) ≡ false
+    = ap (λ v. is_some (find (λ r. id r == id c.args.row) v.items)) c.self.view_is ∙ ap (λ is. is_some (find (λ r. id r == id c.args.row) is)) c.reserve.ensures.items ∙ c.requires in
+    keeps-as key id c.insert.new.self.items (insert rs place c.args.row) c.put_mark.new.marks.items (put_behind (λ m. m.id) (record { id = id c.args.row; offering = key c.args.row }) ms)
+    (ap (λ v. v.items) c.insert.ensures ∙ sym (put-insert key c.args.row rs))
+    (c.put_mark.ensures.items ∙ ap (λ m. put_behind (λ m. m.id) m ms) c.mark_of.ensures)
+    (put-keeps key id rs ms c.self.invariant c.args.row place new)

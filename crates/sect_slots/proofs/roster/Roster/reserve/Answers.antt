@@ -1,59 +1,9 @@
--- The room of the student's slot grows.
-use Rattle.std.proofs.Common.{◌≡◌, ◌∙◌, ◌==◌, ◌≤◌, ap, sym, subst, arith, length, refl, slice_set}
-use Rattle.sect_slots.specs.Rostered.{number_held, capacity_of}
-use Rattle.sect_slots.specs.Slots.{capacity_in}
-use Rattle.std.specs.List.{list_any}
-use Rattle.std.proofs.lemmas.Bool.{true_from_ne_false, false≢true}
-use Rattle.sect_slots.proofs.SlotLemmas.{absent-capacity}
-use Rattle.sect_slots.proofs.Changed.{on-ok, at, own-items, own-room, set-same, same-own, set-slots, set-grows, set-fits}
+-- The room of the slots is that of the roster.
+use Rattle.std.proofs.Common.{◌≤◌, ◌-◌, subst, IsOk}
+use Rattle.sect_roster.specs.Slots.{capacity_of}
+use Rattle.sect_slots.specs.Rostered.{number_held}
 use Rattle.sect_slots.proofs.roster.Roster.reserve.Goals as goal
-
-pub returns-in_err-place-clause-enough : goal.returns-in_err-place-clause-enough
-returns-in_err-place-clause-enough c =
-    let n = c.args.student.0 in
-    let ss = c.self.inside.slots.items in
-    λ h. absurd (false≢true (c.in_err-place.ensures.known (true_from_ne_false (list_any (λ s. s.student == n) ss) (λ none.
-    omega (arith, h, c.if-n-eq0.false, absent-capacity n ss none, ap (λ v. capacity_of v.rooms n) c.self.view_is)))))
-
-pub invariant_of-self-2 : goal.invariant_of-self-2
-invariant_of-self-2 c =
-    let n = c.args.student.0 in
-    let ss = c.slot_for.new.slots.items in
-    let a = at ss ss n c.in_ok-place.place c.index_mut.result.now c.slot_for.ensures.slots refl c.in_ok-place.ensures.place c.index_mut.ensures.value in
-    set-slots ss n c.in_ok-place.place c.index_mut.result.now a c.reserve.new.self c.reserve.ensures.student (same-own ss n c.in_ok-place.place c.index_mut.result.now a c.reserve.new.self c.reserve.ensures.items)
-
-pub returns-clause-items : goal.returns-clause-items
-returns-clause-items c =
-    let n = c.args.student.0 in
-    let ss = c.slot_for.new.slots.items in
-    let a = at ss ss n c.in_ok-place.place c.index_mut.result.now c.slot_for.ensures.slots refl c.in_ok-place.ensures.place c.index_mut.ensures.value in
-    set-same ss n c.in_ok-place.place c.index_mut.result.now a c.reserve.new.self c.reserve.ensures.items ∙ c.slot_for.ensures.held ∙ ap (λ v. v.items) c.self.view_is
-
-pub returns-clause-grows : goal.returns-clause-grows
-returns-clause-grows c =
-    let n = c.args.student.0 in
-    let ss = c.slot_for.new.slots.items in
-    let a = at ss ss n c.in_ok-place.place c.index_mut.result.now c.slot_for.ensures.slots refl c.in_ok-place.ensures.place c.index_mut.ensures.value in
-    λ m. subst (λ k. k ≤ capacity_in (slice_set ss c.in_ok-place.place c.reserve.new.self) m) (c.slot_for.ensures.capacity m ∙ ap (λ v. capacity_of v.rooms m) c.self.view_is)
-    (set-grows ss n c.in_ok-place.place c.index_mut.result.now a c.reserve.new.self c.reserve.ensures.student c.reserve.ensures.grows m)
-
-pub returns-clause-room : goal.returns-clause-room
-returns-clause-room c =
-    let n = c.args.student.0 in
-    let ss = c.slot_for.new.slots.items in
-    let a = at ss ss n c.in_ok-place.place c.index_mut.result.now c.slot_for.ensures.slots refl c.in_ok-place.ensures.place c.index_mut.ensures.value in
-    let held : number_held n c.args.self.now.items ≡ length c.index_mut.result.now.items =
-    ap (λ v. number_held n v.items) (sym c.self.view_is) ∙ ap (number_held n) (sym c.slot_for.ensures.held) ∙ ap length (own-items ss n c.in_ok-place.place c.index_mut.result.now a) in
-    let fits = set-fits ss n c.in_ok-place.place c.index_mut.result.now a c.reserve.new.self c.reserve.ensures.student in
-    on-ok c.reserve.result (λ room. omega (arith, room, held, fits)) c.reserve.ensures.room
 
 pub returns-clause-enough : goal.returns-clause-enough
 returns-clause-enough c =
-    let n = c.args.student.0 in
-    let ss = c.slot_for.new.slots.items in
-    let a = at ss ss n c.in_ok-place.place c.index_mut.result.now c.slot_for.ensures.slots refl c.in_ok-place.ensures.place c.index_mut.ensures.value in
-    let held : number_held n c.args.self.now.items ≡ length c.index_mut.result.now.items =
-    ap (λ v. number_held n v.items) (sym c.self.view_is) ∙ ap (number_held n) (sym c.slot_for.ensures.held) ∙ ap length (own-items ss n c.in_ok-place.place c.index_mut.result.now a) in
-    let room : capacity_of c.args.self.now.rooms n ≡ c.index_mut.result.now.capacity =
-    ap (λ v. capacity_of v.rooms n) (sym c.self.view_is) ∙ sym (c.slot_for.ensures.capacity n) ∙ own-room ss n c.in_ok-place.place c.index_mut.result.now a in
-    λ h. c.reserve.ensures.enough (omega (arith, h, held, room))
+    subst (λ v. c.args.n ≤ capacity_of v.rooms c.args.student.0 - number_held c.args.student.0 v.items → IsOk c.reserve.result) c.self.view_is c.reserve.ensures.enough

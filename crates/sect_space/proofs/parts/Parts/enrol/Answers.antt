@@ -2,7 +2,8 @@
 use Rattle.std.proofs.Common.{◌≤◌, ◌∙◌, ap, sym, subst, arith}
 use Rattle.sect_model.specs.World.{insert_enrolment}
 use Rattle.sect_numbers.proofs.MoreLemmas.{inserted}
-use Rattle.sect_slots.specs.Rostered.{capacity_of, number_held}
+use Rattle.sect_roster.specs.Slots.{capacity_of}
+use Rattle.sect_slots.specs.Rostered.{number_held}
 use Rattle.sect_space.specs.declared.back.Back.TheVariants.{Enrolled}
 use Rattle.sect_space.specs.Parts.{roomed_of}
 use Rattle.sect_space.proofs.RoomLemmas.{room-more, at-least}
@@ -27,7 +28,9 @@ returns-clause-ok c =
         roster = λ n. room-more (roomed_of old) (roomed_of (record old { roster = c.insert.new.self })) n
             (subst (λ es. number_held n old.roster.items ≤ number_held n es) (sym e) (at-least n old.roster.items (insert_enrolment c.args.enrolment old.roster.items) c.args.enrolment (inserted c.args.enrolment old.roster.items)))
             (subst (λ rs. capacity_of old.roster.rooms n ≤ capacity_of rs n) (sym rooms) (c.reserve.ensures.grows n));
-        reservations = omega arith;
-        restrictions = omega arith;
+        reservations = λ n. omega arith;
+        restrictions = λ n. omega arith;
+        reservation_ids = omega arith;
+        restriction_ids = omega arith;
       };
     }

@@ -8,7 +8,8 @@ use Rattle.sect_model.proofs.Members.{both-left, find-filter}
 use Rattle.sect_model.proofs.ListLemmas.{found-passes}
 use Rattle.sect_numbers.specs.OneMore.{IsMore}
 use Rattle.sect_numbers.proofs.MoreLemmas.{left}
-use Rattle.sect_slots.specs.Rostered.{capacity_of, number_held, of_student}
+use Rattle.sect_roster.specs.Slots.{capacity_of}
+use Rattle.sect_slots.specs.Rostered.{number_held, of_student}
 use Rattle.sect_space.specs.declared.back.Back.TheVariants.{Left}
 use Rattle.sect_space.specs.Back.{no_change, offering_id}
 use Rattle.sect_space.specs.Parts.{roomed_of}
@@ -49,8 +50,10 @@ returns-clause-made c =
       room = record {
         roster = room-less (roomed_of old) (roomed_of (record old { roster = c.remove-place.new.self })) x more (ap (λ v. v.rooms) c.remove-place.ensures.rest)
             (subst (λ n. number_held n es ≤ capacity_of old.roster.rooms n) (sym mine) c.remove-place.ensures.room);
-        reservations = omega arith;
-        restrictions = omega arith;
+        reservations = λ n. omega arith;
+        restrictions = λ n. omega arith;
+        reservation_ids = omega arith;
+        restriction_ids = omega arith;
       };
     }
 

@@ -2,7 +2,8 @@
 use Rattle.std.proofs.Common.{◌≤◌, sym, subst, arith}
 use Rattle.sect_numbers.specs.OneMore.{IsMore}
 use Rattle.sect_numbers.proofs.MoreLemmas.{inserted}
-use Rattle.sect_slots.specs.Rostered.{capacity_of, number_held}
+use Rattle.sect_roster.specs.Slots.{capacity_of}
+use Rattle.sect_slots.specs.Rostered.{number_held}
 use Rattle.sect_space.specs.Parts.{roomed_of}
 use Rattle.sect_space.proofs.RoomLemmas.{room-less}
 use Rattle.sect_space.proofs.parts.Parts.remove_enrolment.Goals as goal
@@ -24,7 +25,9 @@ returns-clause-taken c =
       room = record {
         roster = room-less (roomed_of old) (roomed_of (record old { roster = c.remove_last_of.new.self })) last more (λ i. (c.remove_last_of.ensures.rest i).rooms)
             (subst (λ s. number_held s.0 old.roster.items ≤ capacity_of old.roster.rooms s.0) (sym c.remove_last_of.ensures.student) c.remove_last_of.ensures.room);
-        reservations = omega arith;
-        restrictions = omega arith;
+        reservations = λ n. omega arith;
+        restrictions = λ n. omega arith;
+        reservation_ids = omega arith;
+        restriction_ids = omega arith;
       };
     }

@@ -1,17 +1,12 @@
 -- the numbers and weeks count the enrolment again
 use Rattle.std.proofs.Common.{◌∙◌}
 use Rattle.sect_space.specs.declared.back.Back.TheVariants.{Left}
-use Rattle.sect_space.proofs.NumberLemmas.{made-in, back-ready, back-kept, kept-back, put-behind, uses-kept}
+use Rattle.sect_space.proofs.NumberLemmas.{made-in, back-ready, kept-back, put-behind, uses-kept}
 use Rattle.sect_space.proofs.world.World.put_enrolment_back.Goals as goal
 
-pub put_enrolment_back-requires-clause-ready : goal.put_enrolment_back-requires-clause-ready
-put_enrolment_back-requires-clause-ready c =
+pub put_enrolment_back-requires : goal.put_enrolment_back-requires
+put_enrolment_back-requires c =
     back-ready c.self.inside.parts c.self.inside.numbers (Left c.args.place c.args.enrolment c.args.offering)
-    (made-in c.args.self.now c.self.inside.parts c.self.inside.numbers (Left c.args.place c.args.enrolment c.args.offering) c.self.view_is c.requires)
-
-pub put_enrolment_back-requires-clause-kept : goal.put_enrolment_back-requires-clause-kept
-put_enrolment_back-requires-clause-kept c =
-    back-kept c.self.inside.parts c.self.inside.numbers (Left c.args.place c.args.enrolment c.args.offering)
     (made-in c.args.self.now c.self.inside.parts c.self.inside.numbers (Left c.args.place c.args.enrolment c.args.offering) c.self.view_is c.requires)
 
 pub count_in-requires : goal.count_in-requires

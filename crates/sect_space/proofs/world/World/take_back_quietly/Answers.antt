@@ -1,14 +1,10 @@
 -- the counts and weeks stay
-use Rattle.sect_space.proofs.NumberLemmas.{made-in, back-ready, back-kept, back-quiet, weeks-back, uses-kept}
+use Rattle.sect_space.proofs.NumberLemmas.{made-in, back-ready, back-quiet, weeks-back, uses-kept}
 use Rattle.sect_space.proofs.world.World.take_back_quietly.Goals as goal
 
-pub take_back-requires-clause-ready : goal.take_back-requires-clause-ready
-take_back-requires-clause-ready c =
+pub take_back-requires : goal.take_back-requires
+take_back-requires c =
     back-ready c.self.inside.parts c.self.inside.numbers c.args.back (made-in c.args.self.now c.self.inside.parts c.self.inside.numbers c.args.back c.self.view_is c.requires.made)
-
-pub take_back-requires-clause-kept : goal.take_back-requires-clause-kept
-take_back-requires-clause-kept c =
-    back-kept c.self.inside.parts c.self.inside.numbers c.args.back (made-in c.args.self.now c.self.inside.parts c.self.inside.numbers c.args.back c.self.view_is c.requires.made)
 
 pub invariant_of-self : goal.invariant_of-self
 invariant_of-self c =
