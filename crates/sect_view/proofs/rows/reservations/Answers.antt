@@ -1,6 +1,5 @@
 -- The rising ids find the rows in order.
-use Rattle.std.proofs.Common.{◌≡◌, ◌∙◌, ap, subst, map, IfOk}
-use Rattle.sect_people.specs.Order.{sorted_by}
+use Rattle.std.proofs.Common.{◌≡◌, ◌∙◌, ap, subst, IfOk}
 use Rattle.sect_view.specs.Found.{reservation_rows}
 use Rattle.sect_view.proofs.RowLemmas.{reservations-by-id}
 use Rattle.sect_view.proofs.rows.reservations.Goals as goal
