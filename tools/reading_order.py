@@ -126,8 +126,8 @@ CHAPTERS = [
     ('The lists of the world',
      'What the containers of enrolments, reservations and restrictions show, and what undoing a change of them gives '
      'back.',
-     ['sect_roster/specs/' + n + '.antt' for n in ('Listed', 'Last', 'Undone')]
-     + ['sect_slots/specs/' + n + '.antt' for n in ('Rostered', 'Slots')]),
+     ['sect_roster/specs/' + n + '.antt' for n in ('Slots', 'Listed', 'Last', 'Undone')]
+     + ['sect_slots/specs/Rostered.antt']),
     ('Numbers beside the enrolments',
      'Counts by id, the numbers of a world, and what one enrolment more, one less and each other change do to them.',
      ['sect_table/specs/' + n + '.antt' for n in ('Slots', 'Table')]

@@ -164,6 +164,35 @@ fn place_of<R: Keyed + Drop>(slots: &[Slot<R>], number: u32) -> Option<usize>
     ensures found { IfSome result (λ k. HasSlot slots.now number k) }
     ensures none { IfNone result (list_any (λ s. s.number == number) slots.now ≡ false) }
 {
+    match guessed(slots, number) {
+        Some(place) => Some(place),
+        None => searched(slots, number),
+    }
+}
+
+/// Where the slot of a number stands if each number between the first and this one has a slot, as it mostly is.
+fn guessed<R: Keyed + Drop>(slots: &[Slot<R>], number: u32) -> Option<usize>
+    ensures { IfSome result (λ k. HasSlot slots.now number k) }
+{
+    let place = first_guess(slots, number);
+    match slots.get(place) {
+        Some(slot) => {
+            if slot.key() == number {
+                Some(place)
+            } else {
+                None
+            }
+        }
+        None => None,
+    }
+}
+
+/// Where the slot of a number stands, by its rank.
+fn searched<R: Keyed + Drop>(slots: &[Slot<R>], number: u32) -> Option<usize>
+    requires { IsTrue (are_slots R.key_of slots.now) }
+    ensures found { IfSome result (λ k. HasSlot slots.now number k) }
+    ensures none { IfNone result (list_any (λ s. s.number == number) slots.now ≡ false) }
+{
     let place = rank_near(slots, number as u64, first_guess(slots, number));
     match slots.get(place) {
         Some(slot) => {

@@ -2,7 +2,7 @@
 use Rattle.std.specs.Prelude.{◌≡◌, ℕ, ◌+◌, ◌-◌, ◌<◌, ◌≤◌, Bool, true, false, ◌==◌, not, cond, List, length, filter, find, insert, map, Option, Some, refl}
 use Rattle.std.specs.List.{position_or_len}
 use Rattle.std.proofs.Common.{sym, ◌∙◌, ap, subst, arith}
-use Rattle.std.proofs.lemmas.Bool.{eqb-true, eq-eqb}
+use Rattle.std.proofs.lemmas.Bool.{eqb-true}
 use Rattle.std.proofs.lemmas.List.Edits.{length-insert}
 use Rattle.sect_base.specs.declared.ids.StudentId.{StudentId}
 use Rattle.sect_base.specs.declared.ids.CourseId.{CourseId}

@@ -5,7 +5,7 @@ use Rattle.std.proofs.lemmas.Bool.Decides.{nat_tests}
 use Rattle.sect_people.specs.Index.{rank as rank_of}
 use Rattle.sect_model.proofs.Members.{not_both}
 use Rattle.sect_roster.proofs.SlotLemmas.{no-slot, other-at, slots-ordered}
-use Rattle.sect_roster.proofs.slots.place_of.Goals as goal
+use Rattle.sect_roster.proofs.slots.searched.Goals as goal
 
 pub rank_near-place-requires : goal.rank_near-place-requires
 rank_near-place-requires g c = slots-ordered g.R.Keyed.key_of c.args.slots.now c.requires
