@@ -3,7 +3,7 @@
 
 use sect_clerk::clerk;
 use sect_clerk_words::needs;
-use sect_main::{End, finish, keeper_of, words_of};
+use sect_main::{End, finish, hold_standard_files, keeper_of, words_of};
 use sect_real::{AnyKeeper, RealClock, StdSink, StdSource};
 use sect_script::Status;
 use sect_usage::WordFault;
@@ -15,6 +15,7 @@ use std::thread::Threads;
 const USAGE: &str = "usage: clerk check|demand|explain|log|timetable|try\n";
 
 fn main(rt: HostRuntime) -> ExitCode {
+    hold_standard_files(rt);
     let end = match start(rt, &rt) {
         Ok(status) => End::Told(status),
         Err(end) => end,

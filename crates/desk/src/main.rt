@@ -11,7 +11,7 @@ mod sending;
 use sect_app::{Needs, Status, WordFault, Words, desk, needs, read_words};
 use sect_clap::read_again;
 use sect_edge::OpenGate;
-use sect_main::{End, finish, keeper_of, words_of};
+use sect_main::{End, finish, hold_standard_files, keeper_of, words_of};
 use sect_net::{TcpLink, links};
 use sect_real::{AnyKeeper, RealClock, StdSink, StdSource, ToldKeeper, ToldSource};
 use sending::keeper_may_be_sent;
@@ -23,6 +23,7 @@ use std::sync::Wait;
 use std::thread::Threads;
 
 fn main(rt: HostRuntime) -> ExitCode {
+    hold_standard_files(rt);
     let end = match start(rt, &rt) {
         Ok(status) => End::Told(status),
         Err(end) => end,

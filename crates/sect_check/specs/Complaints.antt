@@ -10,7 +10,7 @@ use Rattle.sect_check.specs.declared.form.Form.{Form}
 use Rattle.sect_check.specs.Expected.{form_text}
 use Rattle.sect_check.specs.Walks.{Walk, passed, stopped, line_walk}
 
--- a byte as it is shown: `?` stands for one that a terminal would act on
+-- a byte as it is shown: `?` stands for a control of ASCII
 abbrev pub shown : ℕ → ℕ
 shown byte = if nat_lt byte 32 || byte == 127 then 63 else byte
 

@@ -17,7 +17,7 @@ Commands:\n\
 \x20 desk report KIND [ID]          prints a roll, the open places, a schedule, who waits or what is unmet\n\
 \x20 desk plan STUDENT              prints the best whole schedule that a student could have\n\
 \x20 desk survey                    prints why each unmet request can't be met now, and which sections are wanted\n\
-\x20 desk audit                     checks each refusal of the history again, and tells how many there are\n\
+\x20 desk audit                     checks the tree of each blocked reply again, and tells how many there are\n\
 \x20 desk make N                    makes N offerings with their students, and tells how many requests are met\n\
 \x20 desk COMMAND --help            says more of a command, with its options\n\
 \x20 desk --help                    prints this text\n\
@@ -108,7 +108,7 @@ with the same numbers changes nothing.\n\
 \n\
 Options:\n\
 \x20 --first N       the number of the first command, from 0 to 18446744073709551615 (must be given)\n\
-\x20 --term DAY      the day on which week 1 begins, as 2025-09-01; with it a meeting's weeks may be said by days, as\n\
+\x20 --term DAY      the day on which week 1 begins, as 2025-09-01; with it a section's weeks may be said by days, as\n\
 \x20                 2025-09-01..2025-12-12 (default: none, and weeks are said by their numbers)\n\
 \x20 --db FILE       the history is kept in this database of SQLite (default: in memory, until the program ends)\n\
 \x20 --journal FILE  the history is kept in this journal (default: in memory, until the program ends)\n\
