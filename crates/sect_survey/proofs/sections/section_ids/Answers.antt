@@ -3,7 +3,7 @@ use Rattle.std.proofs.Common.{◌≡◌, map, ◌∙◌, ap}
 use Rattle.std.proofs.lemmas.List.{take_all}
 use Rattle.std.proofs.lemmas.List.Sorted.{IsNonDecreasingBy-from_sort}
 use Rattle.sect_catalog.specs.Catalogue.{all_sections}
-use Rattle.sect_view.proofs.SortLemmas.{ids-sorted}
+use Rattle.sect_roster.proofs.SortLemmas.{ids-sorted}
 use Rattle.sect_survey.proofs.sections.section_ids.Goals as goal
 
 pub returns : goal.returns
