@@ -107,7 +107,7 @@ def copy_of(folder):
     with open(os.path.join(ROOT, 'crates.txt')) as file:
         crates = file.read()
     with open(os.path.join(folder, 'crates.txt'), 'w') as file:
-        file.write(crates + 'refusals may_wait=9: sect_base sect_edge sect_app test_harness\n')
+        file.write(crates + 'refusals may_wait=9: sect_base sect_edge sect_app test_runs\n')
     source = os.path.join(folder, 'crates', 'refusals', 'src')
     os.makedirs(source)
     with open(os.path.join(HERE, 'refusals_program.txt')) as file:

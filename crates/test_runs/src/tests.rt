@@ -11,12 +11,12 @@ mod rules;
 mod served;
 mod told;
 
+use crate::{Case, answers, ends};
 use std::alloc::AllocGlobal;
 use std::process::Abort;
 use std::sync::Wait;
 use std::test::Fail;
 use std::thread::Threads;
-use test_harness::{Case, answers, ends};
 
 /// Each run, told by what it shows, answers each line of its parts as it stands there, and ends Done.
 fn check_answers<R: AllocGlobal + Abort + Threads + Wait + Sync>(

@@ -6,7 +6,7 @@ use sect_edge::{MemKeeper, MemLink};
 use std::alloc::AllocGlobal;
 use std::sync::Wait;
 use std::thread::Threads;
-use test_harness::{Case, FIRST, SECOND, keeper_of, link_of, run_on_link};
+use test_runs::{Case, FIRST, SECOND, keeper_of, link_of, run_on_link};
 
 /// Puts what came of serving over the case's rows, with what each connection was told, behind the text.
 pub fn put_served<R: AllocGlobal + Threads + Wait + Sync>(

@@ -7,7 +7,7 @@ use sect_base::Memory;
 use std::alloc::{AllocGlobal, Global};
 use std::sync::Wait;
 use std::thread::Threads;
-use test_harness::{Case, RUN, keeper_of, run_over};
+use test_runs::{Case, RUN, keeper_of, run_over};
 
 /// What fails.
 #[derive(Clone, Copy, PartialEq, Eq)]

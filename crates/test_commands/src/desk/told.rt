@@ -4,7 +4,7 @@ use sect_app::{Status, number_of, print_status};
 use sect_base::Memory;
 use sect_edge::MemKeeper;
 use std::alloc::Global;
-use test_harness::Ended;
+use test_runs::Ended;
 
 /// Puts the status, how many rows the keeper has and what was written behind the text.
 pub fn put_ended(alloc: Global, ended: &Ended, into: &mut String) -> Result<(), Memory> {

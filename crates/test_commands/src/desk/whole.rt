@@ -7,7 +7,7 @@ use sect_edge::MemKeeper;
 use std::alloc::{AllocGlobal, Global};
 use std::sync::Wait;
 use std::thread::Threads;
-use test_harness::{Case, RUN, keeper_of, run_over};
+use test_runs::{Case, RUN, keeper_of, run_over};
 
 /// The number of a word; 0 where it is none.
 fn number(word: Option<&str>) -> u64 {

@@ -6,6 +6,7 @@ mod cuts;
 mod limits;
 mod refusals;
 
+use crate::{Sent, served};
 use answers::{ENROLLED, WAITING};
 use asks::{ASK, DESK, LOOK};
 use sect_base::Memory;
@@ -15,7 +16,6 @@ use std::alloc::Global;
 use std::process::Abort;
 use std::sync::Wait;
 use std::test::Fail;
-use test_harness::{Sent, served};
 use test_told::unfolded;
 
 /// A connection: the parts that it sends, in one of which `{ITEM*COUNT}` is the item so many times, the answers that it is

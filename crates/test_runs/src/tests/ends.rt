@@ -2,9 +2,9 @@
 
 use super::check_ends;
 use super::found::{BEFORE_THE_FIRST, FIRST_RUN};
+use crate::{Case, RUN};
 use sect_app::Status;
 use std::test::Fail;
-use test_harness::{Case, RUN};
 
 /// The rows of a first run's first three lines.
 pub const THREE_ROWS: &str =

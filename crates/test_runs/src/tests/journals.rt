@@ -1,5 +1,6 @@
 // The fourth append fails, at each of the calls that it makes of the disk.
 
+use crate::{answered, opened, started};
 use sect_edge::Keeper;
 use sect_journal::{Journal, MemDisk};
 use std::alloc::AllocGlobal;
@@ -7,7 +8,6 @@ use std::process::Abort;
 use std::sync::Wait;
 use std::test::Fail;
 use std::thread::Threads;
-use test_harness::{answered, opened, started};
 
 /// A section of one place, and the students 11 and 12.
 const THREE: &str = "r1 1 offering 1 course 1 - 3 config 1 - subpart 1 section 7 1 - - => 0 amended

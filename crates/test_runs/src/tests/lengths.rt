@@ -1,12 +1,12 @@
 // Lines at the limit of their length, with each end, and cut by pieces at the limit.
 
+use crate::{Case, RUN, run_desk};
 use sect_app::Status;
 use sect_base::Memory;
 use std::alloc::AllocGlobal;
 use std::sync::Wait;
 use std::test::Fail;
 use std::thread::Threads;
-use test_harness::{Case, RUN, run_desk};
 
 /// Whether a run over a comment of so many bytes, with this behind it, ends and answers so.
 fn ends_so<R: AllocGlobal + Threads + Wait + Sync>(

@@ -3,6 +3,8 @@
 ghost use Rattle.std.specs.Prelude.{◌≡◌, IfOk, length};
 
 use super::ends::THREE_ROWS;
+use crate::runs::{rows_of, words_of};
+use crate::{FIRST, SECOND, link_of};
 use sect_app::{Status, desk};
 use sect_base::Memory;
 use sect_edge::{Gate, MemClock, MemKeeper, MemLink, MemSink, MemSource, OpenGate};
@@ -11,7 +13,6 @@ use std::alloc::{AllocGlobal, Global};
 use std::sync::Wait;
 use std::test::Fail;
 use std::thread::Threads;
-use test_harness::{FIRST, SECOND, link_of, rows_of, words_of};
 use test_tally::Meeting;
 
 /// What student 11 is told.

@@ -3,9 +3,9 @@
 use super::check_ends;
 use super::ends::{THREE_ROWS, WRONG_ROWS};
 use super::found::{BOUNDARY, FIRST_RUN, FULL};
+use crate::{Case, RUN, is_told};
 use sect_app::Status;
 use std::test::Fail;
-use test_harness::{Case, RUN, is_told};
 
 /// A student who waits for the place that another has.
 const WAITS: &str = "s12 1 wait 12 1 => 4 waiting 1";

@@ -1,8 +1,8 @@
 // Two requests and a part of a third, cut, in pieces, and with each read and each write failing.
 use super::asks::CUT_ASK;
 use super::*;
+use crate::Told;
 use sect_http::Bench;
-use test_harness::Told;
 
 /// Where the first request ends, and the second, and the bytes.
 const ENDS: [usize; 3] = [191, 238, 396];

@@ -29,8 +29,7 @@ fn number_alone(alloc: Global, number: u64) -> Result<Vec<u64>, Memory> {
 /// Stands for the word without letters.
 const NO_LETTERS: &str = "\"\"";
 
-/// The words of a command line; `""` stands for the word without letters.
-pub fn words_of(alloc: Global, text: &str) -> Result<Vec<String>, Memory> {
+pub(crate) fn words_of(alloc: Global, text: &str) -> Result<Vec<String>, Memory> {
     let mut words = Vec::new(alloc);
     for word in text.split_whitespace() {
         let word = if word == NO_LETTERS { "" } else { word };
@@ -39,8 +38,7 @@ pub fn words_of(alloc: Global, text: &str) -> Result<Vec<String>, Memory> {
     Ok(words)
 }
 
-/// The rows of a text, one a line.
-pub fn rows_of(alloc: Global, text: &str) -> Result<Vec<Vec<u8>>, Memory> {
+pub(crate) fn rows_of(alloc: Global, text: &str) -> Result<Vec<Vec<u8>>, Memory> {
     let mut rows = Vec::new(alloc);
     for row in text.lines() {
         rows.push(row.as_bytes().to_vec(alloc)?)?;
