@@ -3,9 +3,9 @@
 mod serving;
 mod sweep;
 mod table;
-mod told;
 mod whole;
 
+use crate::keepers::{Failing, keeper_of};
 use sect_base::Memory;
 use sect_edge::MemKeeper;
 use std::alloc::{AllocGlobal, Global};
@@ -13,7 +13,7 @@ use std::sync::Wait;
 use std::thread::Threads;
 use sweep::{Sweep, put_runs};
 use table::Table;
-use whole::{keeper, put_once};
+use whole::put_once;
 
 /// A command over a keeper, and the keeper that came back.
 #[derive(Drop)]
@@ -59,7 +59,8 @@ fn put_asked<R: AllocGlobal + Threads + Wait + Sync>(
     into: &mut String,
 ) -> Result<(), Memory> {
     if let Some(calls) = asked.strip_prefix("begin ") {
-        *kept = Some(keeper(rt.alloc(), table, calls)?);
+        let failing = Failing::read(calls);
+        *kept = Some(keeper_of(rt.alloc(), table.rows.as_str(), failing)?);
         return Ok(());
     }
     if asked == "once" {

@@ -1,61 +1,85 @@
-//! Whole commands of the desk and of the clerk over keepers in memory: tests alone. A line `== desk` or `== clerk` tells whose
-//! the lines behind it are, up to the next one, and is printed.
+//! Whole commands of the desk and of the clerk over keepers in memory, connections over HTTP, trees, bodies and journals: tests
+//! alone. A line `== PART` tells what the lines behind it are, up to the next one, and is printed.
 //!
-//! Of the desk, a line `# NAME` begins a keeper without rows and a command without words, `| ROW` puts a row behind the
-//! keeper's, `$ WORDS` begins a command over it; other lines are its input. A line `? read PIECE COUNT` runs the command so
-//! many times, each time over that keeper and out of a source that gives PIECE bytes at most: in the first run the first read
-//! fails, in the second the second, and so on. `? write` is the same of writes, each of one byte, `? append` of appends, `? row`
-//! of the calls by which rows are counted or read, and `? accept` of a link to which two connections come. `? byte` puts `x` in
-//! the place of a byte of the last row instead. For each run the output has the status, how many rows the keeper has and what
-//! was written; and then the same of the command run again over the keeper that came back, with no read and no write that
-//! fails. A bar stands for a line feed. `? begin APPEND ROW` begins a keeper of which the append with the one number and the
-//! count or reading of a row with the other one fails; `? once` runs the command over it, and over the keeper that came back
-//! the next time.
+//! `== desk`: commands of which one call fails. A line `# NAME` begins a keeper without rows and a command without words, `| ROW`
+//! puts a row behind the keeper's, `$ WORDS` begins a command over it; other lines are its input. A line `? read PIECE COUNT`
+//! runs the command so many times, each time over that keeper and out of a source that gives PIECE bytes at most: in the first
+//! run the first read fails, in the second the second, and so on. `? write` is the same of writes, each of one byte, `? append`
+//! of appends, `? row` of the calls by which rows are counted or read, and `? accept` of a link to which two connections come.
+//! `? byte` puts `x` in the place of a byte of the last row instead. For each run the output has the status, how many rows the
+//! keeper has and what was written; and then the same of the command run again over the keeper that came back, with no read and
+//! no write that fails. A bar stands for a line feed. `? begin APPEND ROW` begins a keeper of which the append with the one
+//! number and the count or reading of a row with the other one fails; `? once` runs the command over it, and over the keeper
+//! that came back the next time.
 //!
-//! Of the clerk, a line `# NAME` begins a keeper without rows. A line `$ WORDS` does what the words ask over that keeper, with
-//! the lines before it as its input: `$ run` what the desk does for them, other words what the clerk does. The output has the
-//! words, what was written, the status and how many rows the keeper has. A line `= again` runs what was written last over a
-//! keeper without rows, and tells whether it has the same rows now.
+//! `== commands`: whole commands over one keeper. A line `# NAME` begins a keeper without rows, with no input, and is printed.
+//! `| ROW` puts a row behind those that the keeper begins with, and `! APPEND ROW` tells which append and which count or reading
+//! of a row fails; 0 is none, and ROW may be left out. Behind a command these two begin the keeper anew. `/ PIECE` says how many
+//! bytes a read gives at most. `+ FIRST..END LINE | LINE` puts the lines into the input once for each number from FIRST to before
+//! END, in place of each `#`. `$ WORDS` does what the words ask over the keeper, with the lines before it as input: the desk
+//! where the first word is one of its commands, `--help` or `--version`, the clerk where it is another one, and where `clerk`
+//! stands before the words. The output has the words, what was written, the status and how many rows the keeper has. `% WORDS`
+//! is the same, but instead of what was written the output has how many lines that were and the last one. A line `= again`
+//! runs what was written last over a keeper without rows, and tells whether it has the same rows now. Other lines are input: in
+//! one `{ITEM*COUNT}` is the item so many times, `\r` a carriage return, `\n` a line feed, `\x` with two digits a byte, a
+//! backslash before another byte that byte, and `\.` at the end leaves out the line feed.
+//!
+//! `== connections`: connections over HTTP, served one after another on the desk of one keeper. `# NAME` begins a keeper without
+//! rows, with no connections, `| ROW` and `! APPEND ROW` say what it begins with. `< TEXT` puts a text behind what the
+//! connection sends, in which the marks of an input stand for the same; `/ PIECE` ends the connection, of which a read gives and
+//! a write takes PIECE bytes at most. `$ serve` serves the connections, each as a session of its own. The output has for each
+//! how many bytes it was told, how it ended, and the bytes, with `\r` for a carriage return. `? cut` serves the last one on one
+//! bench again and again, cut after no byte, after the first, and so on; `? read` the same where each read of one byte fails,
+//! `? write` where each write of one byte does. The output has how many bytes each run was told and how it ended, in one line
+//! where this is the same of several in turn, and `no front` where what it was told isn't what the whole connection is told first.
+//!
+//! `== trees`: a line `# NAME` begins a machine. Each line acts, and the output has the text of its reply; in one `{ITEM*COUNT}`
+//! is the item so many times. `? TREE` tells whether the tree refutes the request before it.
+//!
+//! `== bodies`: `< TEXT` puts the text behind the bytes, `x HEX` bytes by their numbers, and `* N TEXT` the text N times. Then
+//! `body` reads the bytes as a body, `head` as what a connection begins with. `done P REPLY`, `reused P`, `full`, `fault` and
+//! `memory` print an answer. A line that begins with `#` is printed.
+//!
+//! `== journal`, `== workers` and `== calling` have no lines. The first tells what the desk answers over a journal of which each
+//! call of the fourth append fails, the next call, and a call with a crash behind it: for each opening the status and what was
+//! written, and then how many rows the journal has. The second tells what comes of two workers that meet, and of two of which
+//! the link of the second one fails: the status, how many rows the keeper has, and what each link's connection was told. The
+//! third tells what a program is answered that calls the library.
 #![tactic(auto)]
 
-mod clerk;
+mod bodies;
+mod calling;
+mod commands;
+mod connections;
 mod desk;
+mod escaped;
+mod journals;
+mod keepers;
+mod parts;
+mod runs;
+mod sent;
+mod serve;
+mod told;
+mod trees;
+mod workers;
 
-use clerk::ClerkCommands;
-use desk::DeskCommands;
+use parts::{Part, Parts, part_of, told_at_first};
 use std::io;
 use test_told::print_told;
-
-/// Whose commands the lines are.
-#[derive(Clone, Copy)]
-enum Part {
-    Desk,
-    Clerk,
-}
-
-/// The part that a line begins, where it begins one.
-fn part_of(line: &str) -> Option<Part> {
-    match line {
-        "== desk" => Some(Part::Desk),
-        "== clerk" => Some(Part::Clerk),
-        _ => None,
-    }
-}
 
 fn main(rt: HostRuntime) -> io::Result<()> {
     let alloc = rt.alloc();
     let mut part = Part::Desk;
-    let mut desk = DeskCommands::new(alloc);
-    let mut clerk = ClerkCommands::new(alloc);
+    let mut parts = Parts::new(alloc);
     for line in rt.lines(alloc) {
         let line = line?;
-        match (part_of(line.as_str()), part) {
-            (Some(begun), _) => {
+        match part_of(line.as_str()) {
+            Some(begun) => {
                 println!(rt; "{line}")?;
+                print_told(rt, told_at_first(&rt, begun))?;
                 part = begun;
             }
-            (None, Part::Desk) => print_told(rt, desk.told(&rt, line.as_str()))?,
-            (None, Part::Clerk) => print_told(rt, clerk.told(&rt, line.as_str()))?,
+            None => print_told(rt, parts.told(&rt, part, line.as_str()))?,
         }
     }
     Ok(())

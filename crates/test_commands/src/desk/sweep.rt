@@ -2,12 +2,14 @@
 
 use crate::desk::serving::put_served;
 use crate::desk::table::Table;
-use crate::desk::told::put_ended;
+use crate::keepers::{Failing, keeper_of};
+use crate::runs::{RUN, Setting, run_over};
+use crate::told::put_ended;
 use sect_base::Memory;
+use sect_edge::MemKeeper;
 use std::alloc::{AllocGlobal, Global};
 use std::sync::Wait;
 use std::thread::Threads;
-use test_runs::{Case, RUN, keeper_of, run_over};
 
 /// What fails.
 #[derive(Clone, Copy, PartialEq, Eq)]
@@ -37,6 +39,30 @@ impl Sweep {
         let piece = words.next()?.parse::<usize>().ok()?;
         let count = words.next()?.parse::<u64>().ok()?;
         Some(Sweep { call, piece, count })
+    }
+
+    /// The number where it is one of these calls, 0 where it is one of others.
+    fn number_of(&self, call: Call, number: u64) -> u64 {
+        if self.call == call { number } else { 0 }
+    }
+
+    /// How the words are run where the call with this number fails.
+    fn setting<'a>(&self, words: &'a str, number: u64) -> Setting<'a> {
+        Setting {
+            words,
+            piece: self.piece,
+            failing_read: self.number_of(Call::Read, number),
+            failing_write: self.number_of(Call::Write, number),
+            ..RUN
+        }
+    }
+
+    /// The calls of the keeper that fail then.
+    fn failing(&self, number: u64) -> Failing {
+        Failing {
+            append: self.number_of(Call::Append, number),
+            row: self.number_of(Call::Row, number),
+        }
     }
 }
 
@@ -76,59 +102,32 @@ fn put_run<R: AllocGlobal + Threads + Wait + Sync>(
     number: u64,
     into: &mut String,
 ) -> Result<(), Memory> {
-    let rows = rows_of_run(rt.alloc(), table, sweep, number)?;
-    let words = table.words.as_str();
-    let case = case_of(words, rows.as_str(), sweep, number);
+    let alloc = rt.alloc();
+    let rows = rows_of_run(alloc, table, sweep, number)?;
+    let keeper = keeper_of(alloc, rows.as_str(), sweep.failing(number))?;
+    let setting = sweep.setting(table.words.as_str(), number);
     if sweep.call == Call::Accept {
-        return put_served(rt, &case, number, into);
+        return put_served(rt, &setting, keeper, number, into);
     }
-    put_twice(rt, &case, table.input.as_slice(), into)
+    put_twice(rt, &setting, table.input.as_slice(), keeper, into)
 }
 
-/// Puts what came of a case, and of the same words and input over the keeper that came back, behind the text.
+/// Puts what came of a command, and of the same words and input over the keeper that came back, behind the text.
 fn put_twice<R: AllocGlobal + Threads + Wait + Sync>(
     rt: &R,
-    case: &Case<'_>,
+    setting: &Setting<'_>,
     input: &[u8],
+    keeper: MemKeeper,
     into: &mut String,
 ) -> Result<(), Memory> {
     let alloc = rt.alloc();
-    let ended = run_over(rt, case, input.to_vec(alloc)?, keeper_of(alloc, case)?)?;
+    let ended = run_over(rt, setting, input.to_vec(alloc)?, keeper)?;
     put_ended(alloc, &ended, into)?;
     let keeper = ended.keeper.ok_or(Memory)?;
-    let words = case.words;
-    let again = run_over(rt, &Case { words, ..RUN }, input.to_vec(alloc)?, keeper)?;
+    let words = setting.words;
+    let again = run_over(rt, &Setting { words, ..RUN }, input.to_vec(alloc)?, keeper)?;
     into.push_str(" then ")?;
     put_ended(alloc, &again, into)
-}
-
-/// The case in which the call with this number fails.
-fn case_of<'a>(words: &'a str, rows: &'a str, sweep: &Sweep, number: u64) -> Case<'a> {
-    let case = Case {
-        words,
-        rows,
-        piece: sweep.piece,
-        ..RUN
-    };
-    match sweep.call {
-        Call::Read => Case {
-            failing_read: number,
-            ..case
-        },
-        Call::Write => Case {
-            failing_write: number,
-            ..case
-        },
-        Call::Append => Case {
-            failing_append: number,
-            ..case
-        },
-        Call::Row => Case {
-            failing_row: number,
-            ..case
-        },
-        Call::Accept | Call::Byte => case,
-    }
 }
 
 /// The keeper's rows, with `x` in the place of the byte of the last row with this number, from 1, where bytes are replaced.

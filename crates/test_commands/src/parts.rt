@@ -1,0 +1,95 @@
+// The parts of the input.
+
+use crate::bodies::Bodies;
+use crate::calling::called;
+use crate::commands::Commands;
+use crate::connections::Connections;
+use crate::desk::DeskCommands;
+use crate::journals::told_of_journals;
+use crate::trees::Trees;
+use crate::workers::told_of_workers;
+use sect_base::Memory;
+use std::alloc::{AllocGlobal, Global};
+use std::sync::Wait;
+use std::thread::Threads;
+
+/// What the lines of a part are.
+#[derive(Clone, Copy)]
+pub enum Part {
+    Desk,
+    Commands,
+    Connections,
+    Trees,
+    Bodies,
+    Journal,
+    Workers,
+    Calling,
+}
+
+/// The part that a line begins, where it begins one.
+pub fn part_of(line: &str) -> Option<Part> {
+    match line {
+        "== desk" => Some(Part::Desk),
+        "== commands" => Some(Part::Commands),
+        "== connections" => Some(Part::Connections),
+        "== trees" => Some(Part::Trees),
+        "== bodies" => Some(Part::Bodies),
+        "== journal" => Some(Part::Journal),
+        "== workers" => Some(Part::Workers),
+        "== calling" => Some(Part::Calling),
+        _ => None,
+    }
+}
+
+/// What the lines of each part are told over.
+#[derive(Drop)]
+pub struct Parts {
+    desk: DeskCommands,
+    commands: Commands,
+    connections: Connections,
+    trees: Trees,
+    bodies: Bodies,
+}
+
+impl Parts {
+    /// Parts of which no line was told.
+    pub fn new(alloc: Global) -> Parts {
+        Parts {
+            desk: DeskCommands::new(alloc),
+            commands: Commands::new(alloc),
+            connections: Connections::new(alloc),
+            trees: Trees::new(alloc),
+            bodies: Bodies::new(alloc),
+        }
+    }
+
+    /// Does what a line of a part says, and gives what is printed for it.
+    pub fn told<R: AllocGlobal + Threads + Wait + Sync>(
+        &mut self,
+        rt: &R,
+        part: Part,
+        line: &str,
+    ) -> Result<Vec<u8>, Memory> {
+        match part {
+            Part::Desk => self.desk.told(rt, line),
+            Part::Commands => self.commands.told(rt, line),
+            Part::Connections => self.connections.told(rt, line),
+            Part::Trees => self.trees.told(rt.alloc(), line),
+            Part::Bodies => self.bodies.told(rt.alloc(), line),
+            Part::Journal | Part::Workers | Part::Calling => Ok(Vec::new(rt.alloc())),
+        }
+    }
+}
+
+/// What is printed where a part begins: all of it for those that have no lines.
+pub fn told_at_first<R: AllocGlobal + Threads + Wait + Sync>(
+    rt: &R,
+    part: Part,
+) -> Result<Vec<u8>, Memory> {
+    match part {
+        Part::Journal => told_of_journals(rt),
+        Part::Workers => told_of_workers(rt),
+        Part::Calling => called(rt.alloc()),
+        _ => Ok(Vec::new(rt.alloc())),
+    }
+}
