@@ -1,0 +1,205 @@
+"""What a second computation of the desk in Python answers to whole commands over one keeper, and to trees: to the parts
+`commands` and `trees` of the input of test_commands, whose form its main.rt tells. What the clerk answers is taken from the
+stored answers. The second computation's folder is among those of modules."""
+import copy
+import re
+
+import app
+import journal
+import texts
+from machine import Machine
+
+VERSION = "desk 0.1.0\n"
+COMMANDS = ("run", "serve", "make", "audit", "report", "import", "export", "plan", "survey")
+STATUSES = {0: "Done", 2: "BadWords", 4: "ReadFault", 5: "WriteFault", 6: "KeeperFault", 8: "LinkFault"}
+FUZZED = ("offerings", "students", "requests", "reservations")
+
+
+def do(words, data, write, opened):
+    """Does what the words ask of the desk that is opened."""
+    if words == ["--version"]:
+        write(VERSION)
+        return
+    command, given, options = app.parse(words)
+    if command == "make":
+        write(app.make(given[0]))
+        return
+    desk = opened()
+    if command == "run":
+        app.run(desk, data, write)
+    elif command == "import":
+        app.import_(desk, given[0], options["first"], options.get("term"), data, write)
+    elif command != "serve":
+        write(app.look(desk, command, given, options))
+
+
+def ended(words, data, write, opened):
+    """The name of the status with which a command ends."""
+    try:
+        do(words, data, write, opened)
+    except app.BadWords:
+        return STATUSES[2]
+    except app.Status as status:
+        numbers = re.findall("[0-9]+", status.text)
+        if status.number == 3:
+            return f"BadLine {{ line: {numbers[0]}, field: {numbers[1]} }}"
+        return f"BadEntry({numbers[0]})" if status.number == 7 else STATUSES[status.number]
+    return STATUSES[0]
+
+
+def unfolded(text):
+    """The text with the first item that stands in it many times, as `{ITEM*COUNT}`."""
+    return re.sub(r"\{([^{}*]*)\*([0-9]+)\}", lambda fold: fold[1] * int(fold[2]), text, count=1)
+
+
+def unescaped(text):
+    """The bytes of a text in which `\\r`, `\\n` and `\\xHH` are bytes, and a backslash before another one is that one."""
+    said = {b"r": b"\r", b"n": b"\n"}
+    return re.sub(rb"\\(?:x([0-9a-f]{2})|(.))",
+                  lambda mark: bytes.fromhex(mark[1].decode()) if mark[1] else said.get(mark[2], mark[2]), text.encode())
+
+
+def input_of(line):
+    """The bytes that a line of an input says; `\\.` at its end leaves out the line feed."""
+    if line.endswith("\\."):
+        return unescaped(unfolded(line[:-2]))
+    return unescaped(unfolded(line)) + b"\n"
+
+
+def numbered(words):
+    """The bytes of `FIRST..END LINES`."""
+    numbers, lines = words.split(" ", 1)
+    first, end = map(int, numbers.split(".."))
+    return "".join(lines.replace(" | ", "\n").replace("#", str(number)) + "\n" for number in range(first, end)).encode()
+
+
+class Stored:
+    """The stored answers, in which those of the clerk are looked up."""
+
+    def __init__(self, text):
+        self.text, self.at = text, 0
+
+    def begin(self, name):
+        """Goes to a section."""
+        self.at = max(self.text.find(f"\n{name}\n"), 0)
+
+    def answer(self, line):
+        """What is written for a line, and how the command ends."""
+        end = re.compile(rf"^{re.escape(line)}\n((?:.*\n)*?)(status .*\nrows [0-9]+\n)", re.M)
+        found = end.search(self.text, self.at)
+        if found is None:
+            return "", "not stored\n"
+        self.at = found.end()
+        return found.groups()
+
+
+class Commands:
+    """Commands over one keeper, and the input of the next one."""
+
+    def __init__(self, stored):
+        self.stored, self.rows, self.failing, self.input, self.written = stored, [], [], b"", ""
+        self.keeper = self.desk = None
+
+    def opened(self):
+        """The desk, which stays open where no reading of the keeper is to fail."""
+        if self.desk is None or self.keeper.reads:
+            self.desk = app.open_desk(self.keeper)
+        return self.desk
+
+    def told(self, line):
+        """What is printed for a line with words."""
+        if self.keeper is None:
+            self.keeper = journal.MemKeeper(self.rows, self.failing[:1], self.failing[1:])
+        words, data, out = ["" if word == '""' else word for word in line[2:].split()], self.input, []
+        self.input = b""
+        if words[0] not in COMMANDS + ("--help", "--version"):
+            self.written, end = self.stored.answer(line)
+            return f"{line}\n{self.written}{end}"
+        status = ended(words, data, out.append, self.opened)
+        self.written = "".join(out)
+        shown = self.written
+        if line.startswith("%"):
+            shown = f"lines {shown.count(chr(10))}, last {shown.splitlines()[-1] if shown else ''}\n"
+        return f"{line}\n{shown}status {status}\nrows {len(self.keeper.rows)}\n"
+
+    def again(self):
+        """Whether what was written last makes the same rows."""
+        keeper = journal.MemKeeper()
+        status = ended(["run"], self.written.encode(), lambda _: None, lambda: app.open_desk(keeper))
+        return f"again {'the same' if keeper.rows == self.keeper.rows else 'other'} rows\nstatus {status}\n"
+
+
+def commands(lines, stored):
+    stored = Stored(stored)
+    over = Commands(stored)
+    for line in lines:
+        if line.startswith("#"):
+            over = Commands(stored)
+            stored.begin(line)
+            yield line + "\n"
+        elif line.startswith(("$ ", "% ")):
+            yield over.told(line)
+        elif line == "= again":
+            yield over.again()
+        elif line.startswith("| "):
+            over.rows.append(line[2:].encode())
+        elif line.startswith("! "):
+            over.failing = [int(number) for number in line[2:].split()]
+        elif line.startswith("+ "):
+            over.input += numbered(line[2:])
+        elif not line.startswith("/ "):
+            over.input += input_of(line)
+
+
+def request_of(line):
+    """The day, the caller and the command of a line."""
+    day, caller, _, command = texts.read_line(line)
+    return texts.day("2025-09-01") if day is None else day, caller, command
+
+
+def judged(machine, line, tree):
+    """Whether a tree refutes a line that would be blocked."""
+    try:
+        tree = texts.tree(tree)
+    except texts.Bad:
+        return "no tree"
+    day, caller, command = request_of(line)
+    if copy.deepcopy(machine).step(day, caller, command)[0] != "blocked":
+        return "not blocked"
+    return "refuted" if machine.recheck(day, command, tree) else "not refuted"
+
+
+def trees(lines, _):
+    machine, last = Machine(), ""
+    for line in lines:
+        if line.startswith("#"):
+            machine = Machine()
+            yield line + "\n"
+        elif line.startswith("? "):
+            yield judged(machine, last, line[2:]) + "\n"
+        else:
+            last = line
+            yield texts.print_reply(machine.step(*request_of(line))) + "\n"
+
+
+def escaped(data):
+    """The bytes as lines of an input."""
+    lines = "".join("\\r" if byte == 13 else chr(byte) if byte == 10 or 32 <= byte < 127 and byte not in b"\\{" else f"\\x{byte:02x}"
+                    for byte in data)
+    lines = re.sub(r"(?m)^(?=[#|!+$%=/])", r"\\", lines)
+    return lines if not lines or lines.endswith("\n") else lines + "\\.\n"
+
+
+def fuzzed_requests(seed):
+    """A section of random requests."""
+    import fuzz
+    lines = [line for line in fuzz.Gen(seed).script(100) if line and not line.startswith("#")]
+    return f"# Random requests, {seed}.\n" + "".join(line + "\n" for line in [*lines, "$ run", "$ audit", "$ survey"])
+
+
+def fuzzed_tables(seed):
+    """A section of random tables of one term."""
+    import fuzz
+    imports = "".join(f"{escaped(fuzz.csv_bytes(seed, table))}$ import {table} --first {100 * at + 1} --term 2025-09-01\n"
+                      for at, table in enumerate(FUZZED))
+    return f"# Random tables, {seed}.\n/ 7\n{imports}" + "".join(f"$ export {table}\n" for table in FUZZED)
