@@ -20,10 +20,9 @@ impl Failing {
     /// The calls of `APPEND ROW`, where a number that isn't there is 0.
     pub fn read(calls: &str) -> Failing {
         let mut calls = calls.split_whitespace();
-        Failing {
-            append: number(calls.next()),
-            row: number(calls.next()),
-        }
+        let append = number(calls.next());
+        let row = number(calls.next());
+        Failing { append, row }
     }
 }
 

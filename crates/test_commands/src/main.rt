@@ -31,7 +31,8 @@
 //! how many bytes it was told, how it ended, and the bytes, with `\r` for a carriage return. `? cut` serves the last one on one
 //! bench again and again, cut after no byte, after the first, and so on; `? read` the same where each read of one byte fails,
 //! `? write` where each write of one byte does. The output has how many bytes each run was told and how it ended, in one line
-//! where this is the same of several in turn, and `no front` where what it was told isn't what the whole connection is told first.
+//! where this is the same of several in turn, and `no front` where the bytes aren't those that the whole connection is told
+//! first.
 //!
 //! `== trees`: a line `# NAME` begins a machine. Each line acts, and the output has the text of its reply; in one `{ITEM*COUNT}`
 //! is the item so many times. `? TREE` tells whether the tree refutes the request before it.

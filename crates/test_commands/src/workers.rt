@@ -65,11 +65,12 @@ fn put_meeting<R: AllocGlobal + Threads + Wait + Sync>(
     put_end(alloc, ended.status, ended.keeper.as_ref(), into)?;
     put_first_line(alloc, &links, 0, into)?;
     put_first_line(alloc, &links, 1, into)?;
-    into.push_str(if gate.was_late() {
+    let came = if gate.was_late() {
         "late\n"
     } else {
         "in time\n"
-    })?;
+    };
+    into.push_str(came)?;
     Ok(())
 }
 
