@@ -1,6 +1,6 @@
 """What a second computation of the desk in Python answers to whole commands over one keeper, and to trees: to the parts
-`commands` and `trees` of the input of test_commands, whose form its main.rt tells. What the clerk answers is taken from the
-stored answers. The second computation's folder is among those of modules."""
+`commands` and `trees` of the input of test_commands, whose form its main.rt tells. What the clerk answers, and texts of help, are
+taken from the stored answers. The second computation's folder is among those of modules."""
 import copy
 import re
 
@@ -10,7 +10,7 @@ import texts
 from machine import Machine
 
 VERSION = "desk 0.1.0\n"
-COMMANDS = ("run", "serve", "make", "audit", "report", "import", "export", "plan", "survey")
+COMMANDS = ("run", "serve", "make", "audit", "report", "import", "export", "plan", "survey", "--version")
 STATUSES = {0: "Done", 2: "BadWords", 4: "ReadFault", 5: "WriteFault", 6: "KeeperFault", 8: "LinkFault"}
 FUZZED = ("offerings", "students", "requests", "reservations")
 
@@ -80,8 +80,9 @@ class Stored:
         self.text, self.at = text, 0
 
     def begin(self, name):
-        """Goes to a section."""
-        self.at = max(self.text.find(f"\n{name}\n"), 0)
+        """Goes to a section, or to the end where it isn't stored."""
+        found = self.text.find(f"\n{name}\n")
+        self.at = found if found >= 0 else len(self.text)
 
     def answer(self, line):
         """What is written for a line, and how the command ends."""
@@ -112,7 +113,7 @@ class Commands:
             self.keeper = journal.MemKeeper(self.rows, self.failing[:1], self.failing[1:])
         words, data, out = ["" if word == '""' else word for word in line[2:].split()], self.input, []
         self.input = b""
-        if words[0] not in COMMANDS + ("--help", "--version"):
+        if words[0] not in COMMANDS:
             self.written, end = self.stored.answer(line)
             return f"{line}\n{self.written}{end}"
         status = ended(words, data, out.append, self.opened)

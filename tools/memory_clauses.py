@@ -16,9 +16,6 @@ import sys
 CRATES = os.path.join(os.path.dirname(os.path.abspath(__file__)), '..', 'crates')
 OTHER = re.compile(r'^\s*(?:\(\w+ [^→]*\) → )*(IfOk|OnOk|IfSome|HasCause|HasCauseFor)\b|→ Rose \(')
 
-# Crates of tests alone.
-TESTS = ('test_runs', 'test_texts')
-
 # Those of which docs/PROVED.md says why nothing is promised.
 DESCRIBED = {
     'sect_asking: print_answer', 'sect_check: print_complaint', 'sect_edge: Keeper::row', 'sect_head: read_head', 'sect_journal: Disk::read_at',
@@ -138,7 +135,7 @@ def main():
     tells = re.compile(r'\b(Memory|%s)\b' % '|'.join(sorted(memory)))
     show, left, said, nothing = sys.argv[1:] == ['--all'], [], [], []
     for crate in sorted(os.listdir(CRATES)):
-        if not crate.startswith('sect_') or crate in TESTS:
+        if not crate.startswith('sect_'):
             continue
         names = exported(crate)
         for path in sources(crate):

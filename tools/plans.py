@@ -1,9 +1,8 @@
 #!/usr/bin/env python3
-"""Holds the best whole schedules of random students against a second computation of the desk in Python, which searches
+"""Holds what `PROGRAM plan` prints of random students against a second computation of the desk in Python, which searches
 each list of requests anew.
 
-  plans.py --oracle FOLDER --desk PROGRAM [--seeds A..B]   compares what `PROGRAM plan` prints
-  plans.py --oracle FOLDER --cases FOLDER [--seeds A..B]   writes inputs of test_machine with the answers, for rt try --cases
+  plans.py --oracle FOLDER --desk PROGRAM [--seeds A..B]
 
 Each seed makes a term of few offerings at few times, students who hold some of the places, and student 11 with up to 8
 course requests. The last line tells how many students were compared, how many lines of each kind there were, and how many
@@ -72,16 +71,21 @@ def commands(seed):
     return [f"r1 {number} {line}" for number, line in enumerate(lines, 1)], dice.choice([1, 5, 12, 60, 500, 2000, 2000])
 
 
-def answers(lines, budget):
-    """The replies, and the best whole schedule."""
-    import reports
+def machine_of(lines):
+    """The machine of which these requests were asked."""
     import texts
     from machine import Machine
-    machine, replies = Machine(), []
+    machine = Machine()
     for line in lines:
         _, caller, _, command = texts.read_line(line)
-        replies.append(texts.print_reply(machine.step(texts.day("2025-09-01"), caller, command)) + "\n")
-    return "".join(replies), reports.plan(machine, 11, budget)
+        machine.step(texts.day("2025-09-01"), caller, command)
+    return machine
+
+
+def wanted(lines, budget):
+    """The best whole schedule behind these requests."""
+    import reports
+    return reports.plan(machine_of(lines), 11, budget)
 
 
 def planned(desk, lines, budget):
@@ -97,8 +101,7 @@ def planned(desk, lines, budget):
 def main():
     parser = argparse.ArgumentParser()
     parser.add_argument("--oracle", required=True)
-    parser.add_argument("--desk")
-    parser.add_argument("--cases")
+    parser.add_argument("--desk", required=True)
     parser.add_argument("--seeds", default="1..500")
     given = parser.parse_args()
     sys.path.insert(0, given.oracle)
@@ -106,15 +109,10 @@ def main():
     kinds, wrong = {"met": 0, "unmet": 0, "spent": 0, "none": 0}, 0
     for seed in range(low, high + 1):
         lines, budget = commands(seed)
-        replies, plan = answers(lines, budget)
+        plan = wanted(lines, budget)
         for line in plan.splitlines():
             kinds[line.split(" ")[2] if " " in line else line] += 1
-        if given.cases:
-            script = "".join(line + "\n" for line in [*lines, f"= plan 11 {budget}"])
-            for name, text in ((f"{seed}", script), (f"{seed}.stdout", replies + plan)):
-                with open(os.path.join(given.cases, name), "w") as file:
-                    file.write(text)
-        elif planned(given.desk, lines, budget) != plan:
+        if planned(given.desk, lines, budget) != plan:
             print(f"seed {seed} differs")
             wrong += 1
     print(f"{high + 1 - low} students, " + ", ".join(f"{kind} {n}" for kind, n in kinds.items()) + f", {wrong} differ")

@@ -1,9 +1,8 @@
 #!/usr/bin/env python3
-"""Holds the surveys of random terms against a second computation of the desk in Python, which searches each unmet request
-anew.
+"""Holds what `PROGRAM survey` prints of random terms against a second computation of the desk in Python, which searches each
+unmet request anew.
 
-  surveys.py --oracle FOLDER --desk PROGRAM [--seeds A..B]   compares what `PROGRAM survey` prints
-  surveys.py --oracle FOLDER --cases FOLDER [--seeds A..B]   writes inputs of test_machine with the answers, for rt try --cases
+  surveys.py --oracle FOLDER --desk PROGRAM [--seeds A..B]
 
 Each seed makes a term of few offerings at few times, some of which have so many choices that a search is spent, and
 students who hold some of the places and have up to 8 course requests each. The last line tells how many terms were
@@ -16,7 +15,7 @@ import subprocess
 import sys
 import tempfile
 
-from plans import offering, requests, reservation
+from plans import machine_of, offering, requests, reservation
 
 
 def crowded(number):
@@ -46,16 +45,10 @@ def commands(seed):
     return [f"r1 {number} {line}" for number, line in enumerate(lines, 1)]
 
 
-def answers(lines):
-    """The replies, and the survey."""
+def wanted(lines):
+    """The survey behind these requests."""
     import reports
-    import texts
-    from machine import Machine
-    machine, replies = Machine(), []
-    for line in lines:
-        _, caller, _, command = texts.read_line(line)
-        replies.append(texts.print_reply(machine.step(texts.day("2025-09-01"), caller, command)) + "\n")
-    return "".join(replies), reports.print_survey(machine)
+    return reports.print_survey(machine_of(lines))
 
 
 def surveyed(desk, lines):
@@ -71,8 +64,7 @@ def surveyed(desk, lines):
 def main():
     parser = argparse.ArgumentParser()
     parser.add_argument("--oracle", required=True)
-    parser.add_argument("--desk")
-    parser.add_argument("--cases")
+    parser.add_argument("--desk", required=True)
     parser.add_argument("--seeds", default="1..500")
     given = parser.parse_args()
     sys.path.insert(0, given.oracle)
@@ -80,16 +72,11 @@ def main():
     kinds, wrong = {"open": 0, "blocked": 0, "spent": 0, "leaves": 0, "wanted": 0, "none": 0}, 0
     for seed in range(low, high + 1):
         lines = commands(seed)
-        replies, survey = answers(lines)
+        survey = wanted(lines)
         for line in survey.splitlines():
             words = line.split(" ")
             kinds[words[{"student": 4, "rule": 2, "section": 2, "none": 0}[words[0]]]] += 1
-        if given.cases:
-            script = "".join(line + "\n" for line in [*lines, "= survey"])
-            for name, text in ((f"{seed}", script), (f"{seed}.stdout", replies + survey)):
-                with open(os.path.join(given.cases, name), "w") as file:
-                    file.write(text)
-        elif surveyed(given.desk, lines) != survey:
+        if surveyed(given.desk, lines) != survey:
             print(f"seed {seed} differs")
             wrong += 1
     print(f"{high + 1 - low} terms, " + ", ".join(f"{kind} {n}" for kind, n in kinds.items()) + f", {wrong} differ")
