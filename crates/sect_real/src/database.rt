@@ -55,6 +55,12 @@ impl SqliteKeeper {
         }
     }
 
+    /// Makes the table where there is none, and looks at its rows. It is refused where the table has other columns.
+    fn begin(&mut self) -> Result<(), Error> {
+        self.rows = made_and_counted(&mut self.database)?;
+        self.window.move_to(&mut self.database, 0)
+    }
+
     /// What is answered for an error; where it isn't want of memory, it is counted.
     fn told(&mut self, error: Error) -> KeepFault
         ensures later { self.old.faults ≤ self.new.faults }
@@ -76,28 +82,23 @@ fn fault_of(error: Error) -> KeepFault {
     }
 }
 
+/// The keeper is made before its rows are looked at, so that no end here drops a database but by the keeper's own drop.
 fn opened(rt: &HostRuntime, path: &str) -> Result<SqliteKeeper, Error> {
-    let mut database = Connection::open(rt, path)?;
-    make_table(&mut database)?;
-    let rows = count(&mut database)?;
-    // It is refused where the table has other columns.
-    let mut window = Window::new(rt.alloc());
-    window.move_to(&mut database, 0)?;
-    Ok(SqliteKeeper {
-        database,
-        rows,
-        window,
+    let mut keeper = SqliteKeeper {
+        database: Connection::open(rt, path)?,
+        rows: 0,
+        window: Window::new(rt.alloc()),
         faults: 0,
-    })
+    };
+    keeper.begin()?;
+    Ok(keeper)
 }
 
-fn make_table(database: &mut Database) -> Result<(), Error> {
+/// Makes the table where there is none, and counts its rows.
+fn made_and_counted(database: &mut Database) -> Result<u64, Error> {
     database.execute_batch(
         "CREATE TABLE IF NOT EXISTS entry (place INTEGER PRIMARY KEY, row BLOB NOT NULL)",
-    )
-}
-
-fn count(database: &mut Database) -> Result<u64, Error> {
+    )?;
     let rows = database
         .query_row("SELECT count(*) FROM entry", &[])?
         .get::<i64>(0)?;

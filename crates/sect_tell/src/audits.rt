@@ -81,13 +81,22 @@ fn audit_of<K: Keeper>(alloc: Global, desk: &Desk<Machine, K>) -> Result<Found, 
     ensures { IfOk result (IsFoundIn (history desk.now.log)) }
 {
     let mut machine = Machine::empty(alloc);
+    audit_on(&mut machine, desk)
+}
+
+/// The same on this machine, to which nothing was asked yet.
+fn audit_on<K: Keeper>(machine: &mut Machine, desk: &Desk<Machine, K>) -> Result<Found, Memory>
+    requires empty { state_in machine.old ≡ empty_state }
+    requires sound { IsSound stepped IsRow K.rows K.faults empty_state desk.now }
+    ensures { IfOk result (IsFoundIn (history desk.now.log)) }
+{
     let mut blocked = 0;
     let mut verified = 0;
     for place in 0..desk.acted() {
         let entry = desk.entry(place);
         blocked = plus(blocked, is_blocked(&entry.reply));
-        verified = plus(verified, is_verified(&mut machine, entry)?);
-        act(&mut machine, entry)?;
+        verified = plus(verified, is_verified(machine, entry)?);
+        act(machine, entry)?;
     }
     Ok(Found {
         blocked,

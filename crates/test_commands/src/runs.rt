@@ -83,6 +83,29 @@ fn link_alone(alloc: Global, link: MemLink) -> Result<Vec<MemLink>, Memory>
     Ok(links)
 }
 
+/// What stands around a run, beside its keeper, its links and its gate.
+#[derive(Drop)]
+struct Around {
+    words: Vec<String>,
+    source: MemSource,
+    sink: MemSink,
+    clocks: Vec<MemClock>,
+}
+
+/// What stands around a run in this setting that reads these bytes.
+fn around(alloc: Global, setting: &Setting<'_>, input: Vec<u8>) -> Result<Around, Memory>
+    ensures { IfOk result (λ around. length around.clocks.items ≡ 2) }
+{
+    let failing_reads = number_alone(alloc, setting.failing_read)?;
+    let failing_writes = number_alone(alloc, setting.failing_write)?;
+    Ok(Around {
+        words: words_of(alloc, setting.words)?,
+        source: MemSource::new(input, setting.piece.max(1), failing_reads),
+        sink: MemSink::new(alloc, setting.room, 1, failing_writes)?,
+        clocks: clocks(alloc)?,
+    })
+}
+
 /// Runs the desk over these bytes and this keeper, with a sink that takes a byte at a time and a link to which no connection
 /// comes.
 pub fn run_over<R: AllocGlobal + Threads + Wait + Sync, K: Keeper + Send + Drop>(
@@ -127,15 +150,12 @@ pub fn run_on_links<
     requires some { 0 < length links.items }
     requires most { length links.items ≤ 2 }
 {
-    let alloc = rt.alloc();
-    let words = words_of(alloc, setting.words)?;
-    let mut source = MemSource::new(
-        input,
-        setting.piece.max(1),
-        number_alone(alloc, setting.failing_read)?,
-    );
-    let failing_writes = number_alone(alloc, setting.failing_write)?;
-    let mut sink = MemSink::new(alloc, setting.room, 1, failing_writes)?;
+    let Around {
+        words,
+        mut source,
+        mut sink,
+        clocks,
+    } = around(rt.alloc(), setting, input)?;
     let (status, keeper, links) = desk(
         rt,
         &words,
@@ -143,7 +163,7 @@ pub fn run_on_links<
         &mut sink,
         links,
         keeper,
-        clocks(alloc)?,
+        clocks,
         gate,
     );
     let ended = Ended {

@@ -4,7 +4,7 @@ use Rattle.sect_model.specs.World.{empty_state}
 use Rattle.sect_once.specs.History.{history, state_after}
 use Rattle.sect_tell.specs.Audit.{blocked, verified_from}
 use Rattle.sect_history.specs.Step.{stepped}
-use Rattle.sect_tell.proofs.audits.audit_of.Given as goal
+use Rattle.sect_tell.proofs.audits.audit_on.Given as goal
 
 abbrev pub invariant-loop-place : goal.invariant-loop-place
 invariant-loop-place g l = record {

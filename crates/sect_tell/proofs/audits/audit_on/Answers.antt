@@ -2,7 +2,7 @@ use Rattle.std.proofs.Common.{arith}
 use Rattle.sect_machine.specs.Standing.{state_in}
 use Rattle.sect_once.specs.History.{history}
 use Rattle.sect_tell.proofs.Verified.{acted_more, blocked_more, few_blocked, few_verified, replied_in, verified_more}
-use Rattle.sect_tell.proofs.audits.audit_of.Goals as goal
+use Rattle.sect_tell.proofs.audits.audit_on.Goals as goal
 
 pub plus-blocked-requires : goal.plus-blocked-requires
 plus-blocked-requires g c =
