@@ -1,5 +1,5 @@
-"""What a second computation of the desk in Python answers to whole commands over one keeper, and to trees: to the parts
-`commands` and `trees` of the input of test_commands, whose form its main.rt tells. What the clerk answers, and texts of help, are
+"""What a second computation of the desk in Python answers to whole commands over one keeper, and to lines over a machine: to the
+parts `commands` and `machine` of the input of test_commands, whose form its main.rt tells. What the clerk answers, and texts of help, are
 taken from the stored answers. The second computation's folder is among those of modules."""
 import copy
 import re
@@ -170,17 +170,44 @@ def judged(machine, line, tree):
     return "refuted" if machine.recheck(day, command, tree) else "not refuted"
 
 
-def trees(lines, _):
-    machine, last = Machine(), ""
+def sections_of(lines):
+    """The lines of each section behind its title."""
+    sections = []
     for line in lines:
         if line.startswith("#"):
-            machine = Machine()
-            yield line + "\n"
-        elif line.startswith("? "):
-            yield judged(machine, last, line[2:]) + "\n"
+            sections.append((line, []))
+        else:
+            sections[-1][1].append(line)
+    return sections
+
+
+def over_machine(lines, kept):
+    """The answers to the lines of a section over the machine, with the counts of searches that are kept."""
+    machine, last = Machine(), ""
+    for at, line in enumerate(lines):
+        if line.startswith("? "):
+            yield judged(machine, last, line[2:])
+        elif line.startswith("+ "):
+            asked = numbered(line[2:]).decode().splitlines()
+            amended = sum(texts.print_reply(machine.step(*request_of(each))) == "amended" for each in asked)
+            yield f"{amended} amended"
+        elif line.startswith("% "):
+            counted = re.search(", searches [0-9]+$", kept[at]) if at < len(kept) else None
+            yield texts.print_reply(machine.step(*request_of(line[2:]))) + (counted[0] if counted else ", searches ?")
         else:
             last = line
-            yield texts.print_reply(machine.step(*request_of(line))) + "\n"
+            yield texts.print_reply(machine.step(*request_of(line)))
+
+
+def machine(lines, stored):
+    """The second computation tries everybody who waits each time: so it counts no searches, and a section in which several lines
+    are acted again and again stays as it is stored."""
+    kept = dict(sections_of(stored.split("\n== machine\n")[-1].split("\n== ")[0].split("\n"))) if "\n== machine\n" in stored else {}
+    for title, held in sections_of(lines):
+        is_long = any(line.startswith("+ ") and " | " in line for line in held)
+        answers = kept.get(title, []) if is_long else over_machine(held, kept.get(title, []))
+        yield title + "\n"
+        yield from (line + "\n" for line in answers)
 
 
 def escaped(data):

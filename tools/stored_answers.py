@@ -43,7 +43,7 @@ def command_lines(lines, stored):
     import command_answers
     import fault_answers
     import http_answers
-    known = {"desk": fault_answers.answers, "commands": command_answers.commands, "trees": command_answers.trees,
+    known = {"desk": fault_answers.answers, "commands": command_answers.commands, "machine": command_answers.machine,
              "connections": http_answers.connections, "bodies": http_answers.bodies}
     kept = ("journal", "workers", "calling")
     stored_parts = dict(parts_of(stored.split("\n")[:-1], (*known, *kept))) if stored else {}

@@ -2,7 +2,6 @@
 
 mod bench;
 mod doing;
-mod ranges;
 mod told;
 
 use bench::Bench;

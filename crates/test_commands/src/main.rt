@@ -1,4 +1,4 @@
-//! Whole commands of the desk and of the clerk over keepers in memory, connections over HTTP, trees, bodies and journals: tests
+//! Whole commands of the desk and of the clerk over keepers in memory, connections over HTTP, lines over a machine, bodies and journals: tests
 //! alone. A line `== PART` tells what the lines behind it are, up to the next one, and is printed.
 //!
 //! `== desk`: commands of which one call fails. A line `# NAME` begins a keeper without rows and a command without words, `| ROW`
@@ -34,8 +34,10 @@
 //! where this is the same of several in turn, and `no front` where the bytes aren't those that the whole connection is told
 //! first.
 //!
-//! `== trees`: a line `# NAME` begins a machine. Each line acts, and the output has the text of its reply; in one `{ITEM*COUNT}`
-//! is the item so many times. `? TREE` tells whether the tree refutes the request before it.
+//! `== machine`: a line `# NAME` begins a machine. Each line acts, and the output has the text of its reply; in one `{ITEM*COUNT}`
+//! is the item so many times. `% LINE` acts and tells how many searches that took as well. `+ FIRST..END LINE | LINE` acts the
+//! lines once for each number from FIRST to before END, in place of each `#`, and tells how many were answered `amended`.
+//! `? TREE` tells whether the tree refutes the request before it.
 //!
 //! `== bodies`: `< TEXT` puts the text behind the bytes, `x HEX` bytes by their numbers, and `* N TEXT` the text N times. Then
 //! `body` reads the bytes as a body, `head` as what a connection begins with. `done P REPLY`, `reused P`, `full`, `fault` and
@@ -56,12 +58,13 @@ mod desk;
 mod escaped;
 mod journals;
 mod keepers;
+mod machine;
 mod parts;
+mod ranges;
 mod runs;
 mod sent;
 mod serve;
 mod told;
-mod trees;
 mod workers;
 
 use parts::{Part, Parts, part_of, told_at_first};

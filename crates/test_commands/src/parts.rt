@@ -6,7 +6,7 @@ use crate::commands::Commands;
 use crate::connections::Connections;
 use crate::desk::DeskCommands;
 use crate::journals::told_of_journals;
-use crate::trees::Trees;
+use crate::machine::OverMachine;
 use crate::workers::told_of_workers;
 use sect_base::Memory;
 use std::alloc::{AllocGlobal, Global};
@@ -19,7 +19,7 @@ pub enum Part {
     Desk,
     Commands,
     Connections,
-    Trees,
+    Machine,
     Bodies,
     Journal,
     Workers,
@@ -32,7 +32,7 @@ pub fn part_of(line: &str) -> Option<Part> {
         "== desk" => Some(Part::Desk),
         "== commands" => Some(Part::Commands),
         "== connections" => Some(Part::Connections),
-        "== trees" => Some(Part::Trees),
+        "== machine" => Some(Part::Machine),
         "== bodies" => Some(Part::Bodies),
         "== journal" => Some(Part::Journal),
         "== workers" => Some(Part::Workers),
@@ -47,7 +47,7 @@ pub struct Parts {
     desk: DeskCommands,
     commands: Commands,
     connections: Connections,
-    trees: Trees,
+    machine: OverMachine,
     bodies: Bodies,
 }
 
@@ -58,7 +58,7 @@ impl Parts {
             desk: DeskCommands::new(alloc),
             commands: Commands::new(alloc),
             connections: Connections::new(alloc),
-            trees: Trees::new(alloc),
+            machine: OverMachine::new(alloc),
             bodies: Bodies::new(alloc),
         }
     }
@@ -74,7 +74,7 @@ impl Parts {
             Part::Desk => self.desk.told(rt, line),
             Part::Commands => self.commands.told(rt, line),
             Part::Connections => self.connections.told(rt, line),
-            Part::Trees => self.trees.told(rt.alloc(), line),
+            Part::Machine => self.machine.told(rt.alloc(), line),
             Part::Bodies => self.bodies.told(rt.alloc(), line),
             Part::Journal | Part::Workers | Part::Calling => Ok(Vec::new(rt.alloc())),
         }

@@ -1,10 +1,10 @@
 // A keeper with what is asked over it.
 
 use crate::commands::doing::{by_desk, by_whom};
-use crate::commands::ranges::put_each;
 use crate::commands::told::{told, told_again, told_counted};
 use crate::escaped::put_line;
 use crate::keepers::Kept;
+use crate::ranges::put_each;
 use crate::runs::PIECE;
 use sect_app::Status;
 use sect_base::Memory;

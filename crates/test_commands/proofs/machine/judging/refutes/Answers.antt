@@ -1,7 +1,7 @@
 use Rattle.std.proofs.Common.{ap, sym, ◌∙◌}
 use Rattle.sect_model.specs.Step.{step as step_of}
 use Rattle.sect_machine.specs.Standing.{state_in}
-use Rattle.test_commands.proofs.trees.judging.refutes.Goals as goal
+use Rattle.test_commands.proofs.machine.judging.refutes.Goals as goal
 
 pub checked-requires : goal.checked-requires
 checked-requires c =

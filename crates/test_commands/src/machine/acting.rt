@@ -1,6 +1,7 @@
 // A line acts.
 
 use sect_base::Memory;
+use sect_command::Reply;
 use sect_machine::Machine;
 use sect_once::Object;
 use sect_text::print_reply;
@@ -26,18 +27,30 @@ pub fn answer(
     into: &mut Vec<u8>,
 ) -> Result<(), Memory> {
     let line = unfolded(alloc, text)?;
-    match read_line(alloc, line.as_slice()) {
-        Ok(ask) => answer_ask(machine, &ask, into),
-        Err(_) => print_text("no request\n", into),
+    match reply_to(alloc, machine, line.as_slice())? {
+        Some(reply) => print_reply(&reply, into)?,
+        None => print_text("no request", into)?,
+    }
+    print_text("\n", into)
+}
+
+/// Acts a line on its day, and gives its reply. None where it is no request.
+pub fn reply_to(
+    alloc: Global,
+    machine: &mut Machine,
+    line: &[u8],
+) -> Result<Option<Reply>, Memory> {
+    match read_line(alloc, line) {
+        Ok(ask) => acted(machine, &ask),
+        Err(_) => Ok(None),
     }
 }
 
-/// Acts a request on its day, and appends the reply.
-fn answer_ask(machine: &mut Machine, ask: &LineAsk, into: &mut Vec<u8>) -> Result<(), Memory> {
+/// Acts a request on its day.
+fn acted(machine: &mut Machine, ask: &LineAsk) -> Result<Option<Reply>, Memory> {
     let Some(day) = day_of(ask) else {
-        return Ok(());
+        return Ok(None);
     };
     let (reply, _) = machine.step(day, ask.id.caller, &ask.command)?;
-    print_reply(&reply, into)?;
-    print_text("\n", into)
+    Ok(Some(reply))
 }

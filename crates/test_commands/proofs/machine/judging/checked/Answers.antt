@@ -1,6 +1,6 @@
 use Rattle.std.proofs.Common.{◌∙◌}
 use Rattle.sect_machine.specs.Standing.{state_in}
-use Rattle.test_commands.proofs.trees.judging.checked.Goals as goal
+use Rattle.test_commands.proofs.machine.judging.checked.Goals as goal
 
 pub recheck-requires-clause-searches : goal.recheck-requires-clause-searches
 recheck-requires-clause-searches c =

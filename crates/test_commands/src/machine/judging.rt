@@ -4,7 +4,7 @@ ghost use Rattle.std.specs.Prelude.{◌≡◌};
 ghost use Rattle.sect_model.specs.Step.{step as step_of};
 ghost use Rattle.sect_machine.specs.Standing.{state_in};
 
-use crate::trees::acting::day_of;
+use crate::machine::acting::day_of;
 use sect_base::{Block, Caller, Memory};
 use sect_command::{Command, Reply, read_block};
 use sect_machine::Machine;
