@@ -1,5 +1,5 @@
 // Texts both ways: each command, each reply and refusal, rows, and texts of no value.
-use sect_base::Memory;
+use sect_base::{Duplicate, Memory};
 use sect_command::{Command, Reply};
 use sect_once::Entry;
 use sect_wire::{
@@ -8,6 +8,7 @@ use sect_wire::{
 use std::alloc::Global;
 
 mod tables;
+mod values;
 mod worked;
 
 /// How a command is printed.
@@ -17,10 +18,16 @@ fn command_text(alloc: Global, command: &Command) -> Result<Vec<u8>, Memory> {
     Ok(text)
 }
 
-/// How a line's command is printed.
+/// How a copy of a command is printed.
+fn copy_text(alloc: Global, command: &Command) -> Result<Vec<u8>, Memory> {
+    let copy = command.copy(alloc)?;
+    command_text(alloc, &copy)
+}
+
+/// How a copy of a line's command is printed.
 fn printed(alloc: Global, line: &[u8]) -> Option<Vec<u8>> {
     let ask = read_line(alloc, line).ok()?;
-    command_text(alloc, &ask.command).ok()
+    copy_text(alloc, &ask.command).ok()
 }
 
 /// Whether a line ends with its command as it is printed.

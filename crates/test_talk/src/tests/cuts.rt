@@ -1,6 +1,5 @@
 // Bytes that are cut.
 use super::*;
-use test_told::fielded;
 
 /// A first line.
 const LINE: &[u8] = b"HEAD / HTTP/1.1\n";
@@ -34,6 +33,16 @@ fn cut_after_each_byte(rt: HostRuntime) -> Result<(), Fail> {
         assert_eq!(rt; in_pieces(alloc, &bytes, 3), Ok(expected(cut)));
     }
     Ok(())
+}
+
+/// The head that begins with this line and has so many fields, with what stands behind these.
+fn fielded(alloc: Global, line: &[u8], fields: usize, end: &[u8]) -> Result<Vec<u8>, Memory> {
+    let mut bytes = line.to_vec(alloc)?;
+    for _ in 0..fields {
+        bytes.extend_from_slice(b"a:\n")?;
+    }
+    bytes.extend_from_slice(end)?;
+    Ok(bytes)
 }
 
 #[test]
