@@ -1,37 +1,51 @@
 // What a crash leaves.
 
-use crate::stand::{Stand, disk_of, print_all};
+use crate::stand::{Ended, disk_of, opened, print_all};
 use sect_base::Memory;
-use sect_journal::{Disk, DiskCall, Journal, MemDisk};
+use sect_journal::{Disk, DiskCall, MemDisk};
 use std::alloc::Global;
 
 /// What is durable, what a read gives, and marks in the place of what was written: 1 and another.
 const PICKS: [u64; 4] = [0, 1, 257, 2];
 
-/// Closes a journal. Prints what each image opens to that a crash leaves after each call from a number on.
+/// Prints what each image opens to that a crash leaves after each call from a number on.
 pub fn print_crashes(
     alloc: Global,
-    stand: Stand,
+    ended: &Ended,
     line: &str,
     into: &mut String,
 ) -> Result<(), Memory> {
-    let Stand {
-        bytes,
-        fail,
-        journal,
-    } = stand;
-    let disk = journal.close();
-    let calls = disk.calls();
-    let first = line.parse::<usize>().unwrap_or(0);
+    let calls = ended.disk.calls();
     write!(into, "{} calls", calls.len())?;
+    let first = line.parse::<usize>().unwrap_or(0);
     for count in first..calls.len() {
-        let mut stopped = disk_of(alloc, &bytes, &fail)?;
-        repeat(alloc, &calls[..count], &mut stopped)?;
-        write!(into, "\n{count}:")?;
-        print_images(alloc, &stopped, into)?;
+        print_crash(alloc, ended, &calls[..count], into)?;
     }
     into.push_str("\nend:")?;
-    print_images(alloc, &disk, into)
+    print_images(alloc, &ended.disk, into)
+}
+
+/// The same of a crash after these calls.
+fn print_crash(
+    alloc: Global,
+    ended: &Ended,
+    calls: &[DiskCall],
+    into: &mut String,
+) -> Result<(), Memory> {
+    write!(into, "\n{}:", calls.len())?;
+    let mut disk = disk_of(alloc, &ended.bytes, &ended.fail)?;
+    print_stopped(alloc, calls, &mut disk, into)
+}
+
+/// The same on a disk that had no calls yet.
+fn print_stopped(
+    alloc: Global,
+    calls: &[DiskCall],
+    disk: &mut MemDisk,
+    into: &mut String,
+) -> Result<(), Memory> {
+    repeat(alloc, calls, disk)?;
+    print_images(alloc, disk, into)
 }
 
 /// Makes these calls again.
@@ -72,12 +86,20 @@ fn zeros(alloc: Global, size: u64) -> Result<Vec<u8>, Memory> {
 /// The rows of each image, a bar behind each.
 fn print_images(alloc: Global, disk: &MemDisk, into: &mut String) -> Result<(), Memory> {
     for pick in PICKS {
-        let image = disk.image(pick)?;
-        match Journal::open(alloc, disk_of(alloc, &image, &[])?) {
-            Ok(mut journal) => print_all(alloc, &mut journal, into)?,
-            Err(_) => into.push_str(" fault")?,
-        }
+        print_image(
+            alloc,
+            MemDisk::new(disk.image(pick)?, Vec::new(alloc)),
+            into,
+        )?;
         into.push_str(" |")?;
     }
     Ok(())
+}
+
+/// The rows of the journal of a disk.
+fn print_image(alloc: Global, disk: MemDisk, into: &mut String) -> Result<(), Memory> {
+    match opened(alloc, disk, false) {
+        Ok(mut journal) => print_all(alloc, &mut journal, into),
+        Err(_) => Ok(into.push_str(" fault")?),
+    }
 }

@@ -14,71 +14,97 @@ mod words;
 use crash::print_crashes;
 use many::many_of;
 use sect_base::Memory;
-use stand::{Stand, open, print_kept};
+use stand::{Ended, Stand, open, print_kept};
 use std::alloc::Global;
 use std::io;
 
 fn main(rt: HostRuntime) -> io::Result<()> {
-    let alloc = rt.alloc();
     let mut stand = None;
-    for line in rt.lines(alloc) {
+    answer(rt, &mut stand)
+}
+
+/// Answers the lines. The journal of the lines before stands in the place.
+fn answer(rt: HostRuntime, place: &mut Option<Stand>) -> io::Result<()> {
+    for line in rt.lines(rt.alloc()) {
         let line = line?;
-        let mut text = String::new(alloc);
-        match told(alloc, line.as_str(), stand, &mut text) {
-            Ok(next) => {
-                println!(rt; "{text}")?;
-                stand = next;
-            }
-            Err(Memory) => {
-                println!(rt; "out of memory")?;
-                stand = None;
-            }
-        }
+        answer_line(rt, line.as_str(), place)?;
     }
     Ok(())
 }
 
-/// Does what a line says, and prints what came of it. Gives the journal, where there still is one.
+/// Prints what comes of a line. The place is empty where the memory doesn't suffice.
+fn answer_line(rt: HostRuntime, line: &str, place: &mut Option<Stand>) -> io::Result<()> {
+    let mut text = String::new(rt.alloc());
+    if told(rt.alloc(), line, place, &mut text).is_ok() {
+        return println!(rt; "{text}");
+    }
+    *place = None;
+    println!(rt; "out of memory")
+}
+
+/// Does what a line says, and prints what came of it. The journal stands in the place behind it, where there still is one.
 fn told(
     alloc: Global,
     line: &str,
-    stand: Option<Stand>,
+    place: &mut Option<Stand>,
     into: &mut String,
-) -> Result<Option<Stand>, Memory> {
+) -> Result<(), Memory> {
     let (word, rest) = line.split_once(' ').unwrap_or((line, ""));
-    match (word, stand) {
-        ("open", _) => open(alloc, rest, false, into),
-        ("start", _) => open(alloc, rest, true, into),
-        ("crash", Some(stand)) => {
-            print_crashes(alloc, stand, rest, into)?;
-            Ok(None)
-        }
-        (_, Some(stand)) => asked(alloc, word, rest, stand, into),
-        (_, None) => {
-            into.push_str(line)?;
-            Ok(None)
-        }
+    match word {
+        "open" => open(alloc, rest, false, place, into),
+        "start" => open(alloc, rest, true, place, into),
+        "bytes" | "calls" | "crash" => match place.take() {
+            Some(stand) => print_end(alloc, word, rest, stand, into),
+            None => Ok(into.push_str(line)?),
+        },
+        _ => match place {
+            Some(stand) => asked(alloc, word, rest, stand, into),
+            None => Ok(into.push_str(line)?),
+        },
     }
 }
 
-/// The same of a journal that goes on.
-fn asked(
+/// Closes a journal, and does what a word says with what it leaves.
+fn print_end(
     alloc: Global,
     word: &str,
     rest: &str,
     stand: Stand,
     into: &mut String,
-) -> Result<Option<Stand>, Memory> {
-    let mut stand = stand;
+) -> Result<(), Memory> {
+    let ended = stand.close();
+    left(alloc, word, rest, &ended, into)
+}
+
+/// Does what a word says with what a closed journal leaves.
+fn left(
+    alloc: Global,
+    word: &str,
+    rest: &str,
+    ended: &Ended,
+    into: &mut String,
+) -> Result<(), Memory> {
     match word {
-        "append" => print_kept(stand.append(alloc, rest)?, into)?,
-        "rows" => stand.print_rows(alloc, into)?,
-        "row" => stand.print_row(alloc, rest, into)?,
-        "fill" => print_kept(stand.fill(alloc, &many_of(rest))?, into)?,
-        "same" => stand.print_same(alloc, &many_of(rest), into)?,
-        "bytes" => return stand.print_bytes(into),
-        "calls" => return stand.print_calls(into),
-        _ => into.push_str("no such word")?,
+        "bytes" => ended.print_bytes(into),
+        "calls" => ended.print_calls(into),
+        _ => print_crashes(alloc, ended, rest, into),
     }
-    Ok(Some(stand))
+}
+
+/// Does what a word says with a journal that goes on.
+fn asked(
+    alloc: Global,
+    word: &str,
+    rest: &str,
+    stand: &mut Stand,
+    into: &mut String,
+) -> Result<(), Memory> {
+    match word {
+        "append" => print_kept(stand.append(alloc, rest)?, into),
+        "rows" => stand.print_rows(alloc, into),
+        "row" => stand.print_row(alloc, rest, into),
+        "fill" => print_kept(stand.fill(alloc, &many_of(rest))?, into),
+        "same" => stand.print_same(alloc, &many_of(rest), into),
+        _ => Ok(into.push_str("no such word")?),
+    }
 }

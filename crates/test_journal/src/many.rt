@@ -23,21 +23,35 @@ pub fn many_of(line: &str) -> Many {
 
 /// The row of a number: its digits, then dots up to the size.
 fn row_of(alloc: Global, at: u64, size: usize) -> Result<Vec<u8>, Memory> {
-    let mut row = Vec::new(alloc);
-    row.extend_from_slice(format!(in alloc; "{at}")?.as_bytes())?;
+    let mut row = format!(in alloc; "{at}")?.into_bytes();
     row.resize(size, b'.')?;
     Ok(row)
+}
+
+/// These rows.
+fn rows_of(alloc: Global, many: &Many) -> Result<Vec<Vec<u8>>, Memory> {
+    let mut rows = Vec::new(alloc);
+    for at in 0..many.count {
+        rows.push(row_of(alloc, at, many.size)?)?;
+    }
+    Ok(rows)
 }
 
 impl Stand {
     /// Appends these rows as a group.
     pub fn fill(&mut self, alloc: Global, many: &Many) -> Result<Result<(), KeepFault>, Memory> {
-        let mut rows = Vec::new(alloc);
-        for at in 0..many.count {
-            rows.push(row_of(alloc, at, many.size)?)?;
-        }
+        let rows = rows_of(alloc, many)?;
+        self.append_group(alloc, &rows)
+    }
+
+    /// Appends rows as a group.
+    fn append_group(
+        &mut self,
+        alloc: Global,
+        rows: &[Vec<u8>],
+    ) -> Result<Result<(), KeepFault>, Memory> {
         let mut slices = Vec::new(alloc);
-        for row in &rows {
+        for row in rows {
             slices.push(row.as_slice())?;
         }
         Ok(self.journal.append_all(&slices))
@@ -53,12 +67,16 @@ impl Stand {
         let mut same = 0_u64;
         let mut row = Vec::new(alloc);
         for at in 0..many.count {
-            let wanted = row_of(alloc, at, many.size)?;
-            if self.journal.row(at, &mut row) == Ok(true) && row == wanted {
+            if self.has(at, &row_of(alloc, at, many.size)?, &mut row) {
                 same = same.saturating_add(1);
             }
         }
         write!(into, "{same} same")?;
         Ok(())
+    }
+
+    /// Whether the row of a number, which is read into a list, is this one.
+    fn has(&mut self, at: u64, wanted: &[u8], row: &mut Vec<u8>) -> bool {
+        self.journal.row(at, row) == Ok(true) && row.as_slice() == wanted
     }
 }

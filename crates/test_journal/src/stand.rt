@@ -14,40 +14,52 @@ pub struct Stand {
     pub journal: Journal<MemDisk>,
 }
 
+/// What a journal leaves that is closed: its disk, and with what that began.
+#[derive(Drop)]
+pub struct Ended {
+    pub bytes: Vec<u8>,
+    pub fail: Vec<u64>,
+    pub disk: MemDisk,
+}
+
 /// A disk in memory.
 pub fn disk_of(alloc: Global, bytes: &[u8], fail: &[u64]) -> Result<MemDisk, Memory> {
     Ok(MemDisk::new(bytes.to_vec(alloc)?, Vec::from_slice(alloc, fail)?))
 }
 
-/// Opens the journal of a line, or makes one first where there are no bytes.
+/// Opens the journal of a line in this place, or makes one first where there are no bytes. The place is empty where it doesn't
+/// open.
 pub fn open(
     alloc: Global,
     line: &str,
     makes: bool,
+    place: &mut Option<Stand>,
     into: &mut String,
-) -> Result<Option<Stand>, Memory> {
+) -> Result<(), Memory> {
+    let begun = stand_of(alloc, line, makes)?;
+    let printed = print_begun(&begun, into);
+    *place = begun.ok();
+    printed
+}
+
+/// The journal of a line.
+fn stand_of(alloc: Global, line: &str, makes: bool) -> Result<Result<Stand, JournalFault>, Memory> {
     let (bytes, fail) = line.split_once(' ').unwrap_or((line, ""));
     let bytes = bytes_of(alloc, bytes)?;
     let fail = numbers_of(alloc, fail)?;
     let disk = disk_of(alloc, &bytes, &fail)?;
-    match opened(alloc, disk, makes) {
-        Ok(journal) => {
-            into.push_str("ok")?;
-            Ok(Some(Stand {
-                bytes,
-                fail,
-                journal,
-            }))
-        }
-        Err(fault) => {
-            print_fault(fault, into)?;
-            Ok(None)
-        }
-    }
+    Ok(match opened(alloc, disk, makes) {
+        Ok(journal) => Ok(Stand {
+            bytes,
+            fail,
+            journal,
+        }),
+        Err(fault) => Err(fault),
+    })
 }
 
 /// Opens a journal, or makes one first.
-fn opened(alloc: Global, disk: MemDisk, makes: bool) -> Result<Journal<MemDisk>, JournalFault> {
+pub fn opened(alloc: Global, disk: MemDisk, makes: bool) -> Result<Journal<MemDisk>, JournalFault> {
     let opened = if makes {
         Journal::start(alloc, disk)
     } else {
@@ -59,11 +71,13 @@ fn opened(alloc: Global, disk: MemDisk, makes: bool) -> Result<Journal<MemDisk>,
     }
 }
 
-fn print_fault(fault: JournalFault, into: &mut String) -> Result<(), Memory> {
-    match fault {
-        JournalFault::Failed => into.push_str("failed")?,
-        JournalFault::BadJournal(place) => write!(into, "bad journal {place}")?,
-        JournalFault::Memory => into.push_str("memory")?,
+/// Prints whether a journal opened, and why it didn't.
+fn print_begun(begun: &Result<Stand, JournalFault>, into: &mut String) -> Result<(), Memory> {
+    match begun {
+        Ok(_) => into.push_str("ok")?,
+        Err(JournalFault::Failed) => into.push_str("failed")?,
+        Err(JournalFault::BadJournal(place)) => write!(into, "bad journal {place}")?,
+        Err(JournalFault::Memory) => into.push_str("memory")?,
     }
     Ok(())
 }
@@ -85,6 +99,20 @@ fn print_text(row: &[u8], into: &mut String) -> Result<(), Memory> {
     Ok(())
 }
 
+/// Prints the row of a number, which is read into a list.
+fn print_read(
+    journal: &mut Journal<MemDisk>,
+    at: u64,
+    row: &mut Vec<u8>,
+    into: &mut String,
+) -> Result<(), Memory> {
+    match journal.row(at, row) {
+        Ok(true) => print_text(row, into),
+        Ok(false) => Ok(into.push_str(" none")?),
+        Err(_) => Ok(into.push_str(" failed")?),
+    }
+}
+
 /// Prints the rows of a journal in order, each behind a space.
 pub fn print_all(
     alloc: Global,
@@ -94,11 +122,7 @@ pub fn print_all(
     let count = journal.len().unwrap_or(0);
     let mut row = Vec::new(alloc);
     for at in 0..count {
-        match journal.row(at, &mut row) {
-            Ok(true) => print_text(&row, into)?,
-            Ok(false) => into.push_str(" none")?,
-            Err(_) => into.push_str(" failed")?,
-        }
+        print_read(journal, at, &mut row, into)?;
     }
     Ok(())
 }
@@ -110,10 +134,15 @@ impl Stand {
         for word in line.split_whitespace() {
             rows.push(word.as_bytes())?;
         }
-        Ok(match rows.as_slice() {
+        Ok(self.append_rows(&rows))
+    }
+
+    /// Appends these rows: one by itself, others as a group.
+    fn append_rows(&mut self, rows: &[&[u8]]) -> Result<(), KeepFault> {
+        match rows {
             [row] => self.journal.append(row),
             rows => self.journal.append_all(rows),
-        })
+        }
     }
 
     /// Prints how many rows there are, and each of them.
@@ -131,28 +160,38 @@ impl Stand {
         into: &mut String,
     ) -> Result<(), Memory> {
         let at = line.parse::<u64>().unwrap_or(u64::MAX);
-        let mut row = Vec::new(alloc);
         write!(into, "{at}:")?;
-        match self.journal.row(at, &mut row) {
-            Ok(true) => print_text(&row, into),
-            Ok(false) => Ok(into.push_str(" none")?),
-            Err(_) => Ok(into.push_str(" failed")?),
-        }
+        let mut row = Vec::new(alloc);
+        print_read(&mut self.journal, at, &mut row, into)
     }
 
-    /// Prints what a read of the disk gives. The journal is closed.
-    pub fn print_bytes(self, into: &mut String) -> Result<Option<Stand>, Memory> {
-        let disk = self.journal.close();
-        for byte in disk.seen() {
+    /// Closes the journal.
+    pub fn close(self) -> Ended {
+        let Stand {
+            bytes,
+            fail,
+            journal,
+        } = self;
+        Ended {
+            bytes,
+            fail,
+            disk: journal.close(),
+        }
+    }
+}
+
+impl Ended {
+    /// Prints what a read of the disk gives.
+    pub fn print_bytes(&self, into: &mut String) -> Result<(), Memory> {
+        for byte in self.disk.seen() {
             write!(into, "{byte} ")?;
         }
-        Ok(None)
+        Ok(())
     }
 
-    /// Prints how many calls the disk had. The journal is closed.
-    pub fn print_calls(self, into: &mut String) -> Result<Option<Stand>, Memory> {
-        let disk = self.journal.close();
-        write!(into, "{} calls", disk.calls().len())?;
-        Ok(None)
+    /// Prints how many calls the disk had.
+    pub fn print_calls(&self, into: &mut String) -> Result<(), Memory> {
+        write!(into, "{} calls", self.disk.calls().len())?;
+        Ok(())
     }
 }
