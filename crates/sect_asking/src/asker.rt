@@ -20,10 +20,16 @@ use std::alloc::Global;
 use std::marker::Model;
 
 /// A desk whose requests come in lines, and the clock that gives the day of those that name none.
-#[derive(Drop)]
 pub struct Asker<O: Object, K: Keeper, C: Clock> {
     desk: Desk<O, K>,
     clock: C,
+}
+
+/// It is written out, so that a caller does not prove again how each part is dropped.
+impl<O: Object + Drop, K: Keeper + Drop, C: Clock + Drop> Drop for Asker<O, K, C> {
+    fn drop(self) {
+        let Asker { desk: _, clock: _ } = self;
+    }
 }
 
 impl<O: Object, K: Keeper, C: Clock> Model for Asker<O, K, C> {

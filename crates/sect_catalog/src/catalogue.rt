@@ -25,7 +25,6 @@ use std::alloc::Global;
 use std::marker::Model;
 
 /// Checked rows, and the sections that are cancelled, each in the order of its coming.
-#[derive(Drop)]
 pub struct Catalogue {
     rows: Vec<OfferingRow>,
     cancelled: Vec<SectionId>,
@@ -37,6 +36,20 @@ pub struct Catalogue {
     courses: Vec<CourseId>,
     /// How many sections there are.
     sections: usize,
+}
+
+/// It is written out, so that a caller does not prove again how each part is dropped.
+impl Drop for Catalogue {
+    fn drop(self) {
+        let Catalogue {
+            rows: _,
+            cancelled: _,
+            marks: _,
+            places: _,
+            courses: _,
+            sections: _,
+        } = self;
+    }
 }
 
 impl Model for Catalogue {

@@ -12,13 +12,19 @@ use sect_table::{Table, Test};
 use std::alloc::Global;
 
 /// Ids of kinds, each with a place: a table for each kind.
-#[derive(Drop)]
 pub struct Index {
     offerings: Table<Place>,
     courses: Table<Place>,
     configs: Table<Place>,
     subparts: Table<Place>,
     sections: Table<Place>,
+}
+
+/// It is written out, so that a caller does not prove again how each part is dropped.
+impl Drop for Index {
+    fn drop(self) {
+        let Index { offerings: _, courses: _, configs: _, subparts: _, sections: _ } = self;
+    }
 }
 
 impl Index {

@@ -16,7 +16,6 @@ use std::marker::Model;
 ///
 /// Once a call has answered a fault, every later one answers it again and does nothing else. Once `end` has answered
 /// `Ok`, every later call answers `Ok` and does nothing else.
-#[derive(Drop)]
 pub struct Import {
     table: Table,
     term: Option<Day>,
@@ -28,6 +27,23 @@ pub struct Import {
     open_row: Option<u64>,
     ended: bool,
     fault: Option<CsvFault>,
+}
+
+/// It is written out, so that a caller does not prove again how each part is dropped.
+impl Drop for Import {
+    fn drop(self) {
+        let Import {
+            table: _,
+            term: _,
+            records: _,
+            unread: _,
+            reading: _,
+            rows: _,
+            open_row: _,
+            ended: _,
+            fault: _,
+        } = self;
+    }
 }
 
 impl Model for Import {

@@ -52,7 +52,6 @@ pub struct Span {
 }
 
 /// Rows on a disk, of which a crash takes none that was acknowledged.
-#[derive(Drop)]
 pub struct Journal<D: Disk> {
     pub(crate) alloc: Global,
     pub(crate) disk: D,
@@ -61,6 +60,13 @@ pub struct Journal<D: Disk> {
     pub(crate) torn: bool,
     pub(crate) window: Window,
     pub(crate) buffer: Vec<u8>,
+}
+
+/// It is written out, so that a caller does not prove again how each part is dropped.
+impl<D: Disk + Drop> Drop for Journal<D> {
+    fn drop(self) {
+        let Journal { alloc: _, disk: _, spans: _, gate: _, torn: _, window: _, buffer: _ } = self;
+    }
 }
 
 impl<D: Disk> Model for Journal<D> {

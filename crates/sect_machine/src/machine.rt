@@ -26,12 +26,18 @@ use std::sync::ledger::{Blank, Ledger};
 /// The world and those who wait, none of whom can be placed, and which of them must be tried again: the others have no
 /// move. No limit is passed, and no student holds what may not be held
 /// together. Contracts see both, with the room of their lists.
-#[derive(Drop)]
 pub struct Machine {
     pub(crate) alloc: Global,
     pub(crate) world: World,
     pub(crate) queue: Queue,
     pub(crate) marks: Marks,
+}
+
+/// It is written out, so that a caller does not prove again how each part is dropped.
+impl Drop for Machine {
+    fn drop(self) {
+        let Machine { alloc: _, world: _, queue: _, marks: _ } = self;
+    }
 }
 
 impl Model for Machine {

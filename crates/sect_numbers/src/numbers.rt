@@ -14,13 +14,19 @@ use sect_model::Enrolment;
 use std::alloc::Global;
 
 /// How many are enrolled at each level, how many of them count towards its limit, and how many are enrolled by each reservation.
-#[derive(Drop)]
 pub struct Numbers {
     pub(crate) courses: Tally,
     pub(crate) offerings: Tally,
     pub(crate) configs: Tally,
     pub(crate) sections: Tally,
     pub(crate) uses: Tally,
+}
+
+/// It is written out, so that a caller does not prove again how each part is dropped.
+impl Drop for Numbers {
+    fn drop(self) {
+        let Numbers { courses: _, offerings: _, configs: _, sections: _, uses: _ } = self;
+    }
 }
 
 impl Numbers {

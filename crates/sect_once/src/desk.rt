@@ -15,13 +15,19 @@ use std::mem::forget;
 use std::snapshot::Snapshot;
 
 /// An object with the log of what it was asked, over a keeper that has the row of each entry.
-#[derive(Drop)]
 pub struct Desk<O: Object, K: Keeper> {
     pub(crate) alloc: Global,
     pub(crate) past: Past<O>,
     pub(crate) marks: Vec<Mark>,
     pub(crate) keeper: K,
     pub(crate) opened: Snapshot<K>,
+}
+
+/// It is written out, so that a caller does not prove again how each part is dropped.
+impl<O: Object + Drop, K: Keeper + Drop> Drop for Desk<O, K> {
+    fn drop(self) {
+        let Desk { alloc: _, past: _, marks: _, keeper: _, opened: _ } = self;
+    }
 }
 
 impl<O: Object, K: Keeper> Model for Desk<O, K> {

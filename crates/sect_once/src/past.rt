@@ -38,13 +38,19 @@ use std::marker::Model;
 
 /// An object that is the replay of its entries. Each entry names its id, and a look-up tests it. The bytes of their rows are
 /// counted, and the last row stands in a buffer for the next.
-#[derive(Drop)]
 pub(crate) struct Past<O: Object> {
     pub(crate) object: O,
     pub(crate) entries: Vec<Entry<O::Command, O::Reply>>,
     pub(crate) places: HashMap<u128, u32>,
     pub(crate) row_bytes: u64,
     pub(crate) row: Vec<u8>,
+}
+
+/// It is written out, so that a caller does not prove again how each part is dropped.
+impl<O: Object + Drop> Drop for Past<O> {
+    fn drop(self) {
+        let Past { object: _, entries: _, places: _, row_bytes: _, row: _ } = self;
+    }
 }
 
 impl<O: Object> Model for Past<O> {

@@ -34,7 +34,6 @@ use std::alloc::Global;
 use std::marker::Model;
 
 /// The students in order of arrival, no two with one id. They are seen as that list.
-#[derive(Drop)]
 pub struct People {
     students: Vec<Student>,
     /// The ids in rising order.
@@ -42,6 +41,13 @@ pub struct People {
     /// The place among the students of each of these ids.
     places: Vec<usize>,
     alloc: Global,
+}
+
+/// It is written out, so that a caller does not prove again how each part is dropped.
+impl Drop for People {
+    fn drop(self) {
+        let People { students: _, ids: _, places: _, alloc: _ } = self;
+    }
 }
 
 impl Model for People {

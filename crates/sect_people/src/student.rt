@@ -8,10 +8,16 @@ use std::alloc::Global;
 use std::marker::Model;
 
 /// A row, and what the student asks for, the first request first.
-#[derive(Drop)]
 pub struct Student {
     row: StudentRow,
     asks: Items<Ask>,
+}
+
+/// It is written out, so that a caller does not prove again how each part is dropped.
+impl Drop for Student {
+    fn drop(self) {
+        let Student { row: _, asks: _ } = self;
+    }
 }
 
 impl Model for Student {

@@ -12,10 +12,16 @@ const MOST_ROWS: i64 = 256;
 const MOST_BYTES: usize = 65_536;
 
 /// The rows of some places, one behind the other.
-#[derive(Drop)]
 pub struct Window {
     place: i64,
     rows: Vec<Vec<u8>>,
+}
+
+/// It is written out, so that a caller does not prove again how each part is dropped.
+impl Drop for Window {
+    fn drop(self) {
+        let Window { place: _, rows: _ } = self;
+    }
 }
 
 impl Window {

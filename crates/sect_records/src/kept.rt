@@ -13,10 +13,16 @@ use std::alloc::Global;
 use std::marker::Model;
 
 /// The last bytes of a text, and how many of their rows were given.
-#[derive(Drop)]
 pub(crate) struct Kept {
     bytes: Vec<u8>,
     given: usize,
+}
+
+/// It is written out, so that a caller does not prove again how each part is dropped.
+impl Drop for Kept {
+    fn drop(self) {
+        let Kept { bytes: _, given: _ } = self;
+    }
 }
 
 impl Model for Kept {

@@ -37,11 +37,17 @@ use std::alloc::Global;
 use std::marker::Model;
 
 /// Rows in order of offering, and for one offering in the order in which they came, no two with one id.
-#[derive(Drop)]
 pub struct Listing<R: Filed> {
     pub(crate) slots: Slots<R>,
     /// The offering of each id, in order of id.
     marks: Vec<Mark>,
+}
+
+/// It is written out, so that a caller does not prove again how each part is dropped.
+impl<R: Filed + Drop> Drop for Listing<R> {
+    fn drop(self) {
+        let Listing { slots: _, marks: _ } = self;
+    }
 }
 
 impl<R: Filed> Model for Listing<R> {

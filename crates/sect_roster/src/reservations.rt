@@ -38,9 +38,15 @@ use std::marker::Model;
 
 /// The reservations in order of offering, and for one offering in the order in which they came, no
 /// two with one id. They are seen as that list, with the room of each offering and of the index of ids.
-#[derive(Drop)]
 pub struct Reservations {
     listing: Listing<Reservation>,
+}
+
+/// It is written out, so that a caller does not prove again how each part is dropped.
+impl Drop for Reservations {
+    fn drop(self) {
+        let Reservations { listing: _ } = self;
+    }
 }
 
 impl Model for Reservations {

@@ -32,9 +32,15 @@ use std::marker::Model;
 
 /// The restrictions in order of offering, and for one offering in the order in which they came, no
 /// two with one id. They are seen as that list, with the room of each offering and of the index of ids.
-#[derive(Drop)]
 pub struct Restrictions {
     listing: Listing<Restriction>,
+}
+
+/// It is written out, so that a caller does not prove again how each part is dropped.
+impl Drop for Restrictions {
+    fn drop(self) {
+        let Restrictions { listing: _ } = self;
+    }
 }
 
 impl Model for Restrictions {

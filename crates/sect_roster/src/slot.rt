@@ -22,10 +22,16 @@ use std::alloc::Global;
 use std::marker::Model;
 
 /// The rows of one number, in the order in which they came.
-#[derive(Drop)]
 pub struct Slot<R: Keyed + Drop> {
     number: u32,
     rows: Vec<R>,
+}
+
+/// It is written out, so that a caller does not prove again how each part is dropped.
+impl<R: Keyed + Drop> Drop for Slot<R> {
+    fn drop(self) {
+        let Slot { number: _, rows: _ } = self;
+    }
 }
 
 impl<R: Keyed + Drop> Model for Slot<R> {

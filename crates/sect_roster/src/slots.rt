@@ -42,9 +42,15 @@ use std::marker::Model;
 
 /// Rows in order of a number, and for one number in the order in which they came. They are seen as that list, with the room
 /// that each number has. No call walks or moves the rows of other numbers, but for `list`.
-#[derive(Drop)]
 pub struct Slots<R: Keyed + Drop> {
     slots: Vec<Slot<R>>,
+}
+
+/// It is written out, so that a caller does not prove again how each part is dropped.
+impl<R: Keyed + Drop> Drop for Slots<R> {
+    fn drop(self) {
+        let Slots { slots: _ } = self;
+    }
 }
 
 impl<R: Keyed + Drop> Model for Slots<R> {

@@ -12,13 +12,19 @@ use std::alloc::Global;
 use std::marker::Model;
 
 /// Rows written one below the other. Contracts see their text.
-#[derive(Drop)]
 pub(crate) struct Sheet {
     alloc: Global,
     writer: Writer<Vec<u8>>,
     // The row at hand, and the field at hand.
     row: ByteRecord,
     field: Vec<u8>,
+}
+
+/// It is written out, so that a caller does not prove again how each part is dropped.
+impl Drop for Sheet {
+    fn drop(self) {
+        let Sheet { alloc: _, writer: _, row: _, field: _ } = self;
+    }
 }
 
 impl Model for Sheet {

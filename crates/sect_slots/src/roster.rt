@@ -34,9 +34,15 @@ use std::marker::Model;
 
 /// The enrolments in order of student, and for one student in the order in which they were made. They are seen as that
 /// list, with the room that each student has. No call walks the enrolments of others, but for `list`.
-#[derive(Drop)]
 pub struct Roster {
     slots: Slots<Enrolment>,
+}
+
+/// It is written out, so that a caller does not prove again how each part is dropped.
+impl Drop for Roster {
+    fn drop(self) {
+        let Roster { slots: _ } = self;
+    }
 }
 
 impl Model for Roster {

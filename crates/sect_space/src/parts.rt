@@ -7,7 +7,6 @@ use sect_slots::Roster;
 use sect_time::Day;
 
 /// The parts of a world.
-#[derive(Drop)]
 pub struct Parts {
     pub catalogue: Catalogue,
     pub people: People,
@@ -15,4 +14,18 @@ pub struct Parts {
     pub restrictions: Restrictions,
     pub roster: Roster,
     pub day: Day,
+}
+
+/// It is written out, so that a caller does not prove again how each part is dropped.
+impl Drop for Parts {
+    fn drop(self) {
+        let Parts {
+            catalogue: _,
+            people: _,
+            reservations: _,
+            restrictions: _,
+            roster: _,
+            day: _,
+        } = self;
+    }
 }

@@ -11,9 +11,15 @@ use std::alloc::Global;
 use std::marker::Model;
 
 /// What is kept of changes so that they can be taken back, the last one first. Contracts see it as that list, with its room.
-#[derive(Drop)]
 pub struct Undo {
     backs: Vec<Back>,
+}
+
+/// It is written out, so that a caller does not prove again how each part is dropped.
+impl Drop for Undo {
+    fn drop(self) {
+        let Undo { backs: _ } = self;
+    }
 }
 
 impl Model for Undo {

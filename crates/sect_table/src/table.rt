@@ -14,11 +14,17 @@ use std::collections::HashMap;
 
 /// Values by numbers. A number has a slot where it is small beside how many there are, so that a table takes no more than a
 /// few slots for each value; the values of the others stand in a map.
-#[derive(Drop)]
 pub struct Table<V> {
     slots: Vec<Option<V>>,
     others: HashMap<u32, V>,
     bound: usize,
+}
+
+/// It is written out, so that a caller does not prove again how each part is dropped.
+impl<V: Drop> Drop for Table<V> {
+    fn drop(self) {
+        let Table { slots: _, others: _, bound: _ } = self;
+    }
 }
 
 impl<V: Copy> Table<V> {

@@ -12,12 +12,18 @@ use std::marker::Model;
 
 /// A configuration as far as its rows were read: the subparts that are complete, and the one to which the next row may
 /// add. Contracts see the row that they make.
-#[derive(Drop)]
 pub struct OpenConfig {
     id: ConfigId,
     limit: Limit,
     subparts: Vec<SubpartRow>,
     last: OpenSubpart,
+}
+
+/// It is written out, so that a caller does not prove again how each part is dropped.
+impl Drop for OpenConfig {
+    fn drop(self) {
+        let OpenConfig { id: _, limit: _, subparts: _, last: _ } = self;
+    }
 }
 
 impl Model for OpenConfig {

@@ -18,7 +18,6 @@ use std::marker::Model;
 
 /// An offering as far as its rows were read: the configurations that are complete, and the one to which the next row may
 /// add.
-#[derive(Drop)]
 pub struct OpenOffering {
     name: Items<u8>,
     before: Before,
@@ -26,6 +25,13 @@ pub struct OpenOffering {
     courses: Items<CourseRow>,
     configs: Vec<ConfigRow>,
     last: OpenConfig,
+}
+
+/// It is written out, so that a caller does not prove again how each part is dropped.
+impl Drop for OpenOffering {
+    fn drop(self) {
+        let OpenOffering { name: _, before: _, id: _, courses: _, configs: _, last: _ } = self;
+    }
 }
 
 impl Model for OpenOffering {

@@ -38,7 +38,6 @@ use std::alloc::Global;
 use std::marker::Model;
 
 /// A table as far as its rows were read.
-#[derive(Drop)]
 pub struct Reading {
     alloc: Global,
     table: Table,
@@ -48,6 +47,22 @@ pub struct Reading {
     at_hand: Option<AtHand>,
     open_row: Option<u64>,
     fault: Option<(u64, u32)>,
+}
+
+/// It is written out, so that a caller does not prove again how each part is dropped.
+impl Drop for Reading {
+    fn drop(self) {
+        let Reading {
+            alloc: _,
+            table: _,
+            term: _,
+            rows: _,
+            header: _,
+            at_hand: _,
+            open_row: _,
+            fault: _,
+        } = self;
+    }
 }
 
 impl Model for Reading {

@@ -17,11 +17,17 @@ use std::alloc::Global;
 use std::marker::Model;
 
 /// A student's requests as far as their rows were read.
-#[derive(Drop)]
 pub struct OpenRequests {
     name: Items<u8>,
     student: StudentId,
     asks: Vec<Ask>,
+}
+
+/// It is written out, so that a caller does not prove again how each part is dropped.
+impl Drop for OpenRequests {
+    fn drop(self) {
+        let OpenRequests { name: _, student: _, asks: _ } = self;
+    }
 }
 
 impl Model for OpenRequests {

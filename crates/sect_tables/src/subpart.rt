@@ -8,10 +8,16 @@ use std::alloc::Global;
 use std::marker::Model;
 
 /// A subpart as far as its rows were read. Contracts see the row that they make.
-#[derive(Drop)]
 pub struct OpenSubpart {
     id: SubpartId,
     sections: Vec<SectionRow>,
+}
+
+/// It is written out, so that a caller does not prove again how each part is dropped.
+impl Drop for OpenSubpart {
+    fn drop(self) {
+        let OpenSubpart { id: _, sections: _ } = self;
+    }
 }
 
 impl Model for OpenSubpart {

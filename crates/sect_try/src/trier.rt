@@ -26,12 +26,18 @@ use std::marker::Model;
 
 /// A desk, an object in the desk's state on which requests act to be taken back, and the clock that gives the day of
 /// those that name none.
-#[derive(Drop)]
 pub struct Trier<O: Object, K: Keeper, C: Clock> {
     alloc: Global,
     desk: Desk<O, K>,
     object: O,
     clock: C,
+}
+
+/// It is written out, so that a caller does not prove again how each part is dropped.
+impl<O: Object + Drop, K: Keeper + Drop, C: Clock + Drop> Drop for Trier<O, K, C> {
+    fn drop(self) {
+        let Trier { alloc: _, desk: _, object: _, clock: _ } = self;
+    }
 }
 
 impl<O: Object, K: Keeper, C: Clock> Model for Trier<O, K, C> {

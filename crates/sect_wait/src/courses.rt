@@ -11,10 +11,16 @@ use std::collections::BTreeSet;
 use std::marker::Model;
 
 /// Courses in the order in which they came. Contracts see the list.
-#[derive(Drop)]
 pub(crate) struct Courses {
     list: Vec<CourseId>,
     set: BTreeSet<u32>,
+}
+
+/// It is written out, so that a caller does not prove again how each part is dropped.
+impl Drop for Courses {
+    fn drop(self) {
+        let Courses { list: _, set: _ } = self;
+    }
 }
 
 impl Model for Courses {

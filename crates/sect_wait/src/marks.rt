@@ -21,7 +21,6 @@ pub struct Turn {
 /// The entries that must be tried: by their tickets, which are found by a set, by a course that they want, or all of them.
 /// Those that aren't marked by their tickets need not be tried before a turn. The tickets of entries whose searches were
 /// spent are noted beside: these need no other search until a change touches them.
-#[derive(Drop)]
 pub struct Marks {
     all: bool,
     tickets: Vec<u64>,
@@ -30,6 +29,13 @@ pub struct Marks {
     givers: Courses,
     from: Option<Turn>,
     spent: Vec<u64>,
+}
+
+/// It is written out, so that a caller does not prove again how each part is dropped.
+impl Drop for Marks {
+    fn drop(self) {
+        let Marks { all: _, tickets: _, set: _, courses: _, givers: _, from: _, spent: _ } = self;
+    }
 }
 
 impl Model for Marks {

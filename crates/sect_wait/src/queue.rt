@@ -40,11 +40,17 @@ use std::marker::Model;
 
 /// Who waits, in order of ticket, and the next ticket, at first 1. Contracts see both, with the room of the list. An index
 /// tells the tickets of a student and of those who want a course.
-#[derive(Drop)]
 pub struct Queue {
     entries: Vec<Waiting>,
     next: u64,
     index: Index,
+}
+
+/// It is written out, so that a caller does not prove again how each part is dropped.
+impl Drop for Queue {
+    fn drop(self) {
+        let Queue { entries: _, next: _, index: _ } = self;
+    }
 }
 
 impl Model for Queue {

@@ -7,9 +7,15 @@ use std::alloc::Global;
 use std::marker::Model;
 
 /// What was kept of the changes of a queue, the first one first. Contracts see that list.
-#[derive(Drop)]
 pub struct QueueUndo {
     pub(crate) backs: Vec<QueueBack>,
+}
+
+/// It is written out, so that a caller does not prove again how each part is dropped.
+impl Drop for QueueUndo {
+    fn drop(self) {
+        let QueueUndo { backs: _ } = self;
+    }
 }
 
 impl Model for QueueUndo {

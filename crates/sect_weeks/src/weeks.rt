@@ -21,10 +21,16 @@ struct Row {
 
 /// The calendars and credits of students. The rows stand in the order of their coming; each names its student, and a look-up tests it,
 /// so that nothing need be kept of the table.
-#[derive(Drop)]
 pub struct Weeks {
     places: Table<usize>,
     rows: Vec<Row>,
+}
+
+/// It is written out, so that a caller does not prove again how each part is dropped.
+impl Drop for Weeks {
+    fn drop(self) {
+        let Weeks { places: _, rows: _ } = self;
+    }
 }
 
 impl Weeks {
