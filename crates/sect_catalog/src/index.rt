@@ -23,7 +23,13 @@ pub struct Index {
 /// It is written out, so that a caller does not prove again how each part is dropped.
 impl Drop for Index {
     fn drop(self) {
-        let Index { offerings: _, courses: _, configs: _, subparts: _, sections: _ } = self;
+        let Index {
+            offerings: _,
+            courses: _,
+            configs: _,
+            subparts: _,
+            sections: _,
+        } = self;
     }
 }
 

@@ -35,7 +35,13 @@ pub struct Bench {
 /// It is written out, so that a caller does not prove again how each part is dropped.
 impl Drop for Bench {
     fn drop(self) {
-        let Bench { alloc: _, routes: _, room: _, text: _, out: _ } = self;
+        let Bench {
+            alloc: _,
+            routes: _,
+            room: _,
+            text: _,
+            out: _,
+        } = self;
     }
 }
 

@@ -65,7 +65,15 @@ pub struct Journal<D: Disk> {
 /// It is written out, so that a caller does not prove again how each part is dropped.
 impl<D: Disk + Drop> Drop for Journal<D> {
     fn drop(self) {
-        let Journal { alloc: _, disk: _, spans: _, gate: _, torn: _, window: _, buffer: _ } = self;
+        let Journal {
+            alloc: _,
+            disk: _,
+            spans: _,
+            gate: _,
+            torn: _,
+            window: _,
+            buffer: _,
+        } = self;
     }
 }
 

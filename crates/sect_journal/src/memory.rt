@@ -67,7 +67,14 @@ pub struct MemDisk {
 /// It is written out, so that a caller does not prove again how each part is dropped.
 impl Drop for MemDisk {
     fn drop(self) {
-        let MemDisk { first: _, steps: _, calls: _, durable: _, seen: _, pending: _ } = self;
+        let MemDisk {
+            first: _,
+            steps: _,
+            calls: _,
+            durable: _,
+            seen: _,
+            pending: _,
+        } = self;
     }
 }
 

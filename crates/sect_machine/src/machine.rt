@@ -36,7 +36,12 @@ pub struct Machine {
 /// It is written out, so that a caller does not prove again how each part is dropped.
 impl Drop for Machine {
     fn drop(self) {
-        let Machine { alloc: _, world: _, queue: _, marks: _ } = self;
+        let Machine {
+            alloc: _,
+            world: _,
+            queue: _,
+            marks: _,
+        } = self;
     }
 }
 

@@ -41,7 +41,12 @@ pub(crate) struct Maker {
 /// It is written out, so that a caller does not prove again how each part is dropped.
 impl Drop for Maker {
     fn drop(self) {
-        let Maker { machine: _, met: _, blocked: _, spent: _ } = self;
+        let Maker {
+            machine: _,
+            met: _,
+            blocked: _,
+            spent: _,
+        } = self;
     }
 }
 
@@ -134,12 +139,7 @@ fn made(alloc: Global, offerings: u32, day: Day) -> Result<Maker, Memory>
 }
 
 /// Asks the commands of all kinds, one kind behind another.
-fn ask_generated(
-    alloc: Global,
-    maker: &mut Maker,
-    day: Day,
-    offerings: u32,
-) -> Result<(), Memory>
+fn ask_generated(alloc: Global, maker: &mut Maker, day: Day, offerings: u32) -> Result<(), Memory>
     requires first { 1 ≤ offerings }
     requires bound { offerings ≤ 100 }
     ensures { OnOk result (tally_in maker.new ≡ tally_from day (tally_in maker.old) (generated offerings)) }

@@ -25,7 +25,13 @@ pub struct Numbers {
 /// It is written out, so that a caller does not prove again how each part is dropped.
 impl Drop for Numbers {
     fn drop(self) {
-        let Numbers { courses: _, offerings: _, configs: _, sections: _, uses: _ } = self;
+        let Numbers {
+            courses: _,
+            offerings: _,
+            configs: _,
+            sections: _,
+            uses: _,
+        } = self;
     }
 }
 

@@ -26,7 +26,13 @@ pub struct Desk<O: Object, K: Keeper> {
 /// It is written out, so that a caller does not prove again how each part is dropped.
 impl<O: Object + Drop, K: Keeper + Drop> Drop for Desk<O, K> {
     fn drop(self) {
-        let Desk { alloc: _, past: _, marks: _, keeper: _, opened: _ } = self;
+        let Desk {
+            alloc: _,
+            past: _,
+            marks: _,
+            keeper: _,
+            opened: _,
+        } = self;
     }
 }
 

@@ -49,7 +49,13 @@ pub(crate) struct Past<O: Object> {
 /// It is written out, so that a caller does not prove again how each part is dropped.
 impl<O: Object + Drop> Drop for Past<O> {
     fn drop(self) {
-        let Past { object: _, entries: _, places: _, row_bytes: _, row: _ } = self;
+        let Past {
+            object: _,
+            entries: _,
+            places: _,
+            row_bytes: _,
+            row: _,
+        } = self;
     }
 }
 

@@ -46,7 +46,12 @@ pub struct People {
 /// It is written out, so that a caller does not prove again how each part is dropped.
 impl Drop for People {
     fn drop(self) {
-        let People { students: _, ids: _, places: _, alloc: _ } = self;
+        let People {
+            students: _,
+            ids: _,
+            places: _,
+            alloc: _,
+        } = self;
     }
 }
 

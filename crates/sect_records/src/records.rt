@@ -23,7 +23,12 @@ pub struct Records {
 /// It is written out, so that a caller does not prove again how each part is dropped.
 impl Drop for Records {
     fn drop(self) {
-        let Records { alloc: _, kept: _, spare: _, past: _ } = self;
+        let Records {
+            alloc: _,
+            kept: _,
+            spare: _,
+            past: _,
+        } = self;
     }
 }
 

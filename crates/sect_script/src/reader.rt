@@ -92,7 +92,11 @@ pub struct LineReader {
 /// It is written out, so that a caller does not prove again how each part is dropped.
 impl Drop for LineReader {
     fn drop(self) {
-        let LineReader { piece: _, start: _, end: _ } = self;
+        let LineReader {
+            piece: _,
+            start: _,
+            end: _,
+        } = self;
     }
 }
 

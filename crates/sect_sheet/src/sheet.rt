@@ -23,7 +23,12 @@ pub(crate) struct Sheet {
 /// It is written out, so that a caller does not prove again how each part is dropped.
 impl Drop for Sheet {
     fn drop(self) {
-        let Sheet { alloc: _, writer: _, row: _, field: _ } = self;
+        let Sheet {
+            alloc: _,
+            writer: _,
+            row: _,
+            field: _,
+        } = self;
     }
 }
 

@@ -36,7 +36,11 @@ pub struct World {
 /// It is written out, so that a caller does not prove again how each part is dropped.
 impl Drop for World {
     fn drop(self) {
-        let World { parts: _, numbers: _, weeks: _ } = self;
+        let World {
+            parts: _,
+            numbers: _,
+            weeks: _,
+        } = self;
     }
 }
 

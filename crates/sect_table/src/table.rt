@@ -23,7 +23,11 @@ pub struct Table<V> {
 /// It is written out, so that a caller does not prove again how each part is dropped.
 impl<V: Drop> Drop for Table<V> {
     fn drop(self) {
-        let Table { slots: _, others: _, bound: _ } = self;
+        let Table {
+            slots: _,
+            others: _,
+            bound: _,
+        } = self;
     }
 }
 

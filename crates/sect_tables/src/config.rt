@@ -22,7 +22,12 @@ pub struct OpenConfig {
 /// It is written out, so that a caller does not prove again how each part is dropped.
 impl Drop for OpenConfig {
     fn drop(self) {
-        let OpenConfig { id: _, limit: _, subparts: _, last: _ } = self;
+        let OpenConfig {
+            id: _,
+            limit: _,
+            subparts: _,
+            last: _,
+        } = self;
     }
 }
 

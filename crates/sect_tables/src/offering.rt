@@ -30,7 +30,14 @@ pub struct OpenOffering {
 /// It is written out, so that a caller does not prove again how each part is dropped.
 impl Drop for OpenOffering {
     fn drop(self) {
-        let OpenOffering { name: _, before: _, id: _, courses: _, configs: _, last: _ } = self;
+        let OpenOffering {
+            name: _,
+            before: _,
+            id: _,
+            courses: _,
+            configs: _,
+            last: _,
+        } = self;
     }
 }
 

@@ -26,7 +26,11 @@ pub struct OpenRequests {
 /// It is written out, so that a caller does not prove again how each part is dropped.
 impl Drop for OpenRequests {
     fn drop(self) {
-        let OpenRequests { name: _, student: _, asks: _ } = self;
+        let OpenRequests {
+            name: _,
+            student: _,
+            asks: _,
+        } = self;
     }
 }
 

@@ -20,7 +20,11 @@ pub struct Room {
 /// It is written out, so that a caller does not prove again how each part is dropped.
 impl Drop for Room {
     fn drop(self) {
-        let Room { bytes: _, start: _, end: _ } = self;
+        let Room {
+            bytes: _,
+            start: _,
+            end: _,
+        } = self;
     }
 }
 

@@ -36,7 +36,12 @@ pub struct Trier<O: Object, K: Keeper, C: Clock> {
 /// It is written out, so that a caller does not prove again how each part is dropped.
 impl<O: Object + Drop, K: Keeper + Drop, C: Clock + Drop> Drop for Trier<O, K, C> {
     fn drop(self) {
-        let Trier { alloc: _, desk: _, object: _, clock: _ } = self;
+        let Trier {
+            alloc: _,
+            desk: _,
+            object: _,
+            clock: _,
+        } = self;
     }
 }
 

@@ -21,7 +21,12 @@ pub(crate) struct Index {
 /// It is written out, so that a caller does not prove again how each part is dropped.
 impl Drop for Index {
     fn drop(self) {
-        let Index { whole: _, students: _, courses: _, alloc: _ } = self;
+        let Index {
+            whole: _,
+            students: _,
+            courses: _,
+            alloc: _,
+        } = self;
     }
 }
 

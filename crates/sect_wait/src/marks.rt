@@ -34,7 +34,15 @@ pub struct Marks {
 /// It is written out, so that a caller does not prove again how each part is dropped.
 impl Drop for Marks {
     fn drop(self) {
-        let Marks { all: _, tickets: _, set: _, courses: _, givers: _, from: _, spent: _ } = self;
+        let Marks {
+            all: _,
+            tickets: _,
+            set: _,
+            courses: _,
+            givers: _,
+            from: _,
+            spent: _,
+        } = self;
     }
 }
 

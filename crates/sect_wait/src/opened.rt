@@ -31,7 +31,12 @@ pub struct Opened {
 /// It is written out, so that a caller does not prove again how each part is dropped.
 impl Drop for Opened {
     fn drop(self) {
-        let Opened { courses: _, full: _, reserved: _, used_up: _ } = self;
+        let Opened {
+            courses: _,
+            full: _,
+            reserved: _,
+            used_up: _,
+        } = self;
     }
 }
 

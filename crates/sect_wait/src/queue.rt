@@ -49,7 +49,11 @@ pub struct Queue {
 /// It is written out, so that a caller does not prove again how each part is dropped.
 impl Drop for Queue {
     fn drop(self) {
-        let Queue { entries: _, next: _, index: _ } = self;
+        let Queue {
+            entries: _,
+            next: _,
+            index: _,
+        } = self;
     }
 }
 
