@@ -31,23 +31,12 @@ use sect_words::print_number;
 use std::alloc::Global;
 
 /// A machine, and how many lines of its batches were met, blocked and spent.
+#[derive(Drop)]
 pub(crate) struct Maker {
     machine: Machine,
     met: usize,
     blocked: usize,
     spent: usize,
-}
-
-/// It is written out, so that a caller does not prove again how each part is dropped.
-impl Drop for Maker {
-    fn drop(self) {
-        let Maker {
-            machine: _,
-            met: _,
-            blocked: _,
-            spent: _,
-        } = self;
-    }
 }
 
 /// The kinds of the generated commands, in their order.
