@@ -24,23 +24,19 @@ tally-more day t make n now new command before is asks =
     ∙ sym (tally-join day t (made_of make n) (make n ∷ []))
     ∙ ap (λ (cs : List Command). tally_from day t cs) (sym (made-more make n))
 
--- four lists of commands, one behind another
-pub all-made : (day : ℕ) (t u v w x : Tally) (xs bs cs ds : List Command) → u ≡ tally_from day t xs → v ≡ tally_from day u bs
-    → w ≡ tally_from day v cs → x ≡ tally_from day w ds → x ≡ tally_from day t (xs ++ (bs ++ (cs ++ ds)))
-all-made day t u v w x xs bs cs ds first second third fourth =
-    fourth
-    ∙ ap (λ (y : Tally). tally_from day y ds) third
-    ∙ sym (tally-join day v cs ds)
-    ∙ ap (λ (y : Tally). tally_from day y (cs ++ ds)) second
-    ∙ sym (tally-join day u bs (cs ++ ds))
-    ∙ ap (λ (y : Tally). tally_from day y (bs ++ (cs ++ ds))) first
-    ∙ sym (tally-join day t xs (bs ++ (cs ++ ds)))
-
--- no line was counted on the way to the state
-abbrev pub nothing_counted : State → Tally
+abbrev nothing_counted : State → Tally
 nothing_counted s = record { state = s; met = 0; blocked = 0; spent = 0 }
 
--- from a state that is the empty one
-pub from-empty : (day : ℕ) (s : State) (t : Tally) (xs : List Command) → s ≡ empty_state → t ≡ tally_from day (nothing_counted s) xs
-    → t ≡ tally_from day empty_tally xs
-from-empty day s t xs start is = is ∙ ap (λ (z : State). tally_from day (nothing_counted z) xs) start
+-- four lists of commands, one behind another
+pub all-made : (day : ℕ) (s : State) (t u v w : Tally) (xs bs cs ds : List Command) → s ≡ empty_state
+    → t ≡ tally_from day (record { state = s; met = 0; blocked = 0; spent = 0 }) xs → u ≡ tally_from day t bs → v ≡ tally_from day u cs
+    → w ≡ tally_from day v ds → w ≡ tally_from day empty_tally (xs ++ (bs ++ (cs ++ ds)))
+all-made day s t u v w xs bs cs ds start first second third fourth =
+    let first' : t ≡ tally_from day empty_tally xs = first ∙ ap (λ (z : State). tally_from day (nothing_counted z) xs) start in
+    fourth
+    ∙ ap (λ (x : Tally). tally_from day x ds) third
+    ∙ sym (tally-join day u cs ds)
+    ∙ ap (λ (x : Tally). tally_from day x (cs ++ ds)) second
+    ∙ sym (tally-join day t bs (cs ++ ds))
+    ∙ ap (λ (x : Tally). tally_from day x (bs ++ (cs ++ ds))) first'
+    ∙ sym (tally-join day empty_tally xs (bs ++ (cs ++ ds)))

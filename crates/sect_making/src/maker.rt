@@ -3,7 +3,7 @@ ghost use Rattle.std.specs.Prelude.{◌≡◌, ◌≢◌, ◌+◌, ◌<◌, ◌�
 ghost use Rattle.sect_edge.specs.Causes.{Rose};
 ghost use Rattle.sect_machine.specs.Standing.{state_in};
 ghost use Rattle.sect_script.specs.declared.status.Status.{Status};
-ghost use Rattle.sect_making.specs.Generated.{generated, made_of};
+ghost use Rattle.sect_making.specs.Generated.{made_of};
 ghost use Rattle.sect_making.specs.Made.{
   Makes,
   Prints,
@@ -121,22 +121,11 @@ fn made(alloc: Global, offerings: u32, day: Day) -> Result<Maker, Memory>
         blocked: 0,
         spent: 0,
     };
-    match ask_generated(alloc, &mut maker, day, offerings) {
-        Ok(()) => Ok(maker),
-        Err(Memory) => Err(Memory),
-    }
-}
-
-/// Asks the commands of all kinds, one kind behind another.
-fn ask_generated(alloc: Global, maker: &mut Maker, day: Day, offerings: u32) -> Result<(), Memory>
-    requires first { 1 ≤ offerings }
-    requires bound { offerings ≤ 100 }
-    ensures { OnOk result (tally_in maker.new ≡ tally_from day (tally_in maker.old) (generated offerings)) }
-{
-    ask_all(alloc, maker, day, Stage::Offerings, offerings)?;
-    ask_all(alloc, maker, day, Stage::Students, offerings)?;
-    ask_all(alloc, maker, day, Stage::Requests, offerings)?;
-    ask_all(alloc, maker, day, Stage::Batches, offerings)
+    ask_all(alloc, &mut maker, day, Stage::Offerings, offerings)?;
+    ask_all(alloc, &mut maker, day, Stage::Students, offerings)?;
+    ask_all(alloc, &mut maker, day, Stage::Requests, offerings)?;
+    ask_all(alloc, &mut maker, day, Stage::Batches, offerings)?;
+    Ok(maker)
 }
 
 /// Asks all commands of a kind.

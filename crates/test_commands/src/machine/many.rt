@@ -26,7 +26,8 @@ pub fn act_each(
 fn amended_among(alloc: Global, machine: &mut Machine, lines: &[u8]) -> Result<u64, Memory> {
     let mut amended = 0u64;
     for line in str::from_utf8(lines).unwrap_or("").lines() {
-        if let Some(Reply::Amended) = reply_to(alloc, machine, line.as_bytes())? {
+        let reply = reply_to(alloc, machine, line.as_bytes())?;
+        if matches!(&reply, Some(Reply::Amended)) {
             amended = amended.saturating_add(1);
         }
     }

@@ -1,9 +1,16 @@
 use Rattle.sect_machine.specs.Standing.{state_in}
-use Rattle.sect_making.specs.Generated.{generated}
-use Rattle.sect_making.specs.Stages.{tally_in}
-use Rattle.sect_making.proofs.Making.{from-empty}
+use Rattle.sect_making.specs.declared.maker.Stage.TheVariants as stages
+use Rattle.sect_making.specs.Generated.{made_of}
+use Rattle.sect_making.specs.Stages.{stage_command, stage_count, tally_in}
+use Rattle.sect_making.proofs.Making.{all-made}
 use Rattle.sect_making.proofs.maker.made.Goals as goal
 
-pub returns-in-Ok : goal.returns-in-Ok
-returns-in-Ok c =
-    from-empty c.args.day (state_in c.empty.result) (tally_in c.ask_generated.new.maker) (generated c.args.offerings) c.empty.ensures c.in-Ok.ensures
+pub returns : goal.returns
+returns c =
+    all-made c.args.day (state_in c.empty.result) (tally_in c.ask_all.new.maker) (tally_in c.ask_all-2.new.maker) (tally_in c.ask_all-3.new.maker)
+    (tally_in c.ask_all-4.new.maker)
+    (made_of (stage_command stages.Offerings c.args.offerings) (stage_count stages.Offerings c.args.offerings))
+    (made_of (stage_command stages.Students c.args.offerings) (stage_count stages.Students c.args.offerings))
+    (made_of (stage_command stages.Requests c.args.offerings) (stage_count stages.Requests c.args.offerings))
+    (made_of (stage_command stages.Batches c.args.offerings) (stage_count stages.Batches c.args.offerings))
+    c.empty.ensures c.in_ok-ask_all.ensures c.in_ok-ask_all-2.ensures c.in_ok-ask_all-3.ensures c.in_ok-ask_all-4.ensures
