@@ -88,31 +88,35 @@ def wanted(lines, budget):
     return reports.plan(machine_of(lines), 11, budget)
 
 
-def planned(desk, lines, budget):
-    """What the program prints on a journal of these requests."""
+def printed(desk, lines, words):
+    """What the program prints for the words on a journal of these requests."""
     with tempfile.TemporaryDirectory() as folder:
         journal = os.path.join(folder, "journal")
         script = "".join(f"@2025-09-01 {line}\n" for line in lines)
         subprocess.run([desk, "run", "--journal", journal], input=script, capture_output=True, text=True, check=True)
-        words = [desk, "plan", "11", "--budget", str(budget), "--journal", journal]
-        return subprocess.run(words, capture_output=True, text=True, check=True).stdout
+        return subprocess.run([desk, *words, "--journal", journal], capture_output=True, text=True, check=True).stdout
 
 
-def main():
+def given_words():
+    """The program, and the first and the last seed; the second computation's modules can be imported behind it."""
     parser = argparse.ArgumentParser()
     parser.add_argument("--oracle", required=True)
     parser.add_argument("--desk", required=True)
     parser.add_argument("--seeds", default="1..500")
     given = parser.parse_args()
     sys.path.insert(0, given.oracle)
-    low, high = map(int, given.seeds.split(".."))
+    return given.desk, *map(int, given.seeds.split(".."))
+
+
+def main():
+    desk, low, high = given_words()
     kinds, wrong = {"met": 0, "unmet": 0, "spent": 0, "none": 0}, 0
     for seed in range(low, high + 1):
         lines, budget = commands(seed)
         plan = wanted(lines, budget)
         for line in plan.splitlines():
             kinds[line.split(" ")[2] if " " in line else line] += 1
-        if planned(given.desk, lines, budget) != plan:
+        if printed(desk, lines, ["plan", "11", "--budget", str(budget)]) != plan:
             print(f"seed {seed} differs")
             wrong += 1
     print(f"{high + 1 - low} students, " + ", ".join(f"{kind} {n}" for kind, n in kinds.items()) + f", {wrong} differ")

@@ -8,14 +8,10 @@ Each seed makes a term of few offerings at few times, some of which have so many
 students who hold some of the places and have up to 8 course requests each. The last line tells how many terms were
 compared, how many lines of each kind there were, and how many terms differed; the status is 1 where one did.
 """
-import argparse
-import os
 import random
-import subprocess
 import sys
-import tempfile
 
-from plans import machine_of, offering, requests, reservation
+from plans import given_words, machine_of, offering, printed, requests, reservation
 
 
 def crowded(number):
@@ -51,24 +47,8 @@ def wanted(lines):
     return reports.print_survey(machine_of(lines))
 
 
-def surveyed(desk, lines):
-    """What the program prints on a journal of these requests."""
-    with tempfile.TemporaryDirectory() as folder:
-        journal = os.path.join(folder, "journal")
-        script = "".join(f"@2025-09-01 {line}\n" for line in lines)
-        subprocess.run([desk, "run", "--journal", journal], input=script, capture_output=True, text=True, check=True)
-        words = [desk, "survey", "--journal", journal]
-        return subprocess.run(words, capture_output=True, text=True, check=True).stdout
-
-
 def main():
-    parser = argparse.ArgumentParser()
-    parser.add_argument("--oracle", required=True)
-    parser.add_argument("--desk", required=True)
-    parser.add_argument("--seeds", default="1..500")
-    given = parser.parse_args()
-    sys.path.insert(0, given.oracle)
-    low, high = map(int, given.seeds.split(".."))
+    desk, low, high = given_words()
     kinds, wrong = {"open": 0, "blocked": 0, "spent": 0, "leaves": 0, "wanted": 0, "none": 0}, 0
     for seed in range(low, high + 1):
         lines = commands(seed)
@@ -76,7 +56,7 @@ def main():
         for line in survey.splitlines():
             words = line.split(" ")
             kinds[words[{"student": 4, "rule": 2, "section": 2, "none": 0}[words[0]]]] += 1
-        if surveyed(given.desk, lines) != survey:
+        if printed(desk, lines, ["survey"]) != survey:
             print(f"seed {seed} differs")
             wrong += 1
     print(f"{high + 1 - low} terms, " + ", ".join(f"{kind} {n}" for kind, n in kinds.items()) + f", {wrong} differ")
