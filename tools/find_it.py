@@ -231,7 +231,7 @@ GROUPS = [
          None),
         ('A head of 16,384 bytes and 64 fields, a body of 65,536 bytes', OVER_HTTP, ['sect_talk/specs/Asked.antt: HEAD_LIMIT',
          'sect_head/specs/Framing.antt: framing_of'], ['sect_talk/src/head.rt: await_head', 'sect_head/src/body.rt: framing'],
-         'test_talk/src/tests/limits.rt: a_head_of_16384_bytes'),
+         ROWS + '# The largest heads and bodies, and larger ones.'),
         ('1,000,000 requests of a connection', OVER_HTTP, ['sect_talk/specs/Asked.antt: LAST_REQUEST',
          'sect_talk/specs/Asked.antt: closes'], ['sect_http/src/turn.rt: closes'], None),
     ]),
