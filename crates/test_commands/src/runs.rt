@@ -93,7 +93,7 @@ struct Around {
 }
 
 /// What stands around a run in this setting that reads these bytes.
-fn around(alloc: Global, setting: &Setting<'_>, input: Vec<u8>) -> Result<Around, Memory>
+fn set_up(alloc: Global, setting: &Setting<'_>, input: Vec<u8>) -> Result<Around, Memory>
     ensures { IfOk result (λ around. length around.clocks.items ≡ 2) }
 {
     let failing_reads = number_alone(alloc, setting.failing_read)?;
@@ -155,7 +155,7 @@ pub fn run_on_links<
         mut source,
         mut sink,
         clocks,
-    } = around(rt.alloc(), setting, input)?;
+    } = set_up(rt.alloc(), setting, input)?;
     let (status, keeper, links) = desk(
         rt,
         &words,
