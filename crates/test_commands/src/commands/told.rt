@@ -29,19 +29,20 @@ pub fn told_counted(
     rows: usize,
 ) -> Result<Vec<u8>, Memory> {
     let (count, last) = lines_of(str::from_utf8(written).unwrap_or("no text"));
-    let text = format!(in alloc;
-        "% {words}\nlines {count}, last {last}\nstatus {status:?}\nrows {rows}\n"
-    )?;
-    Ok(text.into_bytes())
+    let mut text = format!(in alloc; "% {words}\nlines {count}, last ")?.into_bytes();
+    text.extend_from_slice(last)?;
+    let end = format!(in alloc; "\nstatus {status:?}\nrows {rows}\n")?;
+    print_text(end.as_str(), &mut text)?;
+    Ok(text)
 }
 
-/// How many lines a text has, and the last of them.
-fn lines_of(text: &str) -> (u64, &str) {
+/// How many lines a text has, and the bytes of the last of them.
+fn lines_of(text: &str) -> (u64, &[u8]) {
     let mut count = 0u64;
-    let mut last = "";
+    let mut last: &[u8] = b"";
     for line in text.lines() {
         count = count.saturating_add(1);
-        last = line;
+        last = line.as_bytes();
     }
     (count, last)
 }
