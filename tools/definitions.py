@@ -5,15 +5,16 @@ python3 tools/definitions.py            writes the documents
 python3 tools/definitions.py --missing  lists the definitions without a sentence
 python3 tools/definitions.py --check    compares the documents with what would be written; the status is 1 where they differ
 
-Where a name of tools/find_it.py stands nowhere, or a piece of code in docs/CALLING.md not in the file that it names, it is
-told, the status is 1 and nothing is written.
+Where a definition stands before one that it uses, a name of tools/find_it.py stands nowhere or is a definition that
+docs/DEFINITIONS.md leaves out, or a piece of code in docs/CALLING.md isn't in the file that it names, it is told, the status is
+1 and nothing is written.
 """
 import os
 import re
 import sys
 
 from find_it import GROUPS, INTRODUCTION as FIND_INTRODUCTION
-from reading_order import CHAPTERS, INDEX, INSIDE, INTRODUCTION, SENTENCES
+from reading_order import CHAPTERS, INDEX, INSIDE, INTRODUCTION, READERS, SENTENCES
 
 ROOT = os.path.join(os.path.dirname(os.path.abspath(__file__)), '..')
 CRATES = os.path.join(ROOT, 'crates')
@@ -99,6 +100,17 @@ def outside_the_order():
                 yield path
 
 
+def used_before():
+    """Files of definitions that a file of the document uses, and that stand behind it there or nowhere."""
+    told_so_far = set(READERS)
+    for path in (path for _, _, files in CHAPTERS for path in files):
+        told_so_far.add(path)
+        for crate, name in re.findall(r'^use Rattle\.(sect_\w+)\.specs\.([A-Z]\w*)(?:\.\{| as )', read('crates', path), re.M):
+            used = f'{crate}/specs/{name}.antt'
+            if used not in told_so_far and os.path.isfile(os.path.join(CRATES, used)) and definitions(used):
+                yield path, used
+
+
 def stands(path, names):
     """Whether the file is there, and has what the pattern says."""
     return os.path.isfile(os.path.join(CRATES, path)) and re.search(names, read('crates', path), re.M)
@@ -107,10 +119,13 @@ def stands(path, names):
 def lost():
     """What the rows of find_it.py name and what stands nowhere."""
     headings = re.findall(r'^##+ (.*)$', read('docs', 'MANUAL.md'), re.M)
+    listed = {path for _, _, files in CHAPTERS for path in files}
     for _, rows in GROUPS:
         for what, heading, means, does, test in rows:
             if heading not in headings:
                 yield what, f'docs/MANUAL.md: {heading}'
+            for path in {name.split(': ')[0] for name in means} - listed:
+                yield what, f'{path}: in docs/DEFINITIONS.md'
             tests = [test] if test else []
             for names, pattern in ((means, DEFINED), (does, r'\bfn {}\b'), (tests, '{}')):
                 for name in names:
@@ -158,13 +173,16 @@ def main():
         return 0
     for path in outside_the_order():
         print('not in the order:', path, file=sys.stderr)
+    used = list(used_before())
+    for path, name in used:
+        print(f'tools/reading_order.py, {path}: uses {name}, which does not stand before it')
     absent = list(lost())
     for what, name in absent:
         print(f'tools/find_it.py, {what}: not found, {name}')
     strange = list(misquoted())
     for path in strange:
         print('docs/CALLING.md quotes what does not stand in', path)
-    if absent or strange:
+    if used or absent or strange:
         return 1
     status = 0
     for name, text in (('DEFINITIONS.md', definitions_text()), ('FIND.md', find_text())):

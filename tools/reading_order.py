@@ -4,8 +4,9 @@ INTRODUCTION = """# The definitions
 
 What the desk means is written in the files below, apart from the code, as functions and records that compute. Contracts
 cite them as equations: what a call answers *is* what the definition gives. They stand here in an order in which each
-uses only what came before it; an index from A to Z is at the end. A name with a question in its sentence ("whether ..") is a truth value; a `record` with a
-condition in each field is a claim that has a proof where it is used.
+uses only what came before it; an index from A to Z is at the end. Left out are worked examples, what reads a text word by word,
+and words of bodies that no definition here uses. A name with a question in its sentence ("whether ..") is a truth value; a
+`record` with a condition in each field is a claim that has a proof where it is used.
 
 Numbers are whole numbers without bound, lists are plain lists, and an id is a number with its kind. The rows, commands,
 replies and views themselves are plain structs and enums in the `src/` of their crates; definitions see them field by field.
@@ -39,14 +40,14 @@ CHAPTERS = [
     ('Students',
      'A student has a row (maximum of credits, groups, curricula) and ranked requests: courses with alternatives, or'
      ' free times.',
-     ['sect_people/specs/' + n + '.antt' for n in ('Student', 'Fault', 'Changes')]),
+     ['sect_people/specs/' + n + '.antt' for n in ('Student', 'Fault', 'Index', 'Changes')]),
     ('Reservations and restrictions',
      'A reservation keeps places of an offering for an audience, and may permit what is barred to others; a '
      'restriction lets an audience into what it lists alone.',
      ['sect_reserve/specs/Audience.antt', 'sect_reserve/specs/Lasting.antt']),
     ('The world',
      'All that the desk knows: the catalogue, the students, reservations, restrictions, the roster of enrolments, '
-     'and the day. With the waiting list it is the state.',
+     'and the day. With the wait-list it is the state.',
      model('World')),
     ('Overlap',
      'When two sections cannot be attended by one student.',
@@ -92,7 +93,7 @@ CHAPTERS = [
      'The requests of many students in turn.',
      model('Batch')),
     ('Refusals',
-     'Conditions on a command, in numbered order; the first that holds is the answer.',
+     'Conditions on a command, in their order; the first that holds is the answer.',
      model('Refusals')),
     ('Changes of the world',
      'What the commands of a registrar put in place.',
@@ -141,9 +142,10 @@ CHAPTERS = [
     ('How large a tree is',
      'The nodes of the tree of a blocked search, and what a verified tree says.',
      ['sect_search/specs/' + n + '.antt' for n in ('Nodes', 'Refutes', 'Texts')]),
-    ('The waiting list',
-     'The entries with the next ticket, what taking changes of it back asks and gives, and which entries must be tried.',
-     ['sect_wait/specs/' + n + '.antt' for n in ('Queued', 'Undo', 'Marked', 'Touched')]),
+    ('The wait-list',
+     'The entries with the next ticket, what taking changes of it back asks and gives, which entries must be tried, its index, and what a '
+     'leaving opens for them.',
+     ['sect_wait/specs/' + n + '.antt' for n in ('Queued', 'Undo', 'Marked', 'Indexed', 'Opened', 'Touched')]),
     ('Words',
      'Ids, lists, limits, days and what rows are made of, as words of lines, rows, tables and reports.',
      ['sect_words/specs/' + n + '.antt' for n in ('Parts', 'Days', 'Words')]),
@@ -185,15 +187,21 @@ CHAPTERS = [
      ['sect_text/specs/' + n + '.antt' for n in ('Commands', 'Replies', 'Rows')]),
     ('Lines',
      'What has a text, and which request a line asks.',
-     ['sect_read/specs/' + n + '.antt' for n in ('Fits', 'Lines')]),
+     ['sect_read/specs/' + n + '.antt' for n in ('Fits', 'Lines', 'Laws')]),
+    ('What is wrong with a line',
+     'The form that is expected of each word, how far the words of a line go as those of a request, and what is said of one that is none.',
+     ['sect_check/specs/' + n + '.antt' for n in ('Fits', 'Expected', 'Walks', 'Complaints')]),
     ('Worked examples',
      'The files `Examples..` have scripts from the empty desk with what each line is answered, and the functions of '
      '`crates/sect_model/src/examples.rt` have them as contracts, which the check computes. They are written in '
      'these words.',
      model('Script')),
+    ('The outside',
+     'What a source, a sink, a keeper, a link and a clock may do, and the objects in memory.',
+     ['sect_edge/specs/' + n + '.antt' for n in ('Causes', 'Keeper', 'Link', 'Clock', 'Memory')]),
     ('One history',
      'A log of any object, its history, and what each answer says of it.',
-     ['sect_once/specs/' + n + '.antt' for n in ('History', 'Faults', 'Desks')]),
+     ['sect_once/specs/' + n + '.antt' for n in ('History', 'Faults', 'Desks', 'Opening')]),
     ('Throughout a history of the machine',
      'The changes by which each entry leads from world to world, and what its blocked replies refute. The laws stand on '
      'the functions of `crates/sect_history/src/laws.rt`.',
@@ -206,8 +214,9 @@ CHAPTERS = [
      ['sect_machine/specs/' + n + '.antt' for n in ('Standing', 'Tracked', 'Acting', 'Answering', 'Placed', 'Settling', 'NotDone', 'Opening')]
      + ['sect_view/specs/' + n + '.antt' for n in ('Found', 'Unmet')]),
     ('The words of the command line',
-     'Words cut into options and words that stand alone, what they ask for, and the laws of it.',
-     ['sect_usage/specs/' + n + '.antt' for n in ('Items', 'Options', 'Programs', 'Grammar', 'Needs', 'Help', 'Laws', 'Spelling')]),
+     'Words cut into options and words that stand alone, what they ask for, and the laws of it; of the desk, and then of the clerk.',
+     ['sect_usage/specs/' + n + '.antt' for n in ('Items', 'Options', 'Programs', 'Grammar', 'Needs', 'Help', 'Laws', 'Spelling')]
+     + ['sect_clerk_words/specs/' + n + '.antt' for n in ('Grammar', 'Help', 'Laws')]),
     ('The program',
      'The lines of an input, how the desk answers them, the audit, and the import of a table.',
      ['sect_object/specs/Objects.antt']
@@ -227,6 +236,9 @@ CHAPTERS = [
     ('A place of a history, in words',
      'What is said of the entry at a place, in the world in which its command acted.',
      ['sect_explaining/specs/Explaining.antt']),
+    ('What the clerk does',
+     'How lines are checked, what is shown of a history, and what is done for the words of the command line.',
+     ['sect_clerk/specs/' + n + '.antt' for n in ('Shows', 'Checked', 'Clerk')]),
     ('Requests and answers over HTTP',
      'What a head says of its body and its connection, what a path asks for, the commands of bodies, and the texts of '
      'answers.',
@@ -237,14 +249,14 @@ CHAPTERS = [
     ('One connection',
      'What a connection asks and is answered, over any state; and what comes of waiting for a head or a body.',
      ['sect_talk/specs/' + n + '.antt' for n in ('Asked', 'Rest', 'Talk', 'Coming')]),
-    ('What a request over HTTP is answered',
-     'What a request asks for, what is done for it at the office and told, and what answers each request of a connection.',
-     ['sect_answer/specs/' + n + '.antt' for n in ('Errands', 'Answering')]
-     + ['sect_http/specs/' + n + '.antt' for n in ('Answers', 'Hearing', 'Telling', 'Turns')]),
     ('The turn and the office',
      'One value under a turn, and the passes that share it.',
      ['sect_turn/specs/' + n + '.antt' for n in ('Seats', 'Rule', 'Steps', 'Passes')]
      + ['sect_office/specs/Offices.antt', 'sect_office/specs/Calls.antt', 'sect_office/specs/Works.antt']),
+    ('What a request over HTTP is answered',
+     'What a request asks for, what is done for it at the office and told, and what answers each request of a connection.',
+     ['sect_answer/specs/' + n + '.antt' for n in ('Errands', 'Answering')]
+     + ['sect_http/specs/' + n + '.antt' for n in ('Answers', 'Hearing', 'Telling', 'Turns')]),
     ('Many connections',
      'What a worker does with its link, what it is to serve many links at one desk, and whose rows their answers name.',
      ['sect_serve/specs/' + n + '.antt' for n in ('Talks', 'Working', 'Serving')] + ['sect_places/specs/Printed.antt']),
@@ -254,14 +266,14 @@ CHAPTERS = [
     ('The journal',
      'What a crash may leave of a disk, the text of a journal and its rows.',
      ['sect_journal/specs/' + n + '.antt' for n in ('Disk', 'Text', 'Standing', 'Opening', 'Runs')]),
-    ('The outside',
-     'What a source, a sink, a keeper, a link and a clock may do, and the objects in memory.',
-     ['sect_edge/specs/' + n + '.antt' for n in ('Causes', 'Keeper', 'Link', 'Clock', 'Memory')]),
 ]
+
+# what reads a text word by word
+READERS = ['sect_command/specs/Reading.antt'] + ['sect_read/specs/Reading' + n + '.antt' for n in ('Rows', 'Commands', 'Lines')]
 
 # what private functions' contracts cite: a body's own words, which no public contract has
 INSIDE = ['sect_time/specs/WeekScan.antt', 'sect_catalog/specs/Place.antt', 'sect_catalog/specs/Rising.antt', 'sect_catalog/specs/Apart.antt',
-          'sect_catalog/specs/Search.antt', 'sect_people/specs/Index.antt', 'sect_roster/specs/Filed.antt', 'sect_intake/specs/Underway.antt',
+          'sect_catalog/specs/Search.antt', 'sect_roster/specs/Filed.antt', 'sect_intake/specs/Underway.antt',
           'sect_journal/specs/Windows.antt']
 
 BASE, CATALOG, PEOPLE = 'sect_base/specs/', 'sect_catalog/specs/', 'sect_people/specs/'
