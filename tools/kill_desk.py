@@ -4,10 +4,9 @@ python3 tools/kill_desk.py [PROGRAM [KILLS [FOLDER]]]
 
 PROGRAM is ./desk where none is named. Over each keeper, a database and a journal, `desk run` is killed by SIGKILL KILLS
 (300) times at a random moment, mostly between its first answer and its last; each line is asked when the one before it was
-answered. Then the same lines are asked of the same
-file again: each answer that had been written must come once more, place and reply, and the places must go on without a
-gap, so that no request acted twice. At the end `desk audit` must count each request once. FOLDER is where the files lie.
-It stands outside the gate. The status is 1 where something differs.
+answered. Then the same lines are asked of the same file again: each answer that had been written must come once more, place and
+reply, and the places must go on without a gap, so that no request acted twice. At the end `desk audit` must count each request
+once. FOLDER is where the files lie. It stands outside the gate. The status is 1 where something differs.
 """
 import os
 import random
@@ -16,6 +15,8 @@ import sys
 import tempfile
 import threading
 import time
+
+from serving import entries, run_lines
 
 ROOT = os.path.dirname(os.path.dirname(os.path.abspath(__file__)))
 PROGRAM = os.path.abspath(sys.argv[1] if len(sys.argv) > 1 else os.path.join(ROOT, 'desk'))
@@ -41,11 +42,6 @@ def lines_of(round_number):
     return lines
 
 
-def run(keeper, path, lines):
-    done = subprocess.run([PROGRAM, 'run', f'--{keeper}', path], input=''.join(lines).encode(), capture_output=True, check=False)
-    return done.returncode, done.stdout.decode().split('\n')[:-1], done.stderr.decode()
-
-
 def ask(program, line):
     """Asks a line and waits for its answer, which is written before the program waits for the next one. None where it was killed."""
     try:
@@ -57,13 +53,13 @@ def ask(program, line):
     return answer[:-1] if answer.endswith('\n') else None
 
 
-def started(keeper, path):
-    return subprocess.Popen([PROGRAM, 'run', f'--{keeper}', path], stdin=subprocess.PIPE, stdout=subprocess.PIPE, stderr=subprocess.DEVNULL)
+def started(options):
+    return subprocess.Popen([PROGRAM, 'run', *options], stdin=subprocess.PIPE, stdout=subprocess.PIPE, stderr=subprocess.DEVNULL)
 
 
-def killed(keeper, path, lines):
+def killed(options, lines):
     """The answers that the program had written whole when it was killed."""
-    program, told = started(keeper, path), []
+    program, told = started(options), []
     timer = threading.Timer(random.uniform(0, killed.longest), program.kill)
     # most are killed among the answers
     begin = 1 if random.random() < 0.75 else 0
@@ -80,10 +76,10 @@ def killed(keeper, path, lines):
     return told
 
 
-def span_of_answers(keeper, path):
+def span_of_answers(options):
     """How long it takes from the first answer to the last."""
-    run(keeper, path, [OFFERING])
-    program, (line, *lines) = started(keeper, path), lines_of(0)
+    run_lines(PROGRAM, options, [OFFERING])
+    program, (line, *lines) = started(options), lines_of(0)
     ask(program, line)
     first = time.time()
     for line in lines:
@@ -94,17 +90,17 @@ def span_of_answers(keeper, path):
 
 
 def keeper_is_good(keeper, folder):
-    path = os.path.join(folder, f'term.{keeper}')
-    status, answers, said = run(keeper, path, [OFFERING])
+    options = [f'--{keeper}', os.path.join(folder, f'term.{keeper}')]
+    status, answers, said = run_lines(PROGRAM, options, [OFFERING])
     if (status, answers) != (0, ['0 amended']):
         print(f'{keeper}: the first run ended with {status}: {said}{answers}')
         return False
-    killed.longest = span_of_answers(keeper, os.path.join(folder, f'warm.{keeper}'))
+    killed.longest = span_of_answers([f'--{keeper}', os.path.join(folder, f'warm.{keeper}')])
     place, good, cut, none, whole = 1, True, 0, 0, 0
     for round_number in range(KILLS):
         lines = lines_of(round_number)
-        told = killed(keeper, path, lines)
-        status, answers, said = run(keeper, path, lines)
+        told = killed(options, lines)
+        status, answers, said = run_lines(PROGRAM, options, lines)
         places = [int(answer.split()[0]) for answer in answers if answer.split()[0].isdigit()]
         if status or places != list(range(place, place + LINES)) or answers[:len(told)] != told:
             print(f'{keeper}, kill {round_number}: status {status} {said}\n  had written {told}\n  answers now {answers}')
@@ -114,9 +110,9 @@ def keeper_is_good(keeper, folder):
         none += not told
         whole += len(told) == LINES
         cut += 0 < len(told) < LINES
-    audit = subprocess.run([PROGRAM, 'audit', f'--{keeper}', path], capture_output=True, check=False).stdout.decode()
-    if good and audit.split()[:2] != ['entries', str(place)]:
-        print(f'{keeper}: the audit says {audit}, and not {place} entries')
+    counted = entries(PROGRAM, options)
+    if good and counted != place:
+        print(f'{keeper}: the audit says {counted}, and not {place}')
         good = False
     print(f'{keeper}: {KILLS} kills, {none} before the first answer, {cut} among the answers, {whole} behind the last; {place} entries; '
           + ('nothing lost' if good else 'BAD'))

@@ -201,7 +201,6 @@ def enrol(words):
     return f'enrol {name} {term} {budget(words)}'
 
 
-ONE = 'record {{ 0 = {} }}'
 COMMANDS = {
     'offering': offering, 'student': student, 'requests': requests, 'reserve': reserve, 'restrict': restrict,
     'enrol': enrol, 'swap': swap, 'wait': wait,

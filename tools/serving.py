@@ -2,7 +2,6 @@
 server from outside stand on it.
 """
 import json
-import os
 import signal
 import socket
 import struct
@@ -12,13 +11,18 @@ import time
 WAIT = 20
 
 
+def free_port():
+    """A port at which nobody listens, chosen by the system."""
+    with socket.socket() as free:
+        free.bind(('127.0.0.1', 0))
+        return free.getsockname()[1]
+
+
 class Server:
     """A program that serves at a port which the system chose."""
 
     def __init__(self, program, options, workers, sessions=None):
-        with socket.socket() as free:
-            free.bind(('127.0.0.1', 0))
-            self.port = free.getsockname()[1]
+        self.port = free_port()
         words = [program, 'serve', '--port', str(self.port), '--workers', str(workers), *options]
         if sessions:
             words += ['--sessions', str(sessions)]
@@ -36,7 +40,7 @@ class Server:
                 time.sleep(0.01)
 
     def stop(self, by=signal.SIGTERM):
-        """Ends it by a signal, and gives its status."""
+        """Ends it by a signal, and gives its status and what it said on standard error."""
         self.process.send_signal(by)
         return self.end()
 

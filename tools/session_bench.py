@@ -19,6 +19,8 @@ import sys
 import tempfile
 import time
 
+from serving import free_port
+
 ROWS = ['offering 1 course 1 - 3 config 1 - subpart 1 section 7 1 - -', 'student 11 max 18']
 
 
@@ -45,12 +47,6 @@ def counted(command, while_running=None):
             while_running()
         run.wait()
         return int(re.search(r'Collected : (\d+)', open(log.name).read())[1])
-
-
-def free_port():
-    with socket.socket() as probe:
-        probe.bind(('127.0.0.1', 0))
-        return probe.getsockname()[1]
 
 
 def talk(port, sent):
