@@ -9,6 +9,7 @@ term, and lines `? TREE = true` or `false`.
 """
 import os
 import re
+import subprocess
 import sys
 
 from scripts import LAYERS, LAYER_FILES, MODEL, TODAY, imports, reply, request, tree
@@ -77,6 +78,12 @@ def answers(module, function, names):
             + f'use Rattle.sect_model.proofs.{module}.{function}.Goals as goal\n\n' + goals)
 
 
+def ghost_use(module, names):
+    """The names of a module for clauses, each on a line of its own where they would make one of more than 160 columns."""
+    line = f"ghost use {module}.{{{', '.join(names)}}};"
+    return line if len(line) <= 160 else f'ghost use {module}.{{\n' + ''.join(f'  {name},\n' for name in names) + '};'
+
+
 def write(path, text):
     path = os.path.join(CRATE, path)
     os.makedirs(os.path.dirname(path), exist_ok=True)
@@ -102,15 +109,16 @@ def main():
             text = '\n'.join(statement(*e[:3]) for e in examples)
         write(f'specs/Examples{topic}.antt',
               f'-- Worked examples: {title[0].lower() + title[1:]}.\n{imports(text, more)}{extra}\n{text}')
-        used.append(f"ghost use {MODEL}.Examples{topic}.{{{', '.join(names)}}};")
+        used.append(ghost_use(f'{MODEL}.Examples{topic}', names))
         clauses = '\n'.join(f'    ensures {snake(n)} {{ {n} }}' for n in names)
-        functions.append(f'/// {title}.\npub fn {topic.lower()}()\n{clauses}\n{{\n}}\n')
+        functions.append(f'/// {title}.\npub fn {topic.lower()}()\n{clauses}\n{{}}\n')
         proofs = [(snake(n), GOOD if n == 'GoodAfterAChain' else 'refl') for n in names]
         write(f'proofs/examples/{topic.lower()}/Answers.antt', answers('examples', topic.lower(), proofs))
     write('src/examples.rt',
           '// Worked examples: scripts from the empty desk with what each line is answered. The functions do nothing: the\n'
           '// contract of each is its examples, which the check computes by the definitions.\n\n'
           + '\n'.join(used) + '\n\n' + '\n'.join(functions))
+    subprocess.run(['rt', 'fmt'], cwd=CRATE, check=True)
 
 
 def compare(folder):

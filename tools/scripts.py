@@ -343,7 +343,8 @@ LAYER_FILES = {
 
 
 def imports(text, more=None):
-    """The `use` lines for the words that stand in the text."""
+    """The `use` lines for the words that stand in the text. Those of comments, and the names of fields, are none of them."""
+    text = re.sub(r'^--.*|\w+ = ', '', text, flags=re.M)
     words = set(re.findall(r'[\w]+', text))
     found = []
     for module, names in {**DECLARED, **(more or {})}.items():
