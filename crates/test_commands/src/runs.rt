@@ -5,7 +5,7 @@ ghost use Rattle.std.specs.Prelude.{◌≡◌, ◌<◌, ◌≤◌, IfOk, length}
 use crate::keepers::number_alone;
 use sect_app::{Status, desk};
 use sect_base::Memory;
-use sect_edge::{Gate, Keeper, MemClock, MemKeeper, MemLink, MemSink, MemSource, OpenGate};
+use sect_edge::{Keeper, MemClock, MemKeeper, MemLink, MemSink, MemSource, OpenGate};
 use sect_time::Day;
 use std::alloc::{AllocGlobal, Global};
 use std::sync::Wait;
@@ -83,7 +83,7 @@ fn link_alone(alloc: Global, link: MemLink) -> Result<Vec<MemLink>, Memory>
     Ok(links)
 }
 
-/// What stands around a run, beside its keeper, its links and its gate.
+/// What stands around a run, beside its keeper and its links.
 #[derive(Drop)]
 struct Around {
     words: Vec<String>,
@@ -129,23 +129,18 @@ pub fn run_on_link<R: AllocGlobal + Threads + Wait + Sync, K: Keeper + Send + Dr
     link: MemLink,
 ) -> Result<(Ended<K>, MemLink), Memory> {
     let links = link_alone(rt.alloc(), link)?;
-    let (ended, mut links) = run_on_links(rt, setting, input, keeper, links, &OpenGate)?;
+    let (ended, mut links) = run_on_links(rt, setting, input, keeper, links)?;
     let link = links.pop().ok_or(Memory)?;
     Ok((ended, link))
 }
 
-/// The same over these links, one or two, which come back, with this gate.
-pub fn run_on_links<
-    R: AllocGlobal + Threads + Wait + Sync,
-    K: Keeper + Send + Drop,
-    G: Gate + Sync,
->(
+/// The same over these links, one or two, which come back.
+pub fn run_on_links<R: AllocGlobal + Threads + Wait + Sync, K: Keeper + Send + Drop>(
     rt: &R,
     setting: &Setting<'_>,
     input: Vec<u8>,
     keeper: K,
     links: Vec<MemLink>,
-    gate: &G,
 ) -> Result<(Ended<K>, Vec<MemLink>), Memory>
     requires some { 0 < length links.items }
     requires most { length links.items ≤ 2 }
@@ -164,7 +159,7 @@ pub fn run_on_links<
         links,
         keeper,
         clocks,
-        gate,
+        &OpenGate,
     );
     let ended = Ended {
         status,
