@@ -9,12 +9,11 @@ use sect_usage::Paths;
 use std::io;
 
 /// The keeper over the file that is named, or none where no file is.
-pub fn keeper_of(rt: HostRuntime, paths: Paths) -> Result<AnyKeeper, End> {
-    let Paths { db, journal } = paths;
-    if let Some(path) = db {
+pub fn keeper_of(rt: HostRuntime, paths: &Paths) -> Result<AnyKeeper, End> {
+    if let Some(path) = &paths.db {
         return open_database(rt, path.as_str());
     }
-    if let Some(path) = journal {
+    if let Some(path) = &paths.journal {
         return open_journal(rt, path.as_str());
     }
     Ok(AnyKeeper::Nowhere)
@@ -29,17 +28,25 @@ fn open_database(rt: HostRuntime, path: &str) -> Result<AnyKeeper, End> {
 }
 
 fn open_journal(rt: HostRuntime, path: &str) -> Result<AnyKeeper, End> {
-    let disk = match FileDisk::open(&rt, path) {
-        Ok(disk) => disk,
-        Err(error) if error.kind() == io::ErrorKind::OutOfMemory => {
-            return Err(End::Told(Status::Memory));
-        }
-        Err(_) => return Err(End::Told(Status::KeeperFault)),
-    };
+    match FileDisk::open(&rt, path) {
+        Ok(disk) => start_journal(rt, disk),
+        Err(error) if error.kind() == io::ErrorKind::OutOfMemory => Err(End::Told(Status::Memory)),
+        Err(_) => Err(End::Told(Status::KeeperFault)),
+    }
+}
+
+fn start_journal(rt: HostRuntime, disk: FileDisk) -> Result<AnyKeeper, End> {
     match Journal::start(rt.alloc(), disk) {
         Ok(journal) => Ok(AnyKeeper::Journal(journal)),
-        Err((JournalFault::Failed, _)) => Err(End::Told(Status::KeeperFault)),
-        Err((JournalFault::BadJournal(place), _)) => Err(End::BadJournal(place)),
-        Err((JournalFault::Memory, _)) => Err(End::Told(Status::Memory)),
+        Err((fault, _)) => Err(end_of(fault)),
+    }
+}
+
+/// The end of a program whose journal doesn't open.
+fn end_of(fault: JournalFault) -> End {
+    match fault {
+        JournalFault::Failed => End::Told(Status::KeeperFault),
+        JournalFault::BadJournal(place) => End::BadJournal(place),
+        JournalFault::Memory => End::Told(Status::Memory),
     }
 }

@@ -60,12 +60,17 @@ pub fn links(
 /// The two ends of the next connection. What the client sends is answered at once, and no call waits for ever.
 fn accepted(listener: &TcpListener) -> io::Result<(TcpSource, TcpSink)> {
     let stream = next_stream(listener)?;
+    let sink = TcpSink::new(other_end(&stream)?);
+    Ok((TcpSource::new(stream), sink))
+}
+
+/// The end of a stream by which its client is answered. Neither end waits for ever.
+fn other_end(stream: &TcpStream) -> io::Result<TcpStream> {
     let patience = Some(Duration::from_secs(PATIENCE));
     stream.set_nodelay(true)?;
     stream.set_read_timeout(patience)?;
     stream.set_write_timeout(patience)?;
-    let sink = TcpSink::new(stream.try_clone()?);
-    Ok((TcpSource::new(stream), sink))
+    stream.try_clone()
 }
 
 /// The next connection that stands. A call that a signal interrupts is tried again by `accept`.
@@ -82,7 +87,7 @@ fn next_stream(listener: &TcpListener) -> io::Result<TcpStream> {
 
 /// Tells the client that no more is written, and takes for a while what it still sends. A stream that is dropped with bytes
 /// unread is reset, and the client may lose its last answer by that.
-fn drain(rt: HostRuntime, mut stream: TcpStream) -> io::Result<()> {
+fn drain(rt: HostRuntime, stream: &mut TcpStream) -> io::Result<()> {
     stream.shutdown(Shutdown::Write)?;
     stream.set_read_timeout(Some(Duration::from_millis(PAUSE)))?;
     let most = Duration::from_millis(DRAIN);
@@ -119,7 +124,8 @@ impl<'a> Link for TcpLink<'a> {
     /// last answer arrives.
     fn finish(&mut self, source: TcpSource, sink: TcpSink) {
         if source.is_open() && sink.is_whole() {
-            let _ = drain(self.rt, source.into_stream());
+            let mut stream = source.into_stream();
+            let _ = drain(self.rt, &mut stream);
         }
     }
 }

@@ -82,7 +82,8 @@ fn fault_of(error: Error) -> KeepFault {
     }
 }
 
-/// The keeper is made before its rows are looked at, so that no end here drops a database but by the keeper's own drop.
+/// The keeper over the database of a path, with its table and the number of its rows. It is made before its rows are looked
+/// at, so that no end drops a database but by the keeper's own drop.
 fn opened(rt: &HostRuntime, path: &str) -> Result<SqliteKeeper, Error> {
     let mut keeper = SqliteKeeper {
         database: Connection::open(rt, path)?,

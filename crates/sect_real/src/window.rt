@@ -2,7 +2,7 @@
 
 use crate::database::Database;
 use sqlite::types::ValueRef;
-use sqlite::{Error, params};
+use sqlite::{Error, File, FileStore, Rows, params};
 use std::alloc::Global;
 
 /// How many rows are read at once at most.
@@ -56,8 +56,13 @@ impl Window {
             "SELECT place, row FROM entry WHERE place >= ?1 AND place < ?2 ORDER BY place",
             params![place, end],
         )?;
+        self.take(&mut found, end)
+    }
+
+    /// Takes the rows that were found, up to the first that is missing or to this place.
+    fn take(&mut self, found: &mut Rows<'_, FileStore<File>>, end: i64) -> Result<(), Error> {
         let mut bytes = 0usize;
-        for next in place..end {
+        for next in self.place..end {
             let Some(row) = found.next()? else {
                 break;
             };

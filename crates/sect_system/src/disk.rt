@@ -38,11 +38,10 @@ impl FileDisk {
             .write(true)
             .create(true)
             .open(rt, path)?;
-        file.try_lock()?;
-        if is_foreign(&file)? {
-            return Err(io::Error::from(io::ErrorKind::InvalidData));
+        match take(&file) {
+            Ok(()) => Ok(FileDisk::new(file)),
+            Err(error) => Err(error),
         }
-        Ok(FileDisk::new(file))
     }
 
     /// One more failure.
@@ -54,6 +53,15 @@ impl FileDisk {
         self.faults = self.faults.saturating_add(1);
         DiskFault::Failed
     }
+}
+
+/// Locks a file. An error too where it begins as no journal does.
+fn take(file: &File) -> io::Result<()> {
+    file.try_lock()?;
+    if is_foreign(file)? {
+        return Err(io::Error::from(io::ErrorKind::InvalidData));
+    }
+    Ok(())
 }
 
 /// Whether the first byte, where there is one, is no gate of a journal: neither 0 nor 1.

@@ -28,22 +28,37 @@ fn accept(rt: &impl Abort, link: &mut TcpLink<'_>) -> (TcpSource, TcpSink) {
     }
 }
 
+/// What the client sent is read and answered, and then it sends no more.
+fn ask_and_answer(
+    rt: &impl Abort,
+    client: &mut TcpStream,
+    source: &mut TcpSource,
+    sink: &mut TcpSink,
+) {
+    let mut into = [0; 8];
+    assert!(rt; source.read(&mut into) == Ok(3));
+    assert!(rt; &into[..3] == b"ask".as_slice());
+    assert!(rt; sink.write(b"done") == Ok(4));
+    assert!(rt; client.read_exact(&mut into[..4]).is_ok());
+    assert!(rt; &into[..4] == b"done".as_slice());
+    assert!(rt; client.shutdown(Shutdown::Write).is_ok());
+    assert!(rt; source.read(&mut into) == Ok(0));
+}
+
+/// Whether no more comes to the client.
+fn is_ended(client: &mut TcpStream) -> bool {
+    matches!(client.read(&mut [0; 8]), Ok(0))
+}
+
 #[test]
 fn a_connection_is_read_and_written(rt: HostRuntime) -> io::Result<()> {
     let listener = listener(rt)?;
     let mut link = TcpLink::new(rt, &listener);
     let mut client = client(rt, &listener, b"ask")?;
     let (mut source, mut sink) = accept(&rt, &mut link);
-    let mut into = [0; 8];
-    assert!(rt; source.read(&mut into) == Ok(3));
-    assert!(rt; &into[..3] == b"ask".as_slice());
-    assert!(rt; sink.write(b"done") == Ok(4));
-    client.read_exact(&mut into[..4])?;
-    assert!(rt; &into[..4] == b"done".as_slice());
-    client.shutdown(Shutdown::Write)?;
-    assert!(rt; source.read(&mut into) == Ok(0));
+    ask_and_answer(&rt, &mut client, &mut source, &mut sink);
     link.finish(source, sink);
-    assert!(rt; client.read(&mut into)? == 0);
+    assert!(rt; is_ended(&mut client));
     Ok(())
 }
 
@@ -53,15 +68,24 @@ fn an_answer_outlives_bytes_that_were_not_read(rt: HostRuntime) -> io::Result<()
     let mut link = TcpLink::new(rt, &listener);
     let mut client = client(rt, &listener, &[b'a'; 65_536])?;
     let (mut source, mut sink) = accept(&rt, &mut link);
-    let mut into = [0; 8];
-    assert!(rt; source.read(&mut into) == Ok(8));
+    assert!(rt; source.read(&mut [0; 8]) == Ok(8));
     assert!(rt; sink.write(b"no") == Ok(2));
+    assert!(rt; time_to_finish(rt, &mut link, source, sink)? < Duration::from_secs(2));
+    assert!(rt; matches!(client.read(&mut [0; 8]), Ok(2)));
+    assert!(rt; is_ended(&mut client));
+    Ok(())
+}
+
+/// How long the link takes to finish a connection.
+fn time_to_finish(
+    rt: HostRuntime,
+    link: &mut TcpLink<'_>,
+    source: TcpSource,
+    sink: TcpSink,
+) -> io::Result<Duration> {
     let start = Instant::now(&rt)?;
     link.finish(source, sink);
-    assert!(rt; start.elapsed(&rt)? < Duration::from_secs(2));
-    assert!(rt; client.read(&mut into)? == 2);
-    assert!(rt; client.read(&mut into)? == 0);
-    Ok(())
+    start.elapsed(&rt)
 }
 
 #[test]
@@ -102,9 +126,14 @@ fn two_workers_share_a_listener(rt: HostRuntime) -> io::Result<()> {
     let other = links.remove(0);
     let echoed = thread::join(&rt, || echoes(one), || echoes(other));
     assert!(rt; echoed == (true, true));
-    let mut into = [0; 2];
-    first.read_exact(&mut into[..1])?;
-    second.read_exact(&mut into[1..])?;
-    assert!(rt; &into == b"xy");
+    assert!(rt; echo_of(&mut first) == Some(b'x'));
+    assert!(rt; echo_of(&mut second) == Some(b'y'));
     Ok(())
+}
+
+/// The byte that comes to the client.
+fn echo_of(client: &mut TcpStream) -> Option<u8> {
+    let mut into = [0; 1];
+    client.read_exact(&mut into).ok()?;
+    Some(into[0])
 }

@@ -1,24 +1,16 @@
 // Files, readers, writers and the clock.
 
+use super::keeping::{append_two, read_second};
 use sect_edge::{Clock, Failed, KeepFault, Keeper, MemKeeper, MemSource, Sink, Source};
 use sect_journal::{Disk, DiskFault, Journal};
 use sect_system::{FileDisk, RealClock, StdSink, StdSource, ToldKeeper, ToldSource};
+use std::alloc::Global;
 use std::fs::{self, File};
 use std::io;
+use std::process::Abort;
 
-/// A path for one test.
-fn path(rt: HostRuntime, name: &str) -> io::Result<String> {
-    let mut path = String::new(rt.alloc());
-    path.push_str("sect_system_")?;
-    path.push_str(name)?;
-    Ok(path)
-}
-
-#[test]
-fn a_file_is_a_disk(rt: HostRuntime) -> io::Result<()> {
-    let path = path(rt, "disk")?;
-    let _ = fs::remove_file(&rt, path.as_str());
-    let mut disk = FileDisk::open(&rt, path.as_str())?;
+/// Writes to an empty disk, and reads what was written.
+fn write_and_read(rt: &impl Abort, disk: &mut FileDisk) {
     assert!(rt; disk.size() == Ok(0));
     assert!(rt; disk.write_at(0, b"abcd") == Ok(()));
     assert!(rt; disk.write_at(2, b"xy12") == Ok(()));
@@ -28,55 +20,58 @@ fn a_file_is_a_disk(rt: HostRuntime) -> io::Result<()> {
     assert!(rt; disk.read_at(1, &mut into) == Ok(5));
     assert!(rt; &into == b"bxy12\0\0\0");
     assert!(rt; disk.read_at(6, &mut into) == Ok(0));
+}
+
+#[test]
+fn a_file_is_a_disk(rt: HostRuntime) -> io::Result<()> {
+    let path = "sect_system_disk";
+    let _ = fs::remove_file(&rt, path);
+    let mut disk = FileDisk::open(&rt, path)?;
+    write_and_read(&rt, &mut disk);
     drop(disk);
     assert!(rt;
-        FileDisk::open(&rt, path.as_str()).is_err(),
+        FileDisk::open(&rt, path).is_err(),
         "it begins as no journal does"
     );
-    fs::remove_file(&rt, path.as_str())
+    fs::remove_file(&rt, path)
 }
 
 #[test]
 fn a_file_that_is_only_read_fails_to_be_written(rt: HostRuntime) -> io::Result<()> {
-    let path = path(rt, "only_read")?;
-    File::create(&rt, path.as_str())?;
-    let mut disk = FileDisk::new(File::open(&rt, path.as_str())?);
+    let path = "sect_system_only_read";
+    File::create(&rt, path)?;
+    let mut disk = FileDisk::new(File::open(&rt, path)?);
     assert!(rt; disk.write_at(0, b"abcd") == Err(DiskFault::Failed));
     assert!(rt; disk.size() == Ok(0));
-    fs::remove_file(&rt, path.as_str())
+    fs::remove_file(&rt, path)
 }
 
 #[test]
 fn no_byte_stands_past_the_bound(rt: HostRuntime) -> io::Result<()> {
-    let path = path(rt, "bound")?;
-    let mut disk = FileDisk::open(&rt, path.as_str())?;
+    let path = "sect_system_bound";
+    let mut disk = FileDisk::open(&rt, path)?;
     assert!(rt; disk.write_at((1 << 62) - 1, b"a") == Err(DiskFault::Failed));
     assert!(rt; disk.size() == Ok(0));
-    fs::remove_file(&rt, path.as_str())
+    fs::remove_file(&rt, path)
 }
 
 #[test]
 fn a_journal_in_a_file_has_its_rows_again(rt: HostRuntime) -> io::Result<()> {
-    let alloc = rt.alloc();
-    let path = path(rt, "journal")?;
-    let _ = fs::remove_file(&rt, path.as_str());
-    let mut journal = match Journal::start(alloc, FileDisk::open(&rt, path.as_str())?) {
-        Ok(journal) => journal,
-        Err(_) => panic!(rt; "a new file starts a journal"),
+    let path = "sect_system_journal";
+    let _ = fs::remove_file(&rt, path);
+    let disk = FileDisk::open(&rt, path)?;
+    let Ok(mut journal) = Journal::start(rt.alloc(), disk) else {
+        panic!(rt; "a new file starts a journal");
     };
-    assert!(rt; journal.append(b"ab").is_ok());
-    assert!(rt; journal.append(b"cd").is_ok());
-    assert!(rt; FileDisk::open(&rt, path.as_str()).is_err(), "it is locked");
+    append_two(&rt, &mut journal);
+    assert!(rt; FileDisk::open(&rt, path).is_err(), "it is locked");
     drop(journal.close());
-    let mut journal = match Journal::open(alloc, FileDisk::open(&rt, path.as_str())?) {
-        Ok(journal) => journal,
-        Err(_) => panic!(rt; "the journal opens again"),
+    let disk = FileDisk::open(&rt, path)?;
+    let Ok(mut journal) = Journal::open(rt.alloc(), disk) else {
+        panic!(rt; "the journal opens again");
     };
-    let mut row = Vec::new(alloc);
-    assert!(rt; journal.len().is_ok_and(|count| count == 2));
-    assert!(rt; journal.row(1, &mut row).is_ok_and(|found| found));
-    assert!(rt; row.as_slice() == b"cd".as_slice());
-    fs::remove_file(&rt, path.as_str())
+    read_second(&rt, rt.alloc(), &mut journal);
+    fs::remove_file(&rt, path)
 }
 
 #[test]
@@ -125,13 +120,23 @@ fn a_keeper_that_is_told_keeps_as_the_one_behind_it(rt: HostRuntime) -> io::Resu
     let mut fail = Vec::new(alloc);
     fail.push(2)?;
     let mut keeper = ToldKeeper::new(rt, MemKeeper::new(Vec::new(alloc), fail));
-    let mut row = Vec::new(alloc);
+    append_one_of_two(&rt, &mut keeper);
+    read_one(&rt, alloc, &mut keeper);
+    assert!(rt; keeper.into_keeper().rows().len() == 1);
+    Ok(())
+}
+
+/// Appends a row, and one that fails.
+fn append_one_of_two<K: Keeper>(rt: &impl Abort, keeper: &mut K) {
     assert!(rt; keeper.append(b"ab") == Ok(()));
     assert!(rt; keeper.append(b"cd") == Err(KeepFault::Failed));
+}
+
+/// Reads the one row.
+fn read_one<K: Keeper>(rt: &impl Abort, alloc: Global, keeper: &mut K) {
+    let mut row = Vec::new(alloc);
     assert!(rt; keeper.len() == Ok(1));
     assert!(rt; keeper.row(0, &mut row) == Ok(true));
     assert!(rt; row.as_slice() == b"ab".as_slice());
     assert!(rt; keeper.row(1, &mut row) == Ok(false));
-    assert!(rt; keeper.into_keeper().rows().len() == 1);
-    Ok(())
 }

@@ -6,7 +6,7 @@ ghost use Rattle.sect_turn.specs.Passes.{front, own_calls, share, opening, IsIdl
 
 use super::first_day;
 use super::meeting::Meeting;
-use sect_base::{Caller, Chronicle, Id};
+use sect_base::{Caller, Chronicle, Id, Memory};
 use sect_edge::{Gate, Keeper, Link, MemKeeper, MemLink, MemSink, MemSource, OpenGate};
 use sect_office::{Office, Work, run_all};
 use sect_once::{Answer, Desk, Tally};
@@ -155,6 +155,39 @@ fn tellers<'a, G>(
     Ok(works)
 }
 
+/// The places of two runs and the desk, where memory sufficed for all three.
+fn all_of<W: Drop>(
+    first: Result<Vec<Vec<u32>>, (Memory, Vec<W>)>,
+    second: Result<Vec<Vec<u32>>, (Memory, Vec<W>)>,
+    desk: Result<Desk<Tally, MemKeeper>, Memory>,
+) -> Result<(Vec<Vec<u32>>, Vec<Vec<u32>>, Desk<Tally, MemKeeper>), AllocError> {
+    match (first, second, desk) {
+        (Ok(first), Ok(second), Ok(desk)) => Ok((first, second, desk)),
+        _ => Err(AllocError),
+    }
+}
+
+/// Runs tellers at an office, and then others, and gives the places of both times and the desk.
+fn run_both<G: Gate + Sync, R: Threads + Wait + Sync>(
+    rt: &R,
+    alloc: Global,
+    works: Vec<Teller<'_, G>>,
+    others: Vec<Teller<'_, G>>,
+) -> Result<(Vec<Vec<u32>>, Vec<Vec<u32>>, Desk<Tally, MemKeeper>), AllocError>
+    requires { (vec_len works ≤ 64) × (vec_len others ≤ 64) }
+{
+    let keeper = MemKeeper::new(Vec::new(alloc), Vec::new(alloc));
+    let Ok(desk) = Desk::<Tally, MemKeeper>::open(alloc, keeper) else {
+        return Err(AllocError);
+    };
+    let Ok((office, pass)) = Office::open(alloc, desk) else {
+        return Err(AllocError);
+    };
+    let (pass, first) = run_all(rt, alloc, &office, pass, works);
+    let (pass, second) = run_all(rt, alloc, &office, pass, others);
+    all_of(first, second, office.close(pass))
+}
+
 /// Runs as many tellers at an office, and then once more, and gives the places of both times and the desk.
 fn run_twice<G: Gate + Sync, R: Threads + Wait + Sync>(
     rt: &R,
@@ -165,21 +198,9 @@ fn run_twice<G: Gate + Sync, R: Threads + Wait + Sync>(
 ) -> Result<(Vec<Vec<u32>>, Vec<Vec<u32>>, Desk<Tally, MemKeeper>), AllocError>
     requires { callers ≤ 64 }
 {
-    let keeper = MemKeeper::new(Vec::new(alloc), Vec::new(alloc));
-    let Ok(desk) = Desk::<Tally, MemKeeper>::open(alloc, keeper) else {
-        return Err(AllocError);
-    };
-    let Ok((office, pass)) = Office::open(alloc, desk) else {
-        return Err(AllocError);
-    };
     let works = tellers(alloc, gate, callers, count)?;
-    let again = tellers(alloc, gate, callers, count)?;
-    let (pass, first) = run_all(rt, alloc, &office, pass, works);
-    let (pass, second) = run_all(rt, alloc, &office, pass, again);
-    match (first, second, office.close(pass)) {
-        (Ok(first), Ok(second), Ok(desk)) => Ok((first, second, desk)),
-        _ => Err(AllocError),
-    }
+    let others = tellers(alloc, gate, callers, count)?;
+    run_both(rt, alloc, works, others)
 }
 
 /// Whether a number is among the places.
