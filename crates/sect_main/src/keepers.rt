@@ -20,6 +20,7 @@ pub fn keeper_of(rt: HostRuntime, paths: Paths) -> Result<AnyKeeper, End> {
     Ok(AnyKeeper::Nowhere)
 }
 
+/// The keeper over the database at this path.
 fn open_database(rt: HostRuntime, path: &str) -> Result<AnyKeeper, End> {
     match SqliteKeeper::open(&rt, path) {
         Ok(keeper) => Ok(AnyKeeper::Sqlite(keeper)),
@@ -28,6 +29,7 @@ fn open_database(rt: HostRuntime, path: &str) -> Result<AnyKeeper, End> {
     }
 }
 
+/// The keeper over the journal at this path.
 fn open_journal(rt: HostRuntime, path: &str) -> Result<AnyKeeper, End> {
     let disk = match FileDisk::open(&rt, path) {
         Ok(disk) => disk,
