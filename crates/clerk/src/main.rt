@@ -15,6 +15,7 @@ use std::thread::Threads;
 /// What is told where the words aren't in the grammar.
 const USAGE: &str = "usage: clerk check|demand|explain|log|timetable|try\n";
 
+/// Calls the clerk, tells how that ended and ends with its number.
 fn main(rt: HostRuntime) -> ExitCode {
     hold_standard_files(rt);
     let end = match start(rt, &rt) {

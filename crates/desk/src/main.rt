@@ -22,6 +22,7 @@ use std::process::ExitCode;
 use std::sync::Wait;
 use std::thread::Threads;
 
+/// Calls the desk, tells how that ended and ends with its number.
 fn main(rt: HostRuntime) -> ExitCode {
     hold_standard_files(rt);
     let end = match start(rt, &rt) {

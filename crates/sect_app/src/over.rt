@@ -29,7 +29,7 @@ use sect_usage::{Words, help_of, version};
 use std::alloc::Global;
 use std::thread::Threads;
 
-/// Does what is asked for by one session. The keeper comes back.
+/// Does what is asked for, but for serving. The keeper comes back.
 pub(crate) fn do_asked<R: Threads + Sync, S: Source, T: Sink, K: Keeper, C: Clock + Drop>(
     rt: &R,
     alloc: Global,

@@ -45,6 +45,7 @@ pub fn print_status(status: Status, into: &mut Vec<u8>) -> Result<(), Memory>
     }
 }
 
+/// Appends the text of a line that can't be read, with its field. After `Memory` a part of it may stand at the end.
 fn print_bad_line(line: u64, field: u32, into: &mut Vec<u8>) -> Result<(), Memory>
     ensures text { OnOk result (into.new.items ≡ into.old.items ++ (codes "line " ++ (decimal line ++ (codes " field " ++ (decimal field ++ 10 ∷ []))))) }
     ensures front { take (length into.old.items) into.new.items ≡ into.old.items }
@@ -56,6 +57,7 @@ fn print_bad_line(line: u64, field: u32, into: &mut Vec<u8>) -> Result<(), Memor
     print_text("\n", into)
 }
 
+/// Appends the text of a row that is no entry. After `Memory` a part of it may stand at the end.
 fn print_bad_entry(row: u32, into: &mut Vec<u8>) -> Result<(), Memory>
     ensures text { OnOk result (into.new.items ≡ into.old.items ++ (codes "bad entry " ++ (decimal row ++ 10 ∷ []))) }
     ensures front { take (length into.old.items) into.new.items ≡ into.old.items }

@@ -50,6 +50,7 @@ pub fn answer_to<L: Ledger>(
     })
 }
 
+/// What becomes of the request: held, skipped, or what the search for it gives.
 fn line_result<L: Ledger>(
     alloc: Global,
     world: &World,

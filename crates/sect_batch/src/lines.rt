@@ -100,6 +100,7 @@ fn met(marks: &[Mark], student: StudentId) -> usize
         .count()
 }
 
+/// The mark of the student's line with this answer.
 fn marked(student: StudentId, answer: &Answer) -> Mark
     ensures { result ≡ mark_by student answer.now }
 {

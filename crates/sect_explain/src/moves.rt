@@ -75,6 +75,7 @@ fn move_of_ask(
     }
 }
 
+/// The move that takes one of the request's courses, at this rank.
 fn request_move(
     alloc: Global,
     student: StudentId,

@@ -95,7 +95,7 @@ swap_in d = do
   budget ← budget_in d
   Some (commands.Swap student given taken budget)
 
--- a student, a want, the course that stays held, none by default, and a class, 5 by default
+-- a student, a want, the course that is given up when it comes, none by default, and a class, 5 by default
 unfoldable pub wait_in : Data → Option Command
 wait_in d = do
   student ← required student_in (codes "student") d

@@ -17,6 +17,7 @@ use sect_text::print_reply;
 use serde_json::{Value, json};
 use std::alloc::{AllocError, Global};
 
+/// The object of a place and a reply, as a value.
 fn done_value(alloc: Global, place: u32, reply: &str) -> Result<Value, AllocError>
     ensures { IfOk result (λ v. view v ≡ object (member (codes "place") (number (unsigned place))
         (member (codes "reply") (string reply.now) no_members))) }
@@ -24,6 +25,7 @@ fn done_value(alloc: Global, place: u32, reply: &str) -> Result<Value, AllocErro
     json!(in alloc; {"place": place, "reply": reply})
 }
 
+/// The object of a place and a reply, as text.
 fn done_text(alloc: Global, place: u32, reply: &str) -> Result<String, AllocError>
     ensures { IfOk result (λ s. string_bytes s
         ≡ codes "{\"place\":" ++ (decimal place ++ (codes ",\"reply\":" ++ (quoted reply.now ++ codes "}")))) }
@@ -44,6 +46,7 @@ fn done(alloc: Global, place: u32, reply: &Reply) -> Result<String, Memory>
     }
 }
 
+/// The status of an answer.
 fn answer_status(answer: &Answer<Reply>) -> u16
     ensures { result ≡ answer_status answer.now }
 {
@@ -55,6 +58,7 @@ fn answer_status(answer: &Answer<Reply>) -> u16
     }
 }
 
+/// Appends the object of a request that acted. After `Memory` the bytes are as before.
 fn print_done(place: u32, reply: &Reply, into: &mut Vec<u8>) -> Result<(), Memory>
     ensures text { OnOk result (into.new.items ≡ into.old.items
         ++ (codes "{\"place\":" ++ (decimal place ++ (codes ",\"reply\":" ++ (quoted (reply_text reply.now) ++ codes "}"))))) }
@@ -64,6 +68,7 @@ fn print_done(place: u32, reply: &Reply, into: &mut Vec<u8>) -> Result<(), Memor
     append(text.as_bytes(), into)
 }
 
+/// Appends that the number was reused, with the place. After `Memory` the bytes are as before; room for 64 is enough.
 fn print_reused(place: u32, into: &mut Vec<u8>) -> Result<(), Memory>
     ensures text { OnOk result (into.new.items ≡ into.old.items ++ (codes "{\"error\":\"reused\",\"place\":" ++ (decimal place ++ codes "}"))) }
     ensures memory { OnErr result (into.new.items ≡ into.old.items) }

@@ -52,6 +52,7 @@ pub(crate) fn ranged(value: &Value, most: u32) -> Option<u32>
     if 1 <= number { Some(number) } else { None }
 }
 
+/// The number of at most 4,294,967,295.
 fn read_u32(value: &Value) -> Result<u32, Fault>
     ensures { Means result (u32_in (view value.now)) }
 {
@@ -96,6 +97,7 @@ impl FromJson for StudentId {
     }
 }
 
+/// The values that the elements say, in their order.
 fn read_each<T: FromJson>(alloc: Global, values: &[Value]) -> Result<Items<T>, Fault>
     ensures { Means result (each_in T.reads (items_view values.now)) }
 {

@@ -105,6 +105,7 @@ fn is_named(verb: Verb, value: &Value) -> bool
     }
 }
 
+/// What is wanted: courses, the only sections, none by default, and a rank, 21 by default.
 #[tactic(auto, unfolding(crate::specs::Bodies::want_in))]
 fn want(alloc: Global, value: &Value) -> Result<Want, Fault>
     ensures { Means result (want_in (view value.now)) }
@@ -131,6 +132,7 @@ impl FromJson for Want {
     }
 }
 
+/// The budget, 2,000 by default.
 fn budget(value: &Value) -> Result<Budget, Fault>
     ensures { Means result (budget_in (view value.now)) }
 {
@@ -140,6 +142,7 @@ fn budget(value: &Value) -> Result<Budget, Fault>
     }
 }
 
+/// The command of a student, a want and a budget.
 #[tactic(auto, unfolding(crate::specs::Bodies::enrol_in))]
 fn enrol(alloc: Global, value: &Value) -> Result<Command, Fault>
     ensures { Means result (enrol_in (view value.now)) }
@@ -154,6 +157,7 @@ fn enrol(alloc: Global, value: &Value) -> Result<Command, Fault>
     })
 }
 
+/// The command of a student and a course that is given up.
 #[tactic(auto, unfolding(crate::specs::Bodies::drop_in))]
 fn drop_course(alloc: Global, value: &Value) -> Result<Command, Fault>
     ensures { Means result (drop_in (view value.now)) }
@@ -163,6 +167,7 @@ fn drop_course(alloc: Global, value: &Value) -> Result<Command, Fault>
     Ok(Command::Drop { student, course })
 }
 
+/// The command of a student, the courses that are given up, the wants that are taken, and a budget.
 #[tactic(auto, unfolding(crate::specs::Bodies::swap_in))]
 fn swap(alloc: Global, value: &Value) -> Result<Command, Fault>
     ensures { Means result (swap_in (view value.now)) }
@@ -179,6 +184,7 @@ fn swap(alloc: Global, value: &Value) -> Result<Command, Fault>
     })
 }
 
+/// The command of a student, a want, the course that is given up when it comes, none by default, and a class, 5 by default.
 #[tactic(auto, unfolding(crate::specs::Bodies::wait_in))]
 fn wait(alloc: Global, value: &Value) -> Result<Command, Fault>
     ensures { Means result (wait_in (view value.now)) }
@@ -195,6 +201,7 @@ fn wait(alloc: Global, value: &Value) -> Result<Command, Fault>
     })
 }
 
+/// The command of a student and a ticket.
 #[tactic(auto, unfolding(crate::specs::Bodies::unwait_in))]
 fn unwait(alloc: Global, value: &Value) -> Result<Command, Fault>
     ensures { Means result (unwait_in (view value.now)) }
@@ -228,6 +235,7 @@ fn line(alloc: Global, value: &Value) -> Result<Command, Fault>
     }
 }
 
+/// The command that the members of a body with this verb say.
 fn arguments(alloc: Global, verb: Verb, value: &Value) -> Result<Command, Fault>
     ensures { Means result (arguments_in verb (view value.now)) }
 {

@@ -27,6 +27,7 @@ pub fn mark_day(world: &World, queue: &Queue, day: Day, marks: &mut Marks) -> Re
     }
 }
 
+/// Whether the day is later than the other.
 fn is_later(day: Day, than: Day) -> bool
     ensures { result ≡ nat_lt than day }
 {

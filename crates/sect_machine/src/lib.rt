@@ -1,4 +1,4 @@
-//! The sectioning machine: a command acts on a day, and the waiting list settles.
+//! The sectioning machine: a command acts on a day, and the wait-list settles.
 #![tactic(auto)]
 
 mod act;

@@ -179,6 +179,7 @@ pub fn enrol_move(alloc: Global, student: StudentId, want: &Want) -> Result<Move
     })
 }
 
+/// The reply to an enrolment with this outcome.
 fn enrolled(outcome: Outcome) -> Reply
     ensures { result ≡ outcome_reply reply_to_enrolment outcome }
 {
@@ -192,6 +193,7 @@ fn enrolled(outcome: Outcome) -> Reply
     }
 }
 
+/// The reply to a swap with this outcome.
 fn swapped(outcome: Outcome) -> Reply
     ensures { result ≡ outcome_reply Reply.Swapped outcome }
 {

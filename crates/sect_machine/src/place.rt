@@ -74,6 +74,7 @@ fn subpart_of(subparts: &[SubpartRow], section: SectionId) -> Option<SubpartId>
     Some(subpart.id)
 }
 
+/// Whether the subpart has the section.
 fn has(subpart: &SubpartRow, section: SectionId) -> bool
     ensures { result ≡ has_section section subpart.now }
 {

@@ -1,4 +1,4 @@
-// Who waits: a student joins the waiting list, or leaves it.
+// Who waits: a student joins the wait-list, or leaves it.
 
 ghost use Rattle.std.specs.Prelude.{◌≡◌, IfOk, OnOk};
 ghost use Rattle.sect_wait.specs.Queued.{joined, left as queue_without};

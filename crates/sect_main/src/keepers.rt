@@ -19,6 +19,7 @@ pub fn keeper_of(rt: HostRuntime, paths: &Paths) -> Result<AnyKeeper, End> {
     Ok(AnyKeeper::Nowhere)
 }
 
+/// The keeper over the database at this path.
 fn open_database(rt: HostRuntime, path: &str) -> Result<AnyKeeper, End> {
     match SqliteKeeper::open(&rt, path) {
         Ok(keeper) => Ok(AnyKeeper::Sqlite(keeper)),
@@ -27,6 +28,7 @@ fn open_database(rt: HostRuntime, path: &str) -> Result<AnyKeeper, End> {
     }
 }
 
+/// The keeper over the journal at this path.
 fn open_journal(rt: HostRuntime, path: &str) -> Result<AnyKeeper, End> {
     match FileDisk::open(&rt, path) {
         Ok(disk) => start_journal(rt, disk),

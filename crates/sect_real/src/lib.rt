@@ -1,5 +1,5 @@
-//! The keepers of the program: in memory, in a database of SQLite and in a journal. With them come the real objects of
-//! `sect_system`, and the links of `sect_net`.
+//! The keepers of the program: in a database of SQLite, in a journal, or none, by which no row is kept. With them come the
+//! real objects of `sect_system`, and the links of `sect_net`.
 #![tactic(auto)]
 
 mod any;

@@ -37,6 +37,7 @@ impl Model for Kept {
 }
 
 impl Kept {
+    /// No bytes, and no rows given. It takes no memory.
     pub(crate) fn new(alloc: Global) -> Kept
         ensures { result ≡ [] }
     {
@@ -96,6 +97,7 @@ impl Kept {
     }
 }
 
+/// Takes so many items off the front.
 fn drop_first<T: Drop>(items: &mut Vec<T>, count: usize)
     requires { count ≤ length items.old.items }
     ensures { items.new.items ≡ drop count items.old.items }

@@ -1,4 +1,4 @@
-// The rows of a CSV text that comes in pieces.
+//! The rows of a CSV text that comes in pieces.
 #![tactic(auto)]
 
 mod kept;

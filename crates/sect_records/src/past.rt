@@ -17,6 +17,7 @@ impl Model for Past {
 }
 
 impl Past {
+    /// No bytes.
     pub(crate) fn new() -> Past
         ensures { result.bytes ≡ [] }
     {
@@ -25,6 +26,7 @@ impl Past {
         }
     }
 
+    /// Puts the piece behind the bytes that came.
     pub(crate) fn note(&mut self, _piece: &[u8])
         ensures { self.new.bytes ≡ self.old.bytes ++ _piece.now }
     {}

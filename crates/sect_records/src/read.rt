@@ -37,6 +37,7 @@ pub(crate) fn read_lines(
     Ok(Ended { rows, whole })
 }
 
+/// Whether the row is the one byte that stands behind the lines, by itself.
 fn is_one_byte(row: &ByteRecord) -> bool
     ensures { IsTrue result → fields_of row.now ≡ (120 ∷ []) ∷ [] }
 {

@@ -1,4 +1,4 @@
-//! Why a command is refused: the first condition that holds, in numbered order.
+//! Why a command is refused: the first condition that holds, in their order.
 #![tactic(auto)]
 
 mod held;

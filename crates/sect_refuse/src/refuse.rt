@@ -1,4 +1,4 @@
-// The first condition of a command that holds, in numbered order.
+// The first condition of a command that holds, in their order.
 
 ghost use Rattle.std.specs.Prelude.{◌≡◌, ℕ};
 ghost use Rattle.sect_model.specs.Refusals.{refusal_of};
@@ -11,7 +11,7 @@ use sect_command::{Command, Refusal};
 use sect_model::Waiting;
 use sect_space::World;
 
-/// Why the command is refused in the world, with these entries waiting: the first condition that holds, in numbered order.
+/// Why the command is refused in the world, with these entries waiting: the first condition that holds, in their order.
 /// None exactly where the command is not refused. What the next ticket is counts for nothing. It takes no memory.
 #[tactic(auto, unfolding(sect_model::specs::Refusals::refusal_of))]
 pub fn refusal(

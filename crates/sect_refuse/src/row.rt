@@ -136,6 +136,7 @@ fn has_in_listed(config: &ConfigRow, configs: &[ConfigId], section: SectionId) -
     configs.contains(&config.id) && has_section(config.subparts.as_slice(), section)
 }
 
+/// Whether one of the subparts has the section.
 fn has_section(subparts: &[SubpartRow], id: SectionId) -> bool
     ensures { result ≡ list_any (λ s. s.id.0 == id.0) (sections_in subparts.now) }
 {

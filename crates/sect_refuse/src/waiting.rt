@@ -1,4 +1,4 @@
-// Entries of the waiting list.
+// Entries of the wait-list.
 
 ghost use Rattle.std.specs.Prelude.{◌≡◌, ◌==◌, ◌&&◌, nat_le, not, map, filter, length, Some};
 ghost use Rattle.std.specs.Bool.{then_some};
@@ -101,6 +101,7 @@ fn share_course(courses: &[CourseId], others: &[CourseId]) -> bool
     courses.iter().any(|course| has(others, *course))
 }
 
+/// Whether the course is among the others.
 fn has(others: &[CourseId], course: CourseId) -> bool
     ensures { result ≡ list_any (λ y. course.0 == y.0) others.now }
 {

@@ -86,7 +86,7 @@ schedule_text v = line_text (
     ∷ codes "max" ∷ decimal v.max
     ∷ []) ++ flat_map choice_text v.held
 
--- an entry of the waiting list
+-- an entry of the wait-list
 abbrev pub wait_text : WaitView → List ℕ
 wait_text w = line_text (
     codes "ticket" ∷ decimal w.ticket

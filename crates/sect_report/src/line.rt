@@ -87,6 +87,7 @@ fn print_word(word: &Word, into: &mut Vec<u8>) -> Result<(), Memory>
     }
 }
 
+/// Appends unreserved space, or a dash where there is no limit. After `Memory` the bytes are as before.
 fn print_space(space: Option<i64>, into: &mut Vec<u8>) -> Result<(), Memory>
     ensures text { OnOk result (into.new.items ≡ into.old.items ++ space_text space) }
     ensures memory { OnErr result (into.new.items ≡ into.old.items) }

@@ -1,4 +1,4 @@
-// The reports on students: rolls, schedules, the waiting list and unmet requests.
+// The reports on students: rolls, schedules, the wait-list and unmet requests.
 
 ghost use Rattle.sect_report.specs.Report.{choice_text, held_text, roll_text, schedule_text, unmet_text, wait_text};
 

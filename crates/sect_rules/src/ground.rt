@@ -26,6 +26,7 @@ pub fn ground_of(world: &World, course: Option<CourseId>) -> Option<Ground<'_>>
     Some(ground_in(world, offering))
 }
 
+/// The ground of the offering.
 fn ground_in<'a>(world: &'a World, offering: &'a OfferingRow) -> Ground<'a>
     ensures offering { result.offering.now ≡ offering.now }
     ensures reservations { result.reservations.now ≡ reservations_of world.now.world offering.now.id }

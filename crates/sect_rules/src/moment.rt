@@ -73,30 +73,35 @@ impl<'a> Moment<'a> {
         }
     }
 
+    /// The student of the move.
     pub fn student(&self) -> StudentId
         ensures { result ≡ self.now.student }
     {
         self.student
     }
 
+    /// The catalogue of the world.
     pub fn catalogue(&self) -> &Catalogue
         ensures { result.now ≡ self.now.at.catalogue }
     {
         self.world.catalogue()
     }
 
+    /// The students of the world.
     pub fn people(&self) -> &People
         ensures { result.now ≡ self.now.at.students }
     {
         self.world.people()
     }
 
+    /// The reservation with this id.
     pub fn reservation(&self, id: ReservationId) -> Option<&Reservation>
         ensures { option_copied result ≡ reservation_of self.now.at id }
     {
         self.world.reservation(id)
     }
 
+    /// The day of the world.
     pub fn day(&self) -> Day
         ensures { result ≡ self.now.at.day }
     {

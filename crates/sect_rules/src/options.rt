@@ -106,6 +106,7 @@ pub fn option_in(options: &Options, i: usize) -> Option<Pick>
     }
 }
 
+/// The course at a place, as an option.
 fn course_option(courses: &[CourseId], i: usize) -> Option<Pick>
     ensures { result ≡ slice_get (map Course courses.now) i }
 {
@@ -113,6 +114,7 @@ fn course_option(courses: &[CourseId], i: usize) -> Option<Pick>
     Some(Pick::Course(*course))
 }
 
+/// The configuration that `i` others precede by id, as an option.
 fn config_option(rows: &Ordered<ConfigRow>, i: usize) -> Option<Pick>
     ensures { result ≡ slice_get (map (λ g. to_config g.id) (sorted_by (λ g. g.id.0) rows.now)) i }
 {
@@ -120,6 +122,7 @@ fn config_option(rows: &Ordered<ConfigRow>, i: usize) -> Option<Pick>
     Some(Pick::Config(row.id))
 }
 
+/// The section that `i` others precede by id, as an option.
 fn section_option(rows: &Ordered<SectionRow>, i: usize) -> Option<Pick>
     ensures { result ≡ slice_get (map (λ s. to_section s.id) (sorted_by (λ s. s.id.0) rows.now)) i }
 {

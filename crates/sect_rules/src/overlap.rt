@@ -26,6 +26,7 @@ pub fn any_overlap(meetings: &[Meeting], others: &[Meeting]) -> bool
     meetings.iter().any(|meeting| overlaps_any(meeting, others))
 }
 
+/// Whether the meeting overlaps one of the others.
 fn overlaps_any(meeting: &Meeting, others: &[Meeting]) -> bool
     ensures { result ≡ list_any (meetings_overlap meeting.now) others.now }
 {

@@ -37,6 +37,7 @@ impl<'a> Model for Parted<'a> {
 }
 
 impl<'a> Parted<'a> {
+    /// The reservations, whose ids differ.
     pub fn new(rows: &'a [Reservation]) -> Parted<'a>
         requires { IsTrue (all_differ (map (λ r. r.id.0) rows.now)) }
         ensures { result ≡ rows.now }
@@ -137,6 +138,7 @@ fn part_len(rows: &[Reservation], must: bool) -> usize
     rows.iter().filter(|row| is_of_part(row, must)).count()
 }
 
+/// Whether the reservation is obligatory, or whether it is not.
 fn is_of_part(row: &Reservation, must: bool) -> bool
     ensures { result ≡ of_part must row.now }
 {

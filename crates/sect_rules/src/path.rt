@@ -123,6 +123,7 @@ impl<const N: usize> PathOf<N> {
         mv.take.len() <= self.done().len()
     }
 
+    /// The same path, as a value of its own.
     fn copied(&self) -> PathOf<N>
         ensures { result ≡ self.now }
     {

@@ -36,6 +36,7 @@ fn meets_ask(meetings: &[Meeting], ask: &Ask) -> bool
     }
 }
 
+/// Whether one of the meetings overlaps this one.
 fn overlaps_one(meetings: &[Meeting], meeting: &Meeting) -> bool
     ensures { result ≡ lists_overlap meetings.now (meeting.now ∷ []) }
 {
@@ -157,7 +158,8 @@ impl Moment<'_> {
         requires ground { IsGround self.now.at ground.now }
         requires bound { length sections < 6 }
         requires row { option_copied row ≡ find_section self.now.at.catalogue.rows section }
-        ensures { result ≡ first_broken (standing_rules self.now.at self.now.student ground.now.offering.now course (option_copied r.entry) config sections section) }
+        ensures { result ≡ first_broken (standing_rules self.now.at self.now.student
+            ground.now.offering.now course (option_copied r.entry) config sections section) }
     {
         let earlier = sections.as_slice();
         if self.excludes_section(r, course, config, earlier, section) {

@@ -61,6 +61,7 @@ impl<'a, const N: usize> Stage<'a, N> {
         }
     }
 
+    /// The stage of a path on the ground of its course.
     fn on(
         world: &'a World,
         mv: &'a Move,
@@ -90,6 +91,7 @@ impl<'a, const N: usize> Stage<'a, N> {
         self.option_at(i)
     }
 
+    /// The option at a place.
     fn option_at(&self, i: usize) -> Option<Pick>
         ensures { result ≡ slice_get (options_at self.now.world self.now.mv self.now.path) i }
     {

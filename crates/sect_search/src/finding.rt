@@ -60,6 +60,7 @@ pub fn search_in<const N: usize, L: Ledger>(
     find::<N>(alloc, world, mv, budget)
 }
 
+/// The same, but that no step is counted.
 fn find<const N: usize>(
     alloc: Global,
     world: &World,

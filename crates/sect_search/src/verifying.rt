@@ -51,6 +51,7 @@ fn covers_all<const N: usize>(world: &World, mv: &Move, tree: &Block) -> bool
     }
 }
 
+/// The tree at a place, which is smaller than all of them together.
 fn tree_at(trees: &[Block], at: usize) -> Option<&Block>
     ensures value { option_copied result ≡ slice_get trees.now at }
     ensures smaller { IfSome result (λ tree. size_of tree.now < sizes_of (trees_of trees.now)) }
@@ -58,6 +59,7 @@ fn tree_at(trees: &[Block], at: usize) -> Option<&Block>
     tree_in(trees, at)
 }
 
+/// The tree at a place.
 fn tree_in(trees: &[Block], at: usize) -> Option<&Block>
     ensures { option_copied result ≡ slice_get trees.now at }
 {

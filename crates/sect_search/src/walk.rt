@@ -85,6 +85,7 @@ fn visit<const N: usize>(
     }
 }
 
+/// The choices, as a list of their own.
 fn choices(alloc: Global, done: &[Choice]) -> Result<Items<Choice>, Memory>
     ensures { IfOk result (λ choices. choices ≡ done.now) }
 {

@@ -1,4 +1,4 @@
-// A count of the steps of a computation.
+//! A count of the steps of a computation.
 #![tactic(auto)]
 
 ghost use Rattle.std.specs.Prelude.{◌≡◌, ◌+◌, ◌<◌, min};

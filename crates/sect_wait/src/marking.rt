@@ -311,6 +311,7 @@ pub(crate) fn frees(world: &World, choice: &Choice) -> bool
     }
 }
 
+/// Whether the limit is a number of places.
 fn is_limited(limit: Limit) -> bool
     ensures { result ≡ is_some (places_of limit) }
 {
@@ -328,12 +329,14 @@ fn lists_only(choice: &Choice, row: &Reservation) -> bool
         && are_among(row.includes.sections.as_slice(), choice.sections.as_slice())
 }
 
+/// Whether each of the configurations is this one.
 fn are_all(configs: &[ConfigId], id: ConfigId) -> bool
     ensures { result ≡ list_all (λ c. c.0 == id.0) configs.now }
 {
     configs.iter().all(|config| *config == id)
 }
 
+/// Whether the section of each place is among the sections.
 fn are_among(places: &[Place], sections: &[SectionId]) -> bool
     ensures { result ≡ list_all (λ p. is_among sections.now p.section) places.now }
 {
@@ -342,6 +345,7 @@ fn are_among(places: &[Place], sections: &[SectionId]) -> bool
         .all(|place| has_section(sections, place.section))
 }
 
+/// Whether the section is among these.
 fn has_section(sections: &[SectionId], id: SectionId) -> bool
     ensures { result ≡ is_among sections.now id }
 {

@@ -65,6 +65,7 @@ fn take(index: &mut BTreeMap<u32, Vec<u64>>, number: u32, ticket: u64)
     }
 }
 
+/// Takes a ticket away from the tickets.
 fn remove(tickets: &mut Vec<u64>, ticket: u64)
     ensures { tickets.new.items ≡ filter (λ t. not (t == ticket)) tickets.old.items }
 {
