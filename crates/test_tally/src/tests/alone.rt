@@ -32,11 +32,6 @@ fn desk_of(
     }
 }
 
-/// What the registrar's request with this number is answered.
-fn answer(desk: &mut Desk<Tally, MemKeeper>, number: u64, day: Day, count: u8) -> Answer<u64> {
-    desk.ask(id(number), day, count)
-}
-
 /// Place and reply of an answer that is Done.
 fn done(answer: Answer<u64>) -> Option<(u32, u64)> {
     match answer {
@@ -49,7 +44,7 @@ fn done(answer: Answer<u64>) -> Option<(u32, u64)> {
 fn ask_ones(desk: &mut Desk<Tally, MemKeeper>, count: u64) -> u64 {
     let mut acted = 0u64;
     for number in 0..count {
-        if let Some((_, _)) = done(answer(desk, number, first_day(), 1)) {
+        if let Some((_, _)) = done(desk.ask(id(number), first_day(), 1)) {
             acted = acted.wrapping_add(1);
         }
     }
@@ -75,15 +70,10 @@ fn a_repeat_has_its_kept_reply(rt: HostRuntime) -> Result<(), Fail> {
     let Ok(mut desk) = desk_of(alloc, Vec::new(alloc), Vec::new(alloc)) else {
         panic!(rt; "it opens")
     };
-    assert!(rt; done(answer(&mut desk, 0, first_day(), 5)) == Some((0, 5)));
-    assert!(rt; done(answer(&mut desk, 1, first_day(), 7)) == Some((1, 12)));
-    assert!(rt; done(answer(&mut desk, 0, later(), 5)) == Some((0, 5)));
-    assert!(rt;
-        matches!(
-            answer(&mut desk, 0, first_day(), 6),
-            Answer::NumberReused(0)
-        )
-    );
+    assert!(rt; done(desk.ask(id(0), first_day(), 5)) == Some((0, 5)));
+    assert!(rt; done(desk.ask(id(1), first_day(), 7)) == Some((1, 12)));
+    assert!(rt; done(desk.ask(id(0), later(), 5)) == Some((0, 5)));
+    assert!(rt; matches!(desk.ask(id(0), first_day(), 6), Answer::NumberReused(0)));
     assert_eq!(rt; desk.acted(), 2);
     assert!(rt; matches!(desk.look(&()), Ok(12)));
     Ok(())
@@ -109,11 +99,11 @@ fn a_fault_of_the_keeper_is_undone(rt: HostRuntime) -> Result<(), Fail> {
         panic!(rt; "it opens")
     };
     assert_eq!(rt; ask_ones(&mut desk, 3), 3);
-    assert!(rt; matches!(answer(&mut desk, 3, first_day(), 1), Answer::KeeperFault));
+    assert!(rt; matches!(desk.ask(id(3), first_day(), 1), Answer::KeeperFault));
     assert_eq!(rt; desk.acted(), 3);
     assert_eq!(rt; desk.len(), 4);
     assert!(rt; matches!(desk.look(&()), Ok(3)));
-    assert!(rt; done(answer(&mut desk, 3, first_day(), 1)) == Some((3, 4)));
+    assert!(rt; done(desk.ask(id(3), first_day(), 1)) == Some((3, 4)));
     assert_eq!(rt; desk.len(), 5);
     Ok(())
 }
@@ -186,7 +176,7 @@ fn rows_are_replayed(rt: HostRuntime) -> Result<(), Fail> {
         panic!(rt; "it opens")
     };
     assert_eq!(rt; desk.acted(), 3);
-    assert!(rt; done(answer(&mut desk, 1, first_day(), 1)) == Some((1, 2)));
-    assert!(rt; done(answer(&mut desk, 3, first_day(), 1)) == Some((3, 4)));
+    assert!(rt; done(desk.ask(id(1), first_day(), 1)) == Some((1, 2)));
+    assert!(rt; done(desk.ask(id(3), first_day(), 1)) == Some((3, 4)));
     Ok(())
 }
