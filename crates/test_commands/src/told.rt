@@ -1,15 +1,15 @@
 // What came of a run, in a text.
 
-use crate::runs::Ended;
+use crate::stand::Stand;
 use sect_app::{Status, number_of, print_status};
 use sect_base::Memory;
 use sect_edge::{MemKeeper, MemLink};
 use std::alloc::Global;
 
 /// Puts the status, how many rows the keeper has and what was written behind the text.
-pub fn put_ended(alloc: Global, ended: &Ended, into: &mut String) -> Result<(), Memory> {
-    put_end(alloc, ended.status, ended.keeper.as_ref(), into)?;
-    put_bytes(ended.sink.bytes(), into)
+pub fn put_ended(alloc: Global, stand: &Stand, into: &mut String) -> Result<(), Memory> {
+    put_end(alloc, stand.status, stand.keeper.as_ref(), into)?;
+    put_bytes(stand.written(), into)
 }
 
 /// Puts the status, and how many rows the keeper has.

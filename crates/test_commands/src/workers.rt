@@ -3,8 +3,9 @@
 ghost use Rattle.std.specs.Prelude.{◌≡◌, IfOk, length};
 
 use crate::keepers::{NONE_FAILS, keeper_of};
-use crate::runs::{Ended, RUN, Setting, run_on_links};
+use crate::runs::{RUN, Setting, run_on_links};
 use crate::sent::{FIRST, SECOND, link_of};
+use crate::stand::Stand;
 use crate::told::{put_end, put_talk};
 use sect_base::Memory;
 use sect_edge::{Gate, MemLink, OpenGate};
@@ -34,15 +35,16 @@ fn serve<G: Gate + Sync, R: AllocGlobal + Threads + Wait + Sync>(
     rt: &R,
     gate: &G,
     failing_accept: u64,
-) -> Result<(Ended, Vec<MemLink>), Memory> {
+) -> Result<(Stand, Vec<MemLink>), Memory> {
     let alloc = rt.alloc();
-    let keeper = keeper_of(alloc, THREE_ROWS, NONE_FAILS)?;
     let links = links(alloc, failing_accept)?;
+    let mut stand = Stand::new(Some(keeper_of(alloc, THREE_ROWS, NONE_FAILS)?));
     let setting = Setting {
         words: "serve --port 8080 --sessions 1",
         ..RUN
     };
-    run_on_links(rt, &setting, Vec::new(alloc), keeper, links, gate)
+    let links = run_on_links(rt, &setting, &[], &mut stand, links, gate)?;
+    Ok((stand, links))
 }
 
 /// Tells what comes of two workers that meet, and of two of which the second one's link fails.
@@ -79,12 +81,17 @@ fn put_fault<R: AllocGlobal + Threads + Wait + Sync>(
     rt: &R,
     into: &mut String,
 ) -> Result<(), Memory> {
-    let (ended, links) = serve(rt, &OpenGate, 1)?;
+    let (stand, links) = serve(rt, &OpenGate, 1)?;
     into.push_str("a link that fails: ")?;
-    put_end(rt.alloc(), ended.status, ended.keeper.as_ref(), into)?;
-    put_told(&links, 0, into)?;
+    put_end(rt.alloc(), stand.status, stand.keeper.as_ref(), into)?;
+    put_both(&links, into)
+}
+
+/// Puts what the first connection of each link was told, and ends the line.
+fn put_both(links: &[MemLink], into: &mut String) -> Result<(), Memory> {
+    put_told(links, 0, into)?;
     into.push_str(", ")?;
-    put_told(&links, 1, into)?;
+    put_told(links, 1, into)?;
     into.push('\n')?;
     Ok(())
 }
