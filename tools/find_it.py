@@ -329,7 +329,7 @@ GROUPS = [
         ('When a connection closes', OVER_HTTP, ['sect_talk/specs/Asked.antt: asks_close', 'sect_talk/specs/Asked.antt: closes'],
          ['sect_head/src/close.rt: asks_close', 'sect_http/src/turn.rt: closes'], ROWS + '# Connections that close.'),
         ('Many connections at one desk', '`serve`', ['sect_serve/specs/Serving.antt: Serves'], ['sect_serve/src/serving.rt: serve',
-         'sect_office/src/office.rt: open'], 'test_tally/src/tests/shared.rt: two_workers_run_at_once'),
+         'sect_office/src/office.rt: open'], 'test_tally/src/tests/served.rt: two_workers_serve_at_once'),
         ('One holder at a time', '`serve`', ['sect_turn/specs/Rule.antt: IsKept'], ['sect_turn/src/calls.rt: take'],
          'test_tally/src/tests/shared.rt: many_threads_share_one_history'),
     ]),

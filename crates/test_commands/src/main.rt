@@ -45,9 +45,9 @@
 //!
 //! `== journal`, `== workers` and `== calling` have no lines. The first tells what the desk answers over a journal of which each
 //! call of the fourth append fails, the next call, and a call with a crash behind it: for each opening the status and what was
-//! written, and then how many rows the journal has. The second tells what comes of two workers that meet, and of two of which
-//! the link of the second one fails: the status, how many rows the keeper has, and what each link's connection was told. The
-//! third tells what a program is answered that calls the library.
+//! written, and then how many rows the journal has. The second tells what comes of two workers of which the link of the
+//! second one fails: the status, how many rows the keeper has, and what each link's connection was told. The third tells what a
+//! program is answered that calls the library.
 #![tactic(auto)]
 
 mod bodies;

@@ -6,7 +6,7 @@ use crate::stand::Stand;
 use crate::streams::{clock, sink_of, source_of};
 use sect_app::desk;
 use sect_base::Memory;
-use sect_edge::{Gate, Keeper, MemClock, MemLink, MemSink, MemSource, OpenGate};
+use sect_edge::{Keeper, MemClock, MemLink, MemSink, MemSource, OpenGate};
 use std::alloc::{AllocGlobal, Global};
 use std::sync::Wait;
 use std::thread::Threads;
@@ -63,7 +63,7 @@ fn clocks(alloc: Global) -> Result<Vec<MemClock>, Memory>
     Ok(clocks)
 }
 
-/// What stands around a command, beside its keeper, its links and its gate.
+/// What stands around a command, beside its keeper and its links.
 #[derive(Drop)]
 pub struct Around {
     pub words: Vec<String>,
@@ -106,22 +106,17 @@ pub fn run_over<R: AllocGlobal + Threads + Wait + Sync, K: Keeper + Send + Drop>
 ) -> Result<(), Memory> {
     let alloc = rt.alloc();
     let links = link_alone(alloc, MemLink::new(Vec::new(alloc), Vec::new(alloc)))?;
-    let _ = run_on_links(rt, setting, input, stand, links, &OpenGate)?;
+    let _ = run_on_links(rt, setting, input, stand, links)?;
     Ok(())
 }
 
-/// The same over these links, one or two, which come back, with this gate.
-pub fn run_on_links<
-    R: AllocGlobal + Threads + Wait + Sync,
-    K: Keeper + Send + Drop,
-    G: Gate + Sync,
->(
+/// The same over these links, one or two, which come back.
+pub fn run_on_links<R: AllocGlobal + Threads + Wait + Sync, K: Keeper + Send + Drop>(
     rt: &R,
     setting: &Setting<'_>,
     input: &[u8],
     stand: &mut Stand<K>,
     links: Vec<MemLink>,
-    gate: &G,
 ) -> Result<Vec<MemLink>, Memory>
     requires some { 0 < length links.items }
     requires most { length links.items ≤ 2 }
@@ -141,7 +136,7 @@ pub fn run_on_links<
         links,
         keeper,
         clocks,
-        gate,
+        &OpenGate,
     );
     *stand = Stand::left(keeper, status, sink);
     Ok(links)

@@ -1,12 +1,10 @@
-//! The desk of a tally, asked alone and by threads, and until its log is full, and a gate where two workers meet: tests
+//! The desk of a tally, asked alone and by threads, and until its log is full, and a desk at which two workers serve: tests
 //! alone.
 #![tactic(auto)]
 
 mod full;
-mod meeting;
 
 pub use full::{MOST, Sums, add, ones};
-pub use meeting::Meeting;
 
 #[cfg(test)]
 mod tests;

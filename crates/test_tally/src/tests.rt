@@ -1,7 +1,9 @@
-// A tally's desk.
+// A tally's desk, and one that is served.
 
 mod alone;
 mod full;
+mod meeting;
+mod served;
 mod shared;
 
 use sect_time::Day;

@@ -8,6 +8,7 @@ use sect_wire::{
 use std::alloc::Global;
 
 mod tables;
+mod times;
 mod values;
 mod worked;
 

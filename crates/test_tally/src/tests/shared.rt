@@ -5,7 +5,7 @@ ghost use Rattle.sect_once.specs.Tallies.{caller_number};
 ghost use Rattle.sect_turn.specs.Passes.{front, own_calls, share, opening, IsIdle, IsPassOf};
 
 use super::first_day;
-use crate::Meeting;
+use super::meeting::Meeting;
 use sect_base::{Caller, Chronicle, Id};
 use sect_edge::{Gate, Keeper, Link, MemKeeper, MemLink, MemSink, MemSource, OpenGate};
 use sect_office::{Office, Work, run_all};
@@ -108,17 +108,18 @@ fn place_of<K: Keeper, R: Wait>(
     }
 }
 
-/// Both ends of a connection without a byte.
-fn ends(alloc: Global) -> Result<(MemSource, MemSink), AllocError> {
-    match MemSink::new(alloc, 1, 1, Vec::new(alloc)) {
-        Ok(sink) => Ok((MemSource::new(Vec::new(alloc), 1, Vec::new(alloc)), sink)),
+/// Both ends of a connection that sends these bytes.
+fn ends(alloc: Global, sent: &[u8]) -> Result<(MemSource, MemSink), AllocError> {
+    let bytes = sent.to_vec(alloc)?;
+    match MemSink::new(alloc, 1_000, 1_000, Vec::new(alloc)) {
+        Ok(sink) => Ok((MemSource::new(bytes, 1_000, Vec::new(alloc)), sink)),
         Err(_) => Err(AllocError),
     }
 }
 
-/// A link with one connection to come.
-fn a_link(alloc: Global) -> Result<MemLink, AllocError> {
-    let talks = vec![in alloc; ends(alloc)?]?;
+/// A link with one connection to come, which sends these bytes.
+pub(super) fn a_link(alloc: Global, sent: &[u8]) -> Result<MemLink, AllocError> {
+    let talks = vec![in alloc; ends(alloc, sent)?]?;
     Ok(MemLink::new(talks, Vec::new(alloc)))
 }
 
@@ -130,7 +131,7 @@ fn a_teller<'a, G>(
     count: u64,
 ) -> Result<Teller<'a, G>, AllocError> {
     Ok(Teller {
-        link: a_link(alloc)?,
+        link: a_link(alloc, b"")?,
         alloc,
         gate,
         caller,
