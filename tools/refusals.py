@@ -4,7 +4,7 @@
   refusals.py --oracle FOLDER [--samples N] [--step N] [--families NAME,..] [--keep FOLDER]
 
 It stands outside the gate. In a copy of the repository it makes a small program over `desk` and objects in memory, of
-refusals_program.txt and two files of test_commands. It asks one command after another, each over the keeper that the one before
+refusals_program.txt and four files of test_commands. It asks one command after another, each over the keeper that the one before
 gave back. Where memory was wanted it asks the same command again before the next; where no keeper came back it asks all of them
 over a new one. Each has to be told what a second computation of the desk tells. `rt try --fail-alloc` builds the program once
 and refuses one allocation in each run, the same number in all: before the commands each run has as many others as put the
@@ -108,10 +108,10 @@ def copy_of(folder):
     with open(os.path.join(ROOT, 'crates.txt')) as file:
         crates = file.read()
     with open(os.path.join(folder, 'crates.txt'), 'w') as file:
-        file.write(crates + 'refusals may_wait=9: sect_base sect_time sect_edge sect_app\n')
+        file.write(crates + 'refusals may_wait=8: sect_base sect_time sect_edge sect_app\n')
     source = os.path.join(folder, 'crates', 'refusals', 'src')
     os.makedirs(source)
-    for name in ('keepers.rt', 'runs.rt'):
+    for name in ('keepers.rt', 'runs.rt', 'stand.rt', 'streams.rt'):
         shutil.copy(os.path.join(ROOT, 'crates', 'test_commands', 'src', name), source)
     with open(os.path.join(HERE, 'refusals_program.txt')) as file:
         parts = re.split(r'(?m)^==== (\S+)\n', file.read())

@@ -5,13 +5,13 @@ mod body;
 mod bytes;
 mod heads;
 
-use answers::answer;
-use body::body;
-use bytes::put;
-use heads::head;
+use crate::escaped::put_as_it_is;
+use answers::put_answer;
+use body::put_body;
+use bytes::put_said;
+use heads::put_head;
 use sect_base::Memory;
 use std::alloc::Global;
-use std::mem::replace;
 
 /// The bytes that lines said.
 #[derive(Drop)]
@@ -27,31 +27,30 @@ impl Bodies {
         }
     }
 
-    /// Does what a line says, and gives what is printed for it.
-    pub fn told(&mut self, alloc: Global, line: &str) -> Result<Vec<u8>, Memory> {
+    /// Does what a line says, and puts what is printed for it behind the text.
+    pub fn put(&mut self, line: &str, into: &mut Vec<u8>) -> Result<(), Memory> {
         if line.starts_with('#') {
-            return with_line_feed(line.as_bytes().to_vec(alloc)?);
+            return put_as_it_is(line, into);
         }
         if line.starts_with(['<', 'x', '*']) {
-            put(line, &mut self.bytes)?;
-            return Ok(Vec::new(alloc));
+            return put_said(line, &mut self.bytes);
         }
-        let told = match line {
-            "body" => body(alloc, &self.taken(alloc)),
-            "head" => head(alloc, &self.taken(alloc)),
-            _ => answer(alloc, line),
+        match line {
+            "body" | "head" => self.put_read(line, into)?,
+            _ => put_answer(line, into)?,
+        }
+        into.push(b'\n')?;
+        Ok(())
+    }
+
+    /// Puts what the bytes are as a body or a head. They are said anew from here on.
+    fn put_read(&mut self, line: &str, into: &mut Vec<u8>) -> Result<(), Memory> {
+        let read = if line == "body" {
+            put_body(self.bytes.as_slice(), into)
+        } else {
+            put_head(self.bytes.as_slice(), into)
         };
-        told.and_then(with_line_feed)
+        self.bytes.clear();
+        read
     }
-
-    /// The bytes, which are said anew from here on.
-    fn taken(&mut self, alloc: Global) -> Vec<u8> {
-        replace(&mut self.bytes, Vec::new(alloc))
-    }
-}
-
-/// The text with a line feed behind it.
-fn with_line_feed(mut text: Vec<u8>) -> Result<Vec<u8>, Memory> {
-    text.push(b'\n')?;
-    Ok(text)
 }

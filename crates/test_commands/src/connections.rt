@@ -4,7 +4,7 @@ mod connection;
 mod cuts;
 mod talks;
 
-use crate::escaped::put_escaped;
+use crate::escaped::{put_as_it_is, put_escaped};
 use crate::keepers::Kept;
 use crate::serve::served;
 use connection::{Connection, all_sent};
@@ -34,19 +34,22 @@ impl Connections {
         }
     }
 
-    /// Does what a line says, and gives what is printed for it.
-    pub fn told<R: AllocGlobal + Wait>(&mut self, rt: &R, line: &str) -> Result<Vec<u8>, Memory> {
-        let mut text = String::new(rt.alloc());
+    /// Does what a line says, and puts what is printed for it behind the text.
+    pub fn put<R: AllocGlobal + Wait>(
+        &mut self,
+        rt: &R,
+        line: &str,
+        into: &mut Vec<u8>,
+    ) -> Result<(), Memory> {
         if line.starts_with(['#', '$', '?']) {
-            text.push_str(line)?;
-            text.push('\n')?;
+            put_as_it_is(line, into)?;
         }
-        if line.starts_with(['$', '?']) {
-            put_asked(rt, &self.kept, self.connections.as_slice(), line, &mut text)?;
-        } else {
-            self.take(rt.alloc(), line)?;
+        if !line.starts_with(['$', '?']) {
+            return self.take(rt.alloc(), line);
         }
-        Ok(text.into_bytes())
+        let mut text = String::new(rt.alloc());
+        put_asked(rt, &self.kept, self.connections.as_slice(), line, &mut text)?;
+        Ok(into.extend_from_slice(text.as_bytes())?)
     }
 
     /// Takes a line of a name, of what a connection sends or the keeper begins with, or of a connection's end.
@@ -92,10 +95,12 @@ fn put_served<R: AllocGlobal + Wait>(
     into: &mut String,
 ) -> Result<(), Memory> {
     let alloc = rt.alloc();
-    let keeper = kept.keeper(alloc)?;
     let sent = all_sent(alloc, connections)?;
-    match served(rt, alloc, keeper, None, sent) {
-        Some(talks) => put_talks(talks.as_slice(), into),
+    let keeper = kept.keeper(alloc)?;
+    let mut talks = Vec::new(alloc);
+    let mut bench = None;
+    match served(rt, alloc, keeper, &mut bench, sent.as_slice(), &mut talks) {
+        Some(()) => put_talks(talks.as_slice(), into),
         None => Ok(into.push_str("not served\n")?),
     }
 }

@@ -1,6 +1,7 @@
-// Lines with what can't stand in a line.
+// Lines of the input as texts: as they are, and with what can't stand in a line.
 
 use sect_base::Memory;
+use sect_words::print_text;
 use test_told::{byte_of, unfolded};
 
 /// Where a reading stands: at a byte, behind a backslash, at the first digit of a byte, or behind that one.
@@ -24,6 +25,12 @@ fn put_byte(at: At, byte: u8, text: &mut Vec<u8>) -> Result<At, Memory> {
         (_, byte) => text.push(byte)?,
     }
     Ok(At::Byte)
+}
+
+/// Puts the line as it is, and a line feed, behind the text.
+pub fn put_as_it_is(line: &str, text: &mut Vec<u8>) -> Result<(), Memory> {
+    print_text(line, text)?;
+    print_text("\n", text)
 }
 
 /// Puts what a line says behind the text: what it has many times, carriage returns, line feeds and bytes by their digits.

@@ -5,6 +5,7 @@ mod counting;
 mod judging;
 mod many;
 
+use crate::escaped::put_as_it_is;
 use acting::answer;
 use counting::count;
 use judging::judge;
@@ -12,7 +13,6 @@ use many::act_each;
 use sect_base::Memory;
 use sect_machine::Machine;
 use sect_once::Object;
-use sect_words::print_text;
 use std::alloc::Global;
 
 /// A machine, and the request that it was asked last.
@@ -31,22 +31,19 @@ impl OverMachine {
         }
     }
 
-    /// Does what a line says, and gives what is printed for it.
-    pub fn told(&mut self, alloc: Global, line: &str) -> Result<Vec<u8>, Memory> {
-        let mut into = Vec::new(alloc);
+    /// Does what a line says, and puts what is printed for it behind the text.
+    pub fn put(&mut self, alloc: Global, line: &str, into: &mut Vec<u8>) -> Result<(), Memory> {
         if line.starts_with('#') {
             self.machine = Machine::empty(alloc);
-            print_text(line, &mut into)?;
-            print_text("\n", &mut into)?;
-            return Ok(into);
+            return put_as_it_is(line, into);
         }
         let request = self.request.as_str();
-        tell(alloc, &mut self.machine, request, line, &mut into)?;
+        tell(alloc, &mut self.machine, request, line, into)?;
         if !line.starts_with(['?', '%', '+']) {
             self.request.clear();
             self.request.push_str(line)?;
         }
-        Ok(into)
+        Ok(())
     }
 }
 

@@ -64,26 +64,39 @@ mod ranges;
 mod runs;
 mod sent;
 mod serve;
+mod stand;
+mod streams;
 mod told;
 mod workers;
 
 use parts::{Part, Parts, part_of, told_at_first};
+use std::alloc::AllocGlobal;
 use std::io;
+use std::sync::Wait;
+use std::thread::Threads;
 use test_told::print_told;
 
 fn main(rt: HostRuntime) -> io::Result<()> {
-    let alloc = rt.alloc();
+    let mut parts = Parts::new(rt.alloc());
+    answer(rt, &rt, &mut parts)
+}
+
+/// Prints what is told for each line.
+fn answer<R: AllocGlobal + Threads + Wait + Sync>(
+    rt: HostRuntime,
+    threads: &R,
+    parts: &mut Parts,
+) -> io::Result<()> {
     let mut part = Part::Desk;
-    let mut parts = Parts::new(alloc);
-    for line in rt.lines(alloc) {
+    for line in rt.lines(rt.alloc()) {
         let line = line?;
         match part_of(line.as_str()) {
             Some(begun) => {
                 println!(rt; "{line}")?;
-                print_told(rt, told_at_first(&rt, begun))?;
+                print_told(rt, told_at_first(threads, begun))?;
                 part = begun;
             }
-            None => print_told(rt, parts.told(&rt, part, line.as_str()))?,
+            None => print_told(rt, parts.told(threads, part, line.as_str()))?,
         }
     }
     Ok(())

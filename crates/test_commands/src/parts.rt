@@ -70,14 +70,16 @@ impl Parts {
         part: Part,
         line: &str,
     ) -> Result<Vec<u8>, Memory> {
+        let mut into = Vec::new(rt.alloc());
         match part {
-            Part::Desk => self.desk.told(rt, line),
-            Part::Commands => self.commands.told(rt, line),
-            Part::Connections => self.connections.told(rt, line),
-            Part::Machine => self.machine.told(rt.alloc(), line),
-            Part::Bodies => self.bodies.told(rt.alloc(), line),
-            Part::Journal | Part::Workers | Part::Calling => Ok(Vec::new(rt.alloc())),
+            Part::Desk => self.desk.put(rt, line, &mut into)?,
+            Part::Commands => self.commands.put(rt, line, &mut into)?,
+            Part::Connections => self.connections.put(rt, line, &mut into)?,
+            Part::Machine => self.machine.put(rt.alloc(), line, &mut into)?,
+            Part::Bodies => self.bodies.put(line, &mut into)?,
+            Part::Journal | Part::Workers | Part::Calling => {}
         }
+        Ok(into)
     }
 }
 

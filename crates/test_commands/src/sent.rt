@@ -1,7 +1,9 @@
 // What students send over connections of a link in memory.
 
+use crate::keepers::number_alone;
+use crate::streams::{sink_of, source_of};
 use sect_base::Memory;
-use sect_edge::{MemLink, MemSink, MemSource};
+use sect_edge::MemLink;
 use std::alloc::Global;
 
 /// Student 11 asks for the one place.
@@ -17,9 +19,9 @@ pub const SECOND: &str =
 pub fn link_of(alloc: Global, sent: &[&str], failing_accept: u64) -> Result<MemLink, Memory> {
     let mut talks = Vec::new(alloc);
     for text in sent {
-        let source = MemSource::new(text.as_bytes().to_vec(alloc)?, 8_192, Vec::new(alloc));
-        let sink = MemSink::new(alloc, 4_000, 4_000, Vec::new(alloc))?;
+        let source = source_of(alloc, text.as_bytes(), 8_192, 0)?;
+        let sink = sink_of(alloc, 4_000, 4_000, 0)?;
         talks.push((source, sink))?;
     }
-    Ok(MemLink::new(talks, vec![in alloc; failing_accept]?))
+    Ok(MemLink::new(talks, number_alone(alloc, failing_accept)?))
 }

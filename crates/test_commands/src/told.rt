@@ -1,26 +1,21 @@
 // What came of a run, in a text.
 
-use crate::runs::Ended;
+use crate::stand::Stand;
 use sect_app::{Status, number_of, print_status};
 use sect_base::Memory;
-use sect_edge::{MemKeeper, MemLink};
+use sect_edge::MemLink;
 use std::alloc::Global;
 
 /// Puts the status, how many rows the keeper has and what was written behind the text.
-pub fn put_ended(alloc: Global, ended: &Ended, into: &mut String) -> Result<(), Memory> {
-    put_end(alloc, ended.status, ended.keeper.as_ref(), into)?;
-    put_bytes(ended.sink.bytes(), into)
+pub fn put_ended(alloc: Global, stand: &Stand, into: &mut String) -> Result<(), Memory> {
+    put_end(alloc, stand, into)?;
+    put_bytes(stand.written(), into)
 }
 
 /// Puts the status, and how many rows the keeper has.
-pub fn put_end(
-    alloc: Global,
-    status: Status,
-    keeper: Option<&MemKeeper>,
-    into: &mut String,
-) -> Result<(), Memory> {
-    put_status(alloc, status, into)?;
-    match keeper {
+pub fn put_end(alloc: Global, stand: &Stand, into: &mut String) -> Result<(), Memory> {
+    put_status(alloc, stand.status, into)?;
+    match &stand.keeper {
         Some(keeper) => write!(into, "rows {} ", keeper.rows().len())?,
         None => into.push_str("no keeper ")?,
     }

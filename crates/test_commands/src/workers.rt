@@ -3,8 +3,9 @@
 ghost use Rattle.std.specs.Prelude.{◌≡◌, IfOk, length};
 
 use crate::keepers::{NONE_FAILS, keeper_of};
-use crate::runs::{Ended, RUN, Setting, run_on_links};
+use crate::runs::{RUN, Setting, run_on_links};
 use crate::sent::{FIRST, SECOND, link_of};
+use crate::stand::Stand;
 use crate::told::{put_end, put_talk};
 use sect_base::Memory;
 use sect_edge::MemLink;
@@ -28,36 +29,38 @@ fn links(alloc: Global) -> Result<Vec<MemLink>, Memory>
     Ok(links)
 }
 
-/// Serves one connection of each link, on a desk with one place and two students.
-fn serve<R: AllocGlobal + Threads + Wait + Sync>(rt: &R) -> Result<(Ended, Vec<MemLink>), Memory> {
+/// Tells what comes of two workers of which the second one's link fails, on a desk with one place and two students.
+pub fn told_of_workers<R: AllocGlobal + Threads + Wait + Sync>(rt: &R) -> Result<Vec<u8>, Memory> {
     let alloc = rt.alloc();
-    let keeper = keeper_of(alloc, THREE_ROWS, NONE_FAILS)?;
+    let mut stand = Stand::new(Some(keeper_of(alloc, THREE_ROWS, NONE_FAILS)?));
+    let mut into = String::new(alloc);
+    put_fault(rt, &mut stand, &mut into)?;
+    Ok(into.into_bytes())
+}
+
+/// Serves one connection of each link, and puts what the two workers are told behind the text.
+fn put_fault<R: AllocGlobal + Threads + Wait + Sync>(
+    rt: &R,
+    stand: &mut Stand,
+    into: &mut String,
+) -> Result<(), Memory> {
+    let alloc = rt.alloc();
     let links = links(alloc)?;
     let setting = Setting {
         words: "serve --port 8080 --sessions 1",
         ..RUN
     };
-    run_on_links(rt, &setting, Vec::new(alloc), keeper, links)
-}
-
-/// Tells what comes of two workers of which the second one's link fails.
-pub fn told_of_workers<R: AllocGlobal + Threads + Wait + Sync>(rt: &R) -> Result<Vec<u8>, Memory> {
-    let mut into = String::new(rt.alloc());
-    put_fault(rt, &mut into)?;
-    Ok(into.into_bytes())
-}
-
-/// Puts what the two workers are told behind the text.
-fn put_fault<R: AllocGlobal + Threads + Wait + Sync>(
-    rt: &R,
-    into: &mut String,
-) -> Result<(), Memory> {
-    let (ended, links) = serve(rt)?;
+    let links = run_on_links(rt, &setting, &[], stand, links)?;
     into.push_str("a link that fails: ")?;
-    put_end(rt.alloc(), ended.status, ended.keeper.as_ref(), into)?;
-    put_told(&links, 0, into)?;
+    put_end(alloc, stand, into)?;
+    put_both(&links, into)
+}
+
+/// Puts what the first connection of each link was told, and ends the line.
+fn put_both(links: &[MemLink], into: &mut String) -> Result<(), Memory> {
+    put_told(links, 0, into)?;
     into.push_str(", ")?;
-    put_told(&links, 1, into)?;
+    put_told(links, 1, into)?;
     into.push('\n')?;
     Ok(())
 }

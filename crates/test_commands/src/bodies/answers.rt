@@ -5,24 +5,31 @@ use sect_command::Reply;
 use sect_json::print_answer;
 use sect_once::Answer;
 use sect_read::read_reply;
-use sect_words::print_number;
+use sect_words::{print_bytes, print_number, print_text};
 use std::alloc::Global;
 
 fn place_of(text: &str) -> u32 {
     text.parse::<u32>().unwrap_or(0)
 }
 
-/// The answer that a line names.
-fn answer_of(alloc: Global, line: &str) -> Result<Option<Answer<Reply>>, Memory> {
-    if let Some((place, reply)) = line
-        .strip_prefix("done ")
-        .and_then(|rest| rest.split_once(' '))
-    {
-        let reply = read_reply(alloc, reply.as_bytes())?;
-        return Ok(reply.map(|reply| Answer::Done {
+/// The answer of `done` that the place and the reply behind it name.
+fn done_of(alloc: Global, words: &str) -> Result<Option<Answer<Reply>>, Memory> {
+    let Some((place, reply)) = words.split_once(' ') else {
+        return Ok(None);
+    };
+    Ok(match read_reply(alloc, reply.as_bytes())? {
+        Some(reply) => Some(Answer::Done {
             place: place_of(place),
             reply,
-        }));
+        }),
+        None => None,
+    })
+}
+
+/// The answer that a line names.
+fn answer_of(alloc: Global, line: &str) -> Result<Option<Answer<Reply>>, Memory> {
+    if let Some(words) = line.strip_prefix("done ") {
+        return done_of(alloc, words);
     }
     if let Some(place) = line.strip_prefix("reused ") {
         return Ok(Some(Answer::NumberReused(place_of(place))));
@@ -35,17 +42,19 @@ fn answer_of(alloc: Global, line: &str) -> Result<Option<Answer<Reply>>, Memory>
     })
 }
 
-/// The status and the body of the answer that a line names.
-pub fn answer(alloc: Global, line: &str) -> Result<Vec<u8>, Memory> {
-    let mut into = Vec::new(alloc);
-    let Some(answer) = answer_of(alloc, line)? else {
-        into.extend_from_slice(b"no answer")?;
-        return Ok(into);
-    };
-    let mut body = Vec::new(alloc);
-    let status = print_answer(&answer, &mut body)?;
-    print_number(status, &mut into)?;
+/// Puts the status and the body of the answer that a line names behind the text.
+pub fn put_answer(line: &str, into: &mut Vec<u8>) -> Result<(), Memory> {
+    match answer_of(*into.allocator(), line)? {
+        Some(answer) => put_page(&answer, into),
+        None => print_text("no answer", into),
+    }
+}
+
+/// Puts the status and the body of an answer.
+fn put_page(answer: &Answer<Reply>, into: &mut Vec<u8>) -> Result<(), Memory> {
+    let mut body = Vec::new(*into.allocator());
+    let status = print_answer(answer, &mut body)?;
+    print_number(status, into)?;
     into.push(b' ')?;
-    into.extend_from_slice(&body)?;
-    Ok(into)
+    print_bytes(body.as_slice(), into)
 }

@@ -4,20 +4,17 @@ use sect_base::Memory;
 use sect_json::read_body;
 use sect_read::WireFault;
 use sect_text::print_command;
-use sect_words::print_number;
-use std::alloc::Global;
+use sect_words::{print_number, print_text};
 
-/// The command that a body says, or why it says none.
-pub fn body(alloc: Global, bytes: &[u8]) -> Result<Vec<u8>, Memory> {
-    let mut into = Vec::new(alloc);
-    match read_body(alloc, bytes) {
-        Ok(command) => print_command(&command, &mut into)?,
+/// Puts the command that a body says, or why it says none, behind the text.
+pub fn put_body(bytes: &[u8], into: &mut Vec<u8>) -> Result<(), Memory> {
+    match read_body(*into.allocator(), bytes) {
+        Ok(command) => print_command(&command, into),
         Err(WireFault::BadBody(cause)) => {
-            into.extend_from_slice(b"bad ")?;
-            print_number(cause, &mut into)?;
+            print_text("bad ", into)?;
+            print_number(cause, into)
         }
-        Err(WireFault::Memory) => return Err(Memory),
-        Err(_) => into.extend_from_slice(b"another fault")?,
+        Err(WireFault::Memory) => Err(Memory),
+        Err(_) => print_text("another fault", into),
     }
-    Ok(into)
 }

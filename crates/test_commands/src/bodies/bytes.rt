@@ -23,7 +23,7 @@ fn put_often(text: &str, into: &mut Vec<u8>) -> Result<(), Memory> {
 }
 
 /// Puts what a line says behind the bytes.
-pub fn put(line: &str, into: &mut Vec<u8>) -> Result<(), Memory> {
+pub fn put_said(line: &str, into: &mut Vec<u8>) -> Result<(), Memory> {
     if let Some(text) = line.strip_prefix("< ") {
         into.extend_from_slice(text.as_bytes())?;
     } else if let Some(digits) = line.strip_prefix("x ") {

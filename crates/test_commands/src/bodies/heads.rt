@@ -8,7 +8,6 @@ use sect_command::Query;
 use sect_head::{Framing, HeadRead, Refusal, closes_by, framing, read_head};
 use sect_route::{Routes, Target};
 use sect_words::{print_number, print_whole};
-use std::alloc::Global;
 
 fn refusal_word(refusal: Refusal) -> &'static [u8] {
     match refusal {
@@ -75,23 +74,27 @@ fn front_of(bytes: &[u8], most: usize) -> &[u8]
     &bytes[..most]
 }
 
-/// What the head at the front of the bytes says, of which at most 16,384 are looked at.
-pub fn head(alloc: Global, bytes: &[u8]) -> Result<Vec<u8>, Memory> {
+/// Puts the target of a path.
+fn put_route(path: &[u8], into: &mut Vec<u8>) -> Result<(), Memory> {
+    let routes = Routes::new(*into.allocator())?;
+    print_target(routes.target(path), into)
+}
+
+/// Puts what the head at the front of the bytes says, of which at most 16,384 are looked at, behind the text.
+pub fn put_head(bytes: &[u8], into: &mut Vec<u8>) -> Result<(), Memory> {
     let bytes = front_of(bytes, 16_384);
-    let mut into = Vec::new(alloc);
     let mut spans = [EMPTY_HEADER_SPAN; 64];
-    match read_head(alloc, bytes, &mut spans)? {
+    match read_head(*into.allocator(), bytes, &mut spans)? {
         HeadRead::Crowded(_) => into.extend_from_slice(b"crowded")?,
         HeadRead::Unfinished => into.extend_from_slice(b"unfinished")?,
         HeadRead::Impossible => into.extend_from_slice(b"impossible")?,
         HeadRead::Whole(head) => {
-            print_framing(framing(bytes, &spans, &head), &mut into)?;
+            print_framing(framing(bytes, &spans, &head), into)?;
             if closes_by(bytes, &spans, &head) {
                 into.extend_from_slice(b" closes")?;
             }
-            let routes = Routes::new(alloc)?;
-            print_target(routes.target(path_of(head.path.of(bytes))), &mut into)?;
+            put_route(path_of(head.path.of(bytes)), into)?;
         }
     }
-    Ok(into)
+    Ok(())
 }

@@ -1,9 +1,12 @@
 // The desk and the clerk do what words ask.
 
-use crate::runs::{Ended, RUN, Setting, clock, run_over, words_of};
+use crate::commands::told::put_compared;
+use crate::runs::{Around, PIECE, RUN, Setting, run_over, set_up};
+use crate::stand::Stand;
+use crate::streams::clock;
 use sect_base::Memory;
 use sect_clerk::clerk;
-use sect_edge::{MemKeeper, MemSink, MemSource};
+use sect_edge::MemKeeper;
 use std::alloc::AllocGlobal;
 use std::sync::Wait;
 use std::thread::Threads;
@@ -47,53 +50,67 @@ fn clerk_words(line: &str) -> Option<&str> {
     }
 }
 
-/// What the one of them to whom the words go leaves of a keeper by these and this input.
-pub fn by_whom<R: AllocGlobal + Threads + Wait + Sync>(
-    rt: &R,
-    words: &str,
-    piece: usize,
-    input: Vec<u8>,
-    keeper: MemKeeper,
-) -> Result<Ended, Memory> {
-    match clerk_words(words) {
-        Some(words) => by_clerk(rt, words, piece, input, keeper),
-        None => by_desk(rt, words, piece, input, keeper),
-    }
-}
-
-/// What the desk leaves of a keeper by these words and this input.
-pub fn by_desk<R: AllocGlobal + Threads + Wait + Sync>(
-    rt: &R,
-    words: &str,
-    piece: usize,
-    input: Vec<u8>,
-    keeper: MemKeeper,
-) -> Result<Ended, Memory> {
-    let setting = Setting {
+/// How words of the desk are run.
+fn of_desk(words: &str, piece: usize) -> Setting<'_> {
+    Setting {
         words,
         piece,
         room: ROOM,
         ..RUN
-    };
-    run_over(rt, &setting, input, keeper)
+    }
 }
 
-/// What the clerk leaves of a keeper by these words and this input.
-fn by_clerk<R: AllocGlobal + Threads + Sync>(
+/// How words of the clerk are run.
+fn of_clerk(words: &str, piece: usize) -> Setting<'_> {
+    Setting {
+        taken: 512,
+        ..of_desk(words, piece)
+    }
+}
+
+/// Lets the one of them to whom the words go do what these ask over a stand.
+pub fn do_asked<R: AllocGlobal + Threads + Wait + Sync>(
     rt: &R,
     words: &str,
     piece: usize,
-    input: Vec<u8>,
-    keeper: MemKeeper,
-) -> Result<Ended, Memory> {
+    input: &[u8],
+    stand: &mut Stand,
+) -> Result<(), Memory> {
+    match clerk_words(words) {
+        Some(words) => run_clerk(rt, &of_clerk(words, piece), input, stand),
+        None => run_over(rt, &of_desk(words, piece), input, stand),
+    }
+}
+
+/// Runs the clerk over these bytes and the keeper of a stand.
+fn run_clerk<R: AllocGlobal + Threads + Sync>(
+    rt: &R,
+    setting: &Setting<'_>,
+    input: &[u8],
+    stand: &mut Stand,
+) -> Result<(), Memory> {
+    let keeper = stand.keeper.take().ok_or(Memory)?;
+    let clock = clock(rt.alloc())?;
+    let Around {
+        words,
+        mut source,
+        mut sink,
+        clocks: _,
+    } = set_up(rt.alloc(), setting, input)?;
+    let (status, keeper) = clerk(rt, &words, &mut source, &mut sink, keeper, clock);
+    *stand = Stand::left(Some(keeper), status, sink);
+    Ok(())
+}
+
+/// Runs what was written last over a keeper without rows, and puts whether it has the rows of the stand's now behind the text.
+pub fn put_again<R: AllocGlobal + Threads + Wait + Sync>(
+    rt: &R,
+    stand: &Stand,
+    into: &mut Vec<u8>,
+) -> Result<(), Memory> {
     let alloc = rt.alloc();
-    let words = words_of(alloc, words)?;
-    let mut source = MemSource::new(input, piece.max(1), Vec::new(alloc));
-    let mut sink = MemSink::new(alloc, ROOM, 512, Vec::new(alloc))?;
-    let (status, keeper) = clerk(rt, &words, &mut source, &mut sink, keeper, clock(alloc)?);
-    Ok(Ended {
-        status,
-        sink,
-        keeper: Some(keeper),
-    })
+    let keeper = MemKeeper::new(Vec::new(alloc), Vec::new(alloc));
+    let mut again = Stand::new(Some(keeper));
+    run_over(rt, &of_desk("run", PIECE), stand.written(), &mut again)?;
+    put_compared(&again, stand, into)
 }

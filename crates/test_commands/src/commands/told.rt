@@ -1,39 +1,52 @@
 // What came of a command, in a text.
 
-use sect_app::Status;
+use crate::stand::Stand;
 use sect_base::Memory;
-use sect_words::print_text;
-use std::alloc::Global;
+use sect_words::{print_bytes, print_number, print_text};
 
-/// The words, what was written, the status and how many rows the keeper has.
-pub fn told(
-    alloc: Global,
-    words: &str,
-    written: &[u8],
-    status: Status,
-    rows: usize,
-) -> Result<Vec<u8>, Memory> {
-    let mut text = format!(in alloc; "$ {words}\n")?.into_bytes();
-    text.extend_from_slice(written)?;
-    let end = format!(in alloc; "status {status:?}\nrows {rows}\n")?;
-    print_text(end.as_str(), &mut text)?;
-    Ok(text)
+/// Puts the words, what was written, the status and how many rows the keeper has behind the text.
+pub fn put_done(words: &str, stand: &Stand, into: &mut Vec<u8>) -> Result<(), Memory> {
+    print_text("$ ", into)?;
+    print_text(words, into)?;
+    print_text("\n", into)?;
+    print_bytes(stand.written(), into)?;
+    put_status(stand, into)?;
+    put_rows(stand, into)
 }
 
 /// The same, with how many lines were written and the last of them instead of all.
-pub fn told_counted(
-    alloc: Global,
-    words: &str,
-    written: &[u8],
-    status: Status,
-    rows: usize,
-) -> Result<Vec<u8>, Memory> {
-    let (count, last) = lines_of(str::from_utf8(written).unwrap_or("no text"));
-    let mut text = format!(in alloc; "% {words}\nlines {count}, last ")?.into_bytes();
-    text.extend_from_slice(last)?;
-    let end = format!(in alloc; "\nstatus {status:?}\nrows {rows}\n")?;
-    print_text(end.as_str(), &mut text)?;
-    Ok(text)
+pub fn put_counted(words: &str, stand: &Stand, into: &mut Vec<u8>) -> Result<(), Memory> {
+    let (count, last) = lines_of(str::from_utf8(stand.written()).unwrap_or("no text"));
+    print_text("% ", into)?;
+    print_text(words, into)?;
+    print_text("\nlines ", into)?;
+    print_number(count, into)?;
+    print_text(", last ", into)?;
+    print_bytes(last, into)?;
+    print_text("\n", into)?;
+    put_status(stand, into)?;
+    put_rows(stand, into)
+}
+
+/// Puts whether the keepers of two stands have the same rows, and the status of the first one's command.
+pub fn put_compared(one: &Stand, other: &Stand, into: &mut Vec<u8>) -> Result<(), Memory> {
+    let rows = if have_same_rows(one, other) {
+        "the same"
+    } else {
+        "other"
+    };
+    print_text("again ", into)?;
+    print_text(rows, into)?;
+    print_text(" rows\n", into)?;
+    put_status(one, into)
+}
+
+/// Whether there is a keeper at both, with the same rows.
+fn have_same_rows(one: &Stand, other: &Stand) -> bool {
+    match (one.keeper.as_ref(), other.keeper.as_ref()) {
+        (Some(kept), Some(other_kept)) => kept.rows() == other_kept.rows(),
+        _ => false,
+    }
 }
 
 /// How many lines a text has, and the bytes of the last of them.
@@ -47,9 +60,21 @@ fn lines_of(text: &str) -> (u64, &[u8]) {
     (count, last)
 }
 
-/// The status of a run, and whether its keeper has the same rows.
-pub fn told_again(alloc: Global, status: Status, same: bool) -> Result<Vec<u8>, Memory> {
-    let rows = if same { "the same" } else { "other" };
-    let text = format!(in alloc; "again {rows} rows\nstatus {status:?}\n")?;
-    Ok(text.into_bytes())
+/// Puts the status of a command.
+fn put_status(stand: &Stand, into: &mut Vec<u8>) -> Result<(), Memory> {
+    let alloc = *into.allocator();
+    let status = stand.status;
+    let text = format!(in alloc; "status {status:?}\n")?;
+    print_text(text.as_str(), into)
+}
+
+/// Puts how many rows the keeper has.
+fn put_rows(stand: &Stand, into: &mut Vec<u8>) -> Result<(), Memory> {
+    let rows = match &stand.keeper {
+        Some(keeper) => keeper.rows().len(),
+        None => 0,
+    };
+    print_text("rows ", into)?;
+    print_number(rows, into)?;
+    print_text("\n", into)
 }

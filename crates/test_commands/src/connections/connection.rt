@@ -12,21 +12,23 @@ pub struct Connection {
     pub piece: usize,
 }
 
-/// These bytes in pieces of at most so many, with no call that fails.
-pub fn sent(alloc: Global, bytes: &[u8], piece: usize) -> Result<Sent, Memory> {
-    Ok(Sent {
-        bytes: bytes.to_vec(alloc)?,
-        piece,
-        failing_reads: Vec::new(alloc),
-        failing_writes: Vec::new(alloc),
-    })
+impl Connection {
+    /// All the bytes, with no call that fails.
+    pub fn whole(&self) -> Sent<'_> {
+        Sent {
+            bytes: self.bytes.as_slice(),
+            piece: self.piece,
+            failing_read: 0,
+            failing_write: 0,
+        }
+    }
 }
 
 /// What each of the connections sends.
-pub fn all_sent(alloc: Global, connections: &[Connection]) -> Result<Vec<Sent>, Memory> {
+pub fn all_sent<'a>(alloc: Global, connections: &'a [Connection]) -> Result<Vec<Sent<'a>>, Memory> {
     let mut all = Vec::new(alloc);
     for connection in connections {
-        all.push(sent(alloc, connection.bytes.as_slice(), connection.piece)?)?;
+        all.push(connection.whole())?;
     }
     Ok(all)
 }

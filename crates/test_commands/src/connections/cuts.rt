@@ -1,7 +1,7 @@
 // A connection is served again and again, and comes to an end at another place each time.
 
-use crate::connections::connection::{Connection, sent};
-use crate::keepers::{Kept, number_alone};
+use crate::connections::connection::Connection;
+use crate::keepers::Kept;
 use crate::serve::{Sent, Told, served};
 use sect_base::Memory;
 use sect_http::Bench;
@@ -45,7 +45,7 @@ pub fn put_runs<R: AllocGlobal + Wait>(
         Cut::Writes => whole.len(),
     };
     let runs = runs_of(rt.alloc(), connection, cut, most)?;
-    let talks = served_on_a_bench(rt, kept, runs)?;
+    let talks = served_on_a_bench(rt, kept, runs.as_slice())?;
     put_alike(talks.as_slice(), whole.as_slice(), into)
 }
 
@@ -53,12 +53,14 @@ pub fn put_runs<R: AllocGlobal + Wait>(
 fn served_on_a_bench<R: AllocGlobal + Wait>(
     rt: &R,
     kept: &Kept,
-    connections: Vec<Sent>,
+    connections: &[Sent<'_>],
 ) -> Result<Vec<Told>, Memory> {
     let alloc = rt.alloc();
-    let bench = Bench::new(alloc)?;
     let keeper = kept.keeper(alloc)?;
-    served(rt, alloc, keeper, Some(bench), connections).ok_or(Memory)
+    let mut bench = Some(Bench::new(alloc)?);
+    let mut talks = Vec::new(alloc);
+    served(rt, alloc, keeper, &mut bench, connections, &mut talks).ok_or(Memory)?;
+    Ok(talks)
 }
 
 /// What the whole connection is told.
@@ -67,44 +69,47 @@ fn told_whole<R: AllocGlobal + Wait>(
     kept: &Kept,
     connection: &Connection,
 ) -> Result<Vec<u8>, Memory> {
-    let alloc = rt.alloc();
-    let mut whole = Vec::new(alloc);
-    whole.push(sent(alloc, connection.bytes.as_slice(), connection.piece)?)?;
-    let talks = served_on_a_bench(rt, kept, whole)?;
+    let talks = served_on_a_bench(rt, kept, &[connection.whole()])?;
     match talks.first() {
-        Some(told) => Ok(told.sink.bytes().to_vec(alloc)?),
+        Some(told) => Ok(told.sink.bytes().to_vec(rt.alloc())?),
         None => Err(Memory),
     }
 }
 
 /// The connection cut after no byte, and so on up to so many.
-fn runs_of(
+fn runs_of<'a>(
     alloc: Global,
-    connection: &Connection,
+    connection: &'a Connection,
     cut: Cut,
     most: usize,
-) -> Result<Vec<Sent>, Memory> {
+) -> Result<Vec<Sent<'a>>, Memory> {
     let mut runs = Vec::new(alloc);
     for came in 0..most.saturating_add(1) {
-        runs.push(run_of(alloc, connection, cut, came)?)?;
+        runs.push(run_of(connection, cut, came))?;
     }
     Ok(runs)
 }
 
 /// The connection cut after so many bytes.
-fn run_of(alloc: Global, connection: &Connection, cut: Cut, came: usize) -> Result<Sent, Memory> {
-    let bytes = connection.bytes.as_slice();
+fn run_of(connection: &Connection, cut: Cut, came: usize) -> Sent<'_> {
+    let whole = connection.whole();
+    let bytes = whole.bytes;
     let next = (came as u64).saturating_add(1);
     match cut {
-        Cut::Bytes => sent(alloc, bytes.get(..came).unwrap_or(bytes), connection.piece),
-        Cut::Reads => Ok(Sent {
-            failing_reads: number_alone(alloc, next)?,
-            ..sent(alloc, bytes, 1)?
-        }),
-        Cut::Writes => Ok(Sent {
-            failing_writes: number_alone(alloc, next)?,
-            ..sent(alloc, bytes, 1)?
-        }),
+        Cut::Bytes => Sent {
+            bytes: bytes.get(..came).unwrap_or(bytes),
+            ..whole
+        },
+        Cut::Reads => Sent {
+            piece: 1,
+            failing_read: next,
+            ..whole
+        },
+        Cut::Writes => Sent {
+            piece: 1,
+            failing_write: next,
+            ..whole
+        },
     }
 }
 

@@ -2,9 +2,10 @@
 
 use crate::desk::serving::put_served;
 use crate::desk::table::Table;
+use crate::desk::whole::put_once;
 use crate::keepers::{Failing, keeper_of};
-use crate::runs::{RUN, Setting, run_over};
-use crate::told::put_ended;
+use crate::runs::Setting;
+use crate::stand::Stand;
 use sect_base::Memory;
 use sect_edge::MemKeeper;
 use std::alloc::{AllocGlobal, Global};
@@ -46,14 +47,13 @@ impl Sweep {
         if self.call == call { number } else { 0 }
     }
 
-    /// How the words are run where the call with this number fails.
-    fn setting<'a>(&self, words: &'a str, number: u64) -> Setting<'a> {
+    /// How the table's command runs where the call with this number fails.
+    fn setting<'a>(&self, table: &'a Table, number: u64) -> Setting<'a> {
         Setting {
-            words,
             piece: self.piece,
             failing_read: self.number_of(Call::Read, number),
             failing_write: self.number_of(Call::Write, number),
-            ..RUN
+            ..table.setting()
         }
     }
 
@@ -78,56 +78,52 @@ fn call_of(name: &str) -> Option<Call> {
     }
 }
 
-/// Puts what came of each run behind the text, in a line of its own.
+/// Puts what came of each run behind the text, in a line of its own. The last run's keeper stays at the stand.
 pub fn put_runs<R: AllocGlobal + Threads + Wait + Sync>(
     rt: &R,
     table: &Table,
     sweep: &Sweep,
+    stand: &mut Stand,
     into: &mut String,
 ) -> Result<(), Memory> {
     for before in 0..sweep.count {
         let number = before.saturating_add(1);
         write!(into, "{number}: ")?;
-        put_run(rt, table, sweep, number, into)?;
+        put_run(rt, table, sweep, number, stand, into)?;
         into.push('\n')?;
     }
     Ok(())
 }
 
-/// Puts what came of a run behind the text.
+/// Puts what came of a run, and of the same words and input over the keeper that came back, behind the text.
 fn put_run<R: AllocGlobal + Threads + Wait + Sync>(
     rt: &R,
     table: &Table,
     sweep: &Sweep,
     number: u64,
+    stand: &mut Stand,
     into: &mut String,
 ) -> Result<(), Memory> {
-    let alloc = rt.alloc();
-    let rows = rows_of_run(alloc, table, sweep, number)?;
-    let keeper = keeper_of(alloc, rows.as_str(), sweep.failing(number))?;
-    let setting = sweep.setting(table.words.as_str(), number);
+    *stand = Stand::new(Some(keeper_of_run(rt.alloc(), table, sweep, number)?));
+    let setting = sweep.setting(table, number);
     if sweep.call == Call::Accept {
-        return put_served(rt, &setting, keeper, number, into);
+        return put_served(rt, &setting, number, stand, into);
     }
-    put_twice(rt, &setting, table.input.as_slice(), keeper, into)
+    let input = table.input.as_slice();
+    put_once(rt, &setting, input, stand, into)?;
+    into.push_str(" then ")?;
+    put_once(rt, &table.setting(), input, stand, into)
 }
 
-/// Puts what came of a command, and of the same words and input over the keeper that came back, behind the text.
-fn put_twice<R: AllocGlobal + Threads + Wait + Sync>(
-    rt: &R,
-    setting: &Setting<'_>,
-    input: &[u8],
-    keeper: MemKeeper,
-    into: &mut String,
-) -> Result<(), Memory> {
-    let alloc = rt.alloc();
-    let ended = run_over(rt, setting, input.to_vec(alloc)?, keeper)?;
-    put_ended(alloc, &ended, into)?;
-    let keeper = ended.keeper.ok_or(Memory)?;
-    let words = setting.words;
-    let again = run_over(rt, &Setting { words, ..RUN }, input.to_vec(alloc)?, keeper)?;
-    into.push_str(" then ")?;
-    put_ended(alloc, &again, into)
+/// The keeper of the run with this number.
+fn keeper_of_run(
+    alloc: Global,
+    table: &Table,
+    sweep: &Sweep,
+    number: u64,
+) -> Result<MemKeeper, Memory> {
+    let rows = rows_of_run(alloc, table, sweep, number)?;
+    keeper_of(alloc, rows.as_str(), sweep.failing(number))
 }
 
 /// The keeper's rows, with `x` in the place of the byte of the last row with this number, from 1, where bytes are replaced.

@@ -1,5 +1,6 @@
 // What each run begins with.
 
+use crate::runs::{RUN, Setting};
 use std::alloc::{AllocError, Global};
 
 /// A command with its input, and the keeper's rows.
@@ -23,6 +24,14 @@ impl Table {
             rows: String::new(alloc),
             last_row: 0,
             input: Vec::new(alloc),
+        }
+    }
+
+    /// How the command runs where no call fails.
+    pub fn setting(&self) -> Setting<'_> {
+        Setting {
+            words: self.words.as_str(),
+            ..RUN
         }
     }
 

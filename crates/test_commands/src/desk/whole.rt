@@ -1,25 +1,21 @@
-// Whole commands over one keeper, one after another.
+// A whole command over the keeper of a stand.
 
-use crate::desk::table::Table;
-use crate::runs::{RUN, Setting, run_over};
+use crate::runs::{Setting, run_over};
+use crate::stand::Stand;
 use crate::told::put_ended;
 use sect_base::Memory;
-use sect_edge::MemKeeper;
 use std::alloc::AllocGlobal;
 use std::sync::Wait;
 use std::thread::Threads;
 
-/// Runs the table's command over a keeper, puts what came of it behind the text, and gives the keeper back.
+/// Runs words over the keeper of a stand, and puts what came of it behind the text.
 pub fn put_once<R: AllocGlobal + Threads + Wait + Sync>(
     rt: &R,
-    table: &Table,
-    keeper: MemKeeper,
+    setting: &Setting<'_>,
+    input: &[u8],
+    stand: &mut Stand,
     into: &mut String,
-) -> Result<Option<MemKeeper>, Memory> {
-    let words = table.words.as_str();
-    let input = table.input.as_slice().to_vec(rt.alloc())?;
-    let ended = run_over(rt, &Setting { words, ..RUN }, input, keeper)?;
-    put_ended(rt.alloc(), &ended, into)?;
-    into.push('\n')?;
-    Ok(ended.keeper)
+) -> Result<(), Memory> {
+    run_over(rt, setting, input, stand)?;
+    put_ended(rt.alloc(), stand, into)
 }
