@@ -16,8 +16,7 @@ use std::alloc::Global;
 use std::sync::Wait;
 use std::thread::Threads;
 
-/// Opens the keeper, and serves the links over its history. The keeper and the links come back; at `Memory` the keeper
-/// may not.
+/// Opens the keeper, and serves the links over its history. The keeper and the links come back.
 pub(crate) fn serve_desk<
     K: Keeper + Send,
     L: Link + Send + Drop,
@@ -43,7 +42,7 @@ where
         keeper back links.items result.2.items (take (length links.items) (map C.days clocks.items)) sessions read wrote result.0) }
     ensures keeper_fault { result.0 ≡ Status.KeeperFault → IfSome result.1 (λ back. Rose (K.faults keeper) (K.faults back)) }
     ensures link_fault { result.0 ≡ Status.LinkFault → SomeRose L.faults links.items result.2.items }
-    ensures back { result.0 ≢ Status.Memory → IsSome result.1 }
+    ensures back { IsSome result.1 }
     ensures others { (result.0 ≢ Status.BadWords) × (result.0 ≢ Status.ReadFault) × (result.0 ≢ Status.WriteFault) }
 {
     replays_are_good();

@@ -1,5 +1,5 @@
 // The top call: what the program does.
-ghost use Rattle.std.specs.Prelude.{◌≡◌, ◌≢◌, ◌↔◌, ◌<◌, ◌≤◌, ℕ, true, false, List, None, Some, IfSome, IsSome, length, map, take};
+ghost use Rattle.std.specs.Prelude.{◌≡◌, ◌↔◌, ◌<◌, ◌≤◌, ℕ, true, false, List, None, Some, IfSome, IsSome, length, map, take};
 ghost use Rattle.std.specs.String.{string_bytes};
 ghost use Rattle.std.specs.Io.KnownBytes.{IsAtEnd};
 ghost use Rattle.sect_edge.specs.Causes.{Rose};
@@ -24,7 +24,7 @@ use std::thread::Threads;
 
 /// Does what the words ask for, and tells how it ended. The words are the command line without the
 /// program's name. There is a clock at least, and one for each link; for `serve` there is a link at least, and there are
-/// at most 64. The keeper comes back but where memory is wanted at the end of `serve`; the links come back with it.
+/// at most 64. The keeper and the links come back.
 pub fn desk<
     R: AllocGlobal + Threads + Wait + Sync,
     S: Source,
@@ -84,7 +84,7 @@ where
         → NoneRose S.faults T.faults L.faults K.faults source.old source.new sink.old sink.new links.items result.2.items keeper result.1
         → IsDoneOrMemory result.0 }
 
-    ensures back { result.0 ≢ Status.Memory → IsSome result.1 }
+    ensures back { IsSome result.1 }
 {
     what_is_asked_is_in_range();
     match read_words(words) {

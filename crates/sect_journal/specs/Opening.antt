@@ -1,12 +1,12 @@
 -- What is found where a journal is opened.
-use Rattle.std.specs.Prelude.{◌≡◌, ◌<◌, ◌≤◌, ℕ, ◌+◌, List, [], ◌∷◌, length, take, drop, map, slice_index, true, ◌&&◌, nat_le, ◌==◌, if◌then◌else◌, Option, Some, None, Ok, Err, ⊤, All}
+use Rattle.std.specs.Prelude.{◌≡◌, ◌<◌, ◌≤◌, ℕ, ◌+◌, List, [], ◌∷◌, length, take, drop, map, slice_index, true, ◌&&◌, nat_le, ◌==◌, if◌then◌else◌, Option, Some, None, Ok, Err, ⊤, ◌⊎◌, All}
 use Rattle.sect_edge.specs.Causes.{Rose}
 use Rattle.sect_journal.specs.declared.journal.Span.{Span}
 use Rattle.sect_journal.specs.declared.journal.JournalFault.{JournalFault}
 use Rattle.sect_journal.specs.declared.journal.JournalFault.TheVariants.{Failed, BadJournal, Memory}
 use Rattle.sect_journal.specs.declared.gate.Gate.{Gate}
 use Rattle.sect_journal.specs.declared.gate.Gate.TheVariants.{Closed, Bad, Open}
-use Rattle.sect_journal.specs.Disk.{Told, after_write, after_sync}
+use Rattle.sect_journal.specs.Disk.{Told, IsSize, Tears, after_write, after_sync}
 use Rattle.sect_journal.specs.Text.{journal_rows, row_length, holds_row, rows_from}
 use Rattle.sect_journal.specs.Standing.{Standing, IsFront, IsClosed, HasRows, LeavesNow, cut}
 
@@ -86,3 +86,8 @@ formatted told = after_sync (after_write told 0 (0 ∷ []))
 abbrev pub prepared : Option Told → Option Told
 prepared None = None
 prepared (Some t) = if length t.now.seen == 0 then formatted (Some t) else Some t
+
+-- what a start that failed leaves: the disk as it was, or with a first byte that may have been written where it had none, or as it was prepared, synced or not
+abbrev pub IsLeftAtStart : Option Told → Option Told → Type 0
+IsLeftAtStart old new =
+    (new ≡ old) ⊎ ((IsSize old 0 × Tears old 0 1 new) ⊎ ((new ≡ prepared old) ⊎ (new ≡ after_sync (prepared old))))

@@ -2,7 +2,7 @@
 ghost use Rattle.std.specs.Prelude.{◌≡◌, ◌<◌, ◌≤◌, ◌^◌, ◌⊎◌, ◌∷◌, [], ℕ, length, IfOk, IfErr, OnOk, OnErr};
 ghost use Rattle.sect_edge.specs.Causes.{HasCauseFor};
 ghost use Rattle.sect_journal.specs.Disk.{IsSize, Tears, after_write, after_sync};
-ghost use Rattle.sect_journal.specs.Opening.{EndsAt, IsBadAt, IsOpened, HasRisenFor, formatted, prepared};
+ghost use Rattle.sect_journal.specs.Opening.{EndsAt, IsBadAt, IsOpened, HasRisenFor, IsLeftAtStart, formatted, prepared};
 ghost use Rattle.sect_journal.specs.Standing.{LeavesNow};
 
 use crate::gate::{Gate, read_gate};
@@ -93,10 +93,11 @@ impl<D: Disk> Journal<D> {
         write_through(disk, 0, &[0])
     }
 
-    /// Formats a disk of size 0, and opens the journal.
+    /// Formats a disk of size 0, and opens the journal. Gives the disk back at an error, with no row lost that stood on it.
     pub fn start(alloc: Global, disk: D) -> Result<Journal<D>, (JournalFault, D)>
         ensures opened { IfOk result (IsOpened D.told (prepared (D.told disk))) }
         ensures bad { IfErr result (λ e. IsBadAt (prepared (D.told disk)) e.0) }
+        ensures err { IfErr result (λ e. IsLeftAtStart (D.told disk) (D.told e.1)) }
         ensures cause { IfErr result (λ e. HasRisenFor JournalFault.Failed (D.faults disk) (D.faults e.1) e.0) }
         ensures faults { IfOk result (λ journal. D.faults disk ≤ D.faults journal.disk) }
     {
@@ -111,6 +112,7 @@ impl<D: Disk> Journal<D> {
 /// Formats a disk of size 0.
 fn prepare<D: Disk>(disk: &mut D) -> Result<(), DiskFault>
     ensures ok { OnOk result (D.told disk.new ≡ prepared (D.told disk.old)) }
+    ensures err { OnErr result ((D.told disk.new ≡ D.told disk.old) ⊎ (IsSize (D.told disk.old) 0 × Tears (D.told disk.old) 0 1 (D.told disk.new))) }
     ensures cause { HasCauseFor DiskFault.Failed (D.faults disk.old) (D.faults disk.new) result }
 {
     if disk.size()? == 0 {

@@ -1,5 +1,5 @@
 // An office: a desk, or another value, that the bearers of passes use in turn.
-ghost use Rattle.std.specs.Prelude.{◌≡◌, ◌+◌, ◌-◌, ◌<◌, ◌++◌, ◌⊎◌, [], length, IfOk, IfErr, OnOk, OnErr};
+ghost use Rattle.std.specs.Prelude.{◌≡◌, ◌+◌, ◌-◌, ◌<◌, ◌++◌, ◌⊎◌, [], length, IfOk, IfErr, IsOk, OnOk, OnErr};
 ghost use mathlib.Core.List.{IsPrefix};
 ghost use Rattle.sect_turn.specs.Passes.{front, own_calls, share, opening, IsIdle, IsPassOf, HasEachOnce};
 ghost use Rattle.sect_turn.specs.Rule.{whole_share};
@@ -80,11 +80,13 @@ impl<V: Chronicle> OfficeOf<V> {
         self.turn.join(pass, other);
     }
 
-    /// Ends the office. The calls of the pass are all notes since the opening.
+    /// Ends the office. The calls of the pass are all notes since the opening. It takes no memory, so the desk always comes
+    /// back.
     pub fn close(self, pass: Pass<V>) -> Result<V, Memory>
         requires turn { IsPassOf V.notes V.base self.turn pass }
         requires between_turns { IsIdle pass }
         requires whole { share pass ≡ whole_share }
+        ensures always { IsOk result }
         ensures front { IfOk result (λ desk. IsPrefix (front pass) (V.notes desk)) }
         ensures base { IfOk result (λ desk. V.base desk ≡ (opening pass).1) }
         ensures calls { IfOk result (λ desk. HasEachOnce (own_calls pass) (opening pass).0 (length (V.notes desk))) }

@@ -1,5 +1,5 @@
 // Many links at one desk.
-ghost use Rattle.std.specs.Prelude.{◌≡◌, ◌≢◌, ◌≤◌, ◌<◌, ℕ, List, [], All, IfErr, IfOk, IfSome, IsSome, length, map, take, vec_capacity, vec_len};
+ghost use Rattle.std.specs.Prelude.{◌≡◌, ◌≤◌, ◌<◌, ℕ, List, [], All, IfErr, IfOk, IfSome, IsSome, length, map, take, vec_capacity, vec_len};
 ghost use denote.Param.Send.{IsSend};
 ghost use mathlib.Core.List.{IsPrefix};
 ghost use Rattle.sect_command.specs.declared.command.Command.{Command};
@@ -41,7 +41,7 @@ pub enum ServeEnd {
 /// Serves each link by a worker of its own, with the clock at its place, in a thread of its own where one can be made.
 /// Each worker serves at most `sessions` connections, one after another, and each connection asks the one desk. A fault
 /// of a connection ends that connection alone, and a fault of a link its worker alone. The links come back in order, and
-/// the desk's keeper comes back but where memory is wanted at the end.
+/// so does the desk's keeper, at want of memory too.
 pub fn serve<
     O: TextObject<Query = Query, View = View> + Send,
     K: Keeper + Send,
@@ -68,7 +68,7 @@ where
     ensures serves { IfSome result.1 (λ back. Serves O.start O.stepped O.is_row K.rows K.faults (Answers O.start O.stepped O.is_row O.looked)
         L.In.left L.Out.taken L.In.faults L.Out.faults L.connections L.faults
         desk back links.items result.2.items (take (length links.items) (map C.days clocks.items)) sessions result.0) }
-    ensures keeper { result.0 ≢ ServeEnd.Memory → IsSome result.1 }
+    ensures keeper { IsSome result.1 }
 {
     desk.recall_sound();
     an_entry_has_one_row::<O>();
@@ -121,7 +121,7 @@ where
         → IfSome result.1 (λ back. Serves O.start O.stepped O.is_row K.rows K.faults (Answers O.start O.stepped O.is_row O.looked)
         L.In.left L.Out.taken L.In.faults L.Out.faults L.connections L.faults
         opened back (map (λ s. s.link) works.entry.items) result.2.items (map (λ s. C.days s.clock) works.entry.items) sessions result.0) }
-    ensures keeper { result.0 ≢ ServeEnd.Memory → IsSome result.1 }
+    ensures keeper { IsSome result.1 }
 {
     an_entry_has_one_row::<O>();
     let (pass, end, backs) = work_all(rt, alloc, &office, pass, works, backs, sessions);
@@ -130,7 +130,7 @@ where
             desk.recall_sound();
             (end, Some(desk.close()), backs)
         }
-        Err(_) => (ServeEnd::Memory, None, backs),
+        Err(_) => unreachable!(),
     }
 }
 

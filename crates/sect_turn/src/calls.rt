@@ -1,5 +1,5 @@
 // The calls of a turn.
-ghost use Rattle.std.specs.Prelude.{◌≡◌, ◌+◌, ◌-◌, ◌^◌, ◌<◌, ◌++◌, ◌⊎◌, [], ◌∷◌, length, IfOk, IfErr, OnOk, OnErr};
+ghost use Rattle.std.specs.Prelude.{◌≡◌, ◌+◌, ◌-◌, ◌^◌, ◌<◌, ◌++◌, ◌⊎◌, [], ◌∷◌, length, IfOk, IfErr, IsOk, OnOk, OnErr};
 ghost use mathlib.Core.List.{IsPrefix};
 ghost use Rattle.sect_turn.specs.Passes.{front, own_calls, share, opening, opened, IsIdle, HoldsTurn, KeepsCalls, IsPassOf, calls_after, HasEachOnce};
 ghost use Rattle.sect_turn.specs.Rule.{whole_share};
@@ -59,11 +59,13 @@ impl<V: Chronicle> Turn<V> {
         }
     }
 
-    /// Ends the turn. With the whole share no other pass has a call of its own or the value.
+    /// Ends the turn. With the whole share no other pass has a call of its own or the value. It takes no memory, so the value
+    /// always comes back.
     pub fn close(self, pass: Pass<V>) -> Result<V, Memory>
         requires turn { IsPassOf V.notes V.base self pass }
         requires between_turns { IsIdle pass }
         requires whole { share pass ≡ whole_share }
+        ensures always { IsOk result }
         ensures front { IfOk result (λ value. IsPrefix (front pass) (V.notes value)) }
         ensures base { IfOk result (λ value. V.base value ≡ (opening pass).1) }
         ensures calls { IfOk result (λ value. HasEachOnce (own_calls pass) (opening pass).0 (length (V.notes value))) }
