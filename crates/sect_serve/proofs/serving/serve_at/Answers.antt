@@ -5,8 +5,8 @@ use Rattle.sect_turn.specs.Passes.{front, opening, own_calls}
 use Rattle.sect_serve.proofs.Closing.{closes}
 use Rattle.sect_serve.proofs.serving.serve_at.Goals as goal
 
-pub returns-in-Ok-clause-serves : goal.returns-in-Ok-clause-serves
-returns-in-Ok-clause-serves g c = λ opened was first_is place_is.
+pub returns-clause-serves : goal.returns-clause-serves
+returns-clause-serves g c = λ opened was first_is place_is.
     let now = c.work_all-pass.result.0 in
     let ran = c.work_all-pass.ensures in
     closes g.O.Object.start g.O.Object.stepped g.O.Object.is_row c.an_entry_has_one_row.ensures g.K.Keeper.rows g.K.Keeper.faults
