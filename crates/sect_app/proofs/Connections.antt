@@ -1,5 +1,5 @@
 -- What is done where connections are served.
-use Rattle.std.proofs.Common.{◌≡◌, ◌≢◌, ℕ, true, false, List, Option, Some, None, refl, inl}
+use Rattle.std.proofs.Common.{◌≡◌, ℕ, true, false, List, Option, Some, None, refl, inl}
 use Rattle.std.specs.Prelude.{IfSome, IsSome}
 use Rattle.sect_command.specs.declared.command.Command.{Command}
 use Rattle.sect_command.specs.declared.reply.Reply.{Reply}
@@ -17,13 +17,6 @@ use Rattle.sect_serve.specs.declared.serving.ServeEnd.{ServeEnd}
 use Rattle.sect_serve.specs.declared.serving.ServeEnd.TheVariants as ends
 use Rattle.sect_wire.specs.Laws.{IsRow}
 use Rattle.sect_app.specs.Serving.{MachineAnswers, ServesOver, serve_status}
-
--- a keeper is there at each status but want of memory
-pub back_there : {A : Type 0} (end : ServeEnd) (status : Status) (o : Option A) → status ≡ serve_status end
-    → (end ≢ ends.Memory → IsSome o) → status ≢ statuses.Memory → IsSome o
-back_there ends.Done status o is some h = some (λ e. absurd cc)
-back_there ends.LinkFault status o is some h = some (λ e. absurd cc)
-back_there ends.Memory status o is some h = absurd (h is)
 
 module _ {I T L K : Type 0} (rows : K → Option (List (List ℕ))) (keeper_faults : K → ℕ)
     (left : I → Option (List ℕ)) (taken : T → Option (List ℕ)) (in_faults : I → ℕ) (out_faults : T → ℕ)
@@ -43,9 +36,9 @@ module _ {I T L K : Type 0} (rows : K → Option (List (List ℕ))) (keeper_faul
 
   -- a fault of the links is told only where one of them rose
   pub link_rose : (opened : Standing State Command Reply K) (links backs : List L) (days : List (Option (List ℕ))) (sessions : ℕ) (end : ServeEnd) (back : Option K)
-      → (end ≢ ends.Memory → IsSome back) → IfSome back (ServedAt opened links backs days sessions end)
+      → IsSome back → IfSome back (ServedAt opened links backs days sessions end)
       → serve_status end ≡ statuses.LinkFault → SomeRose faults links backs
   link_rose opened links backs days sessions ends.Done back some served is = absurd cc
   link_rose opened links backs days sessions ends.Memory back some served is = absurd cc
-  link_rose opened links backs days sessions ends.LinkFault None some served is = absurd (let no : false ≡ true = some (λ e. absurd cc) in cc)
+  link_rose opened links backs days sessions ends.LinkFault None some served is = absurd (let no : false ≡ true = some in cc)
   link_rose opened links backs days sessions ends.LinkFault (Some back) some served is = served.served.cause refl

@@ -197,11 +197,6 @@ served_ends serve_ends.Done = λ well. inl refl
 served_ends serve_ends.LinkFault = λ well. absurd well
 served_ends serve_ends.Memory = λ well. inr refl
 
--- the keeper doesn't come back for want of memory alone
-none_back : (status : Status) → (status ≢ statuses.Memory → false ≡ true) → EndsWell status
-none_back status some = no_bad_input (λ s. s ≢ statuses.Memory → false ≡ true) (λ is. absurd (let no = is (λ e. absurd cc) in cc))
-    (λ line field is. absurd (let no = is (λ e. absurd cc) in cc)) (λ row is. absurd (let no = is (λ e. absurd cc) in cc)) status some
-
 module _ {I T L K : Type 0} (rows : K → Option (List (List ℕ))) (keeper_faults : K → ℕ)
     (left : I → Option (List ℕ)) (taken : T → Option (List ℕ)) (in_faults : I → ℕ) (out_faults : T → ℕ)
     (connections : L → Option (Connections (I × T))) (faults : L → ℕ) where
@@ -213,10 +208,10 @@ module _ {I T L K : Type 0} (rows : K → Option (List (List ℕ))) (keeper_faul
 
   -- links that were served over a keeper that opens
   pub serves_well : (keeper : K) (back : Option K) (links backs : List L) (days : List (Option (List ℕ))) (sessions : ℕ) (read wrote : Option (List ℕ)) (status : Status)
-      → IsSomeAnd (rows keeper) AllOpen → (status ≢ statuses.Memory → IsSome back)
+      → IsSomeAnd (rows keeper) AllOpen → IsSome back
       → IfSome back (λ b. ServesOver rows keeper_faults left taken in_faults out_faults connections faults keeper b links backs days sessions read wrote status)
       → EndsWell status
-  serves_well keeper None links backs days sessions read wrote status opens some serves = none_back status some
+  serves_well keeper None links backs days sessions read wrote status opens some serves = absurd (let no : false ≡ true = some in cc)
   serves_well keeper (Some back) links backs days sessions read wrote status opens some serves =
       over_ends keeper back links backs days sessions read wrote status opens serves
 
@@ -250,8 +245,8 @@ module _ {S T L K : Type 0} (in_faults : S → ℕ) (out_faults : T → ℕ) (li
   pub quiet_serving : (source source' : S) (sink sink' : T) (links links' : List L) (keeper : K) (back : Option K) (status : Status)
       → NoneRose in_faults out_faults link_faults keeper_faults source source' sink sink' links links' keeper back
       → status ≢ statuses.ReadFault → status ≢ statuses.WriteFault → (status ≡ statuses.KeeperFault → IfSome back (λ b. Rose (keeper_faults keeper) (keeper_faults b)))
-      → (status ≡ statuses.LinkFault → SomeRose link_faults links links') → (status ≢ statuses.Memory → IsSome back) → IsUnfaulted status
+      → (status ≡ statuses.LinkFault → SomeRose link_faults links links') → IsSome back → IsUnfaulted status
   quiet_serving source source' sink sink' links links' keeper back status none read write keeper_rose link some =
       unfaulted status (λ e. absurd (read e)) (λ e. absurd (write e))
-      (λ e. not_both keeper_faults keeper back (some (λ m. absurd (let two = sym e ∙ m in cc))) (keeper_rose e) none.of_keeper)
+      (λ e. not_both keeper_faults keeper back some (keeper_rose e) none.of_keeper)
       (λ e. none.of_links (link e))

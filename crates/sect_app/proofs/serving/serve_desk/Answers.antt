@@ -1,7 +1,7 @@
 -- The links were served over the machine's history.
 use Rattle.std.proofs.Common.{sym, ◌∙◌}
 use Rattle.std.specs.Prelude.{length, map, take}
-use Rattle.sect_app.proofs.Connections.{back_there, link_rose, serves_desk}
+use Rattle.sect_app.proofs.Connections.{link_rose, serves_desk}
 use Rattle.sect_app.proofs.serving.serve_desk.Goals as goal
 
 pub returns-in-Ok-clause-serves : goal.returns-in-Ok-clause-serves
@@ -17,7 +17,7 @@ returns-in-Ok-clause-link_fault g c = λ is.
     c.serve-end.result.0 c.serve-end.result.1 c.serve-end.ensures.keeper c.serve-end.ensures.serves (sym c.serve_status.ensures.status ∙ is)
 
 pub returns-in-Ok-clause-back : goal.returns-in-Ok-clause-back
-returns-in-Ok-clause-back g c = back_there c.serve-end.result.0 c.serve_status.result c.serve-end.result.1 c.serve_status.ensures.status c.serve-end.ensures.keeper
+returns-in-Ok-clause-back g c = c.serve-end.ensures.keeper
 
 pub returns-in-Ok-clause-others : goal.returns-in-Ok-clause-others
 returns-in-Ok-clause-others g c = c.serve_status.ensures.others
