@@ -1,11 +1,11 @@
 // The counts of a row against their limits.
 
 ghost use Rattle.std.specs.Prelude.{◌≡◌, ℕ, ◌+◌, ◌-◌, ◌^◌, min, List, ◌∷◌, [], length, map, flat_map, ◌≤◌};
-ghost use Rattle.sect_base.specs.Capped.{capped as capped_of};
 ghost use Rattle.sect_catalog.specs.Catalogue.{sections_in};
 ghost use Rattle.sect_catalog.specs.Search.{too_many_of, count_fault as fault_of_counts};
 
 use crate::row::{CatalogFault, ConfigRow, OfferingRow, SubpartRow};
+use sect_base::capped;
 
 /// The most courses of an offering, configurations of an offering, subparts of a
 /// configuration, sections of a subpart, meetings of a section, and sections in all.
@@ -52,13 +52,6 @@ fn above(limit: usize, count: usize) -> Option<CatalogFault>
         return Some(CatalogFault::TooMany(capped(count)));
     }
     None
-}
-
-/// A count of at most 2^32 - 1.
-fn capped(count: usize) -> u32
-    ensures { result ≡ capped_of count }
-{
-    count.min(u32::MAX as usize) as u32
 }
 
 fn many_subparts(configs: &[ConfigRow]) -> Option<CatalogFault>

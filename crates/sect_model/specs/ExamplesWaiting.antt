@@ -1,4 +1,4 @@
--- Worked examples: the waiting list.
+-- Worked examples: the wait-list.
 use Rattle.sect_base.specs.declared.limit.Cap.TheVariants.{Section as cap_section}
 use Rattle.sect_base.specs.declared.limit.Limit.TheVariants.{Unlimited, Places}
 use Rattle.sect_command.specs.declared.command.Command.TheVariants.{Reserve, SetLimit}

@@ -17,7 +17,7 @@ pub enum Answer<R> {
     LogFull,
     /// The keeper failed to keep the entry, and the object is as before.
     KeeperFault,
-    /// Memory was wanted, and nothing has changed.
+    /// Memory was wanted, and nothing has changed within the run.
     Memory,
 }
 

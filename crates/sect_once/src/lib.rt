@@ -1,4 +1,4 @@
-// One history of an object, in which each request number acts at most once.
+//! One history of an object, in which each request number acts at most once.
 #![tactic(auto)]
 
 mod act;

@@ -5,7 +5,6 @@ ghost use Rattle.std.specs.Bool.{then_some};
 ghost use Rattle.std.specs.List.Sorted.{IsNonDecreasingBy};
 ghost use Rattle.std.specs.Option.{option_or};
 ghost use Rattle.std.specs.Result.{result_err};
-ghost use Rattle.sect_base.specs.Capped.{capped as capped_of};
 ghost use Rattle.sect_people.specs.Fault.{
   courses_of,
   courses_of_all,
@@ -18,7 +17,7 @@ ghost use Rattle.sect_people.specs.Fault.{
 use crate::rank::is_known;
 use crate::repeat::first_repeat;
 use crate::row::{Ask, RequestFault};
-use sect_base::CourseId;
+use sect_base::{CourseId, capped};
 
 /// The first fault, in the order of the faults: a course that isn't among those known, which
 /// stand in rising order; a course that stands a second time in the requests; more than 20
@@ -109,11 +108,4 @@ fn bad_length(ask: &Ask) -> Option<usize>
         }
         Ask::Free(_) => None,
     }
-}
-
-/// A count as faults and refusals tell it: the count, or 2^32 - 1 where that is smaller. It takes no memory.
-pub fn capped(count: usize) -> u32
-    ensures { result ≡ capped_of count }
-{
-    count.min(u32::MAX as usize) as u32
 }

@@ -10,9 +10,9 @@ ghost use Rattle.sect_model.specs.Refusals.{
   credits_above as credits_fault,
 };
 
-use sect_base::{Cap, Level, Limit};
+use sect_base::{Cap, Level, Limit, capped};
 use sect_command::Refusal;
-use sect_people::{StudentRow, capped};
+use sect_people::StudentRow;
 use sect_space::World;
 
 /// The most students.

@@ -15,10 +15,9 @@ ghost use Rattle.sect_model.specs.Refusals.{
   row_refusal as refusal_of_row,
 };
 
-use sect_base::{ConfigId, CourseId, SectionId};
+use sect_base::{ConfigId, CourseId, SectionId, capped};
 use sect_catalog::{ConfigRow, OfferingRow, SubpartRow};
 use sect_command::{Refusal, RowFault};
-use sect_people::capped;
 use sect_reserve::{Audience, ReserveFault};
 
 /// The most students that an audience lists.

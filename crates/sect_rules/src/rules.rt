@@ -18,7 +18,7 @@ use sect_model::Pick;
 use sect_reserve::Reservation;
 use sect_space::World;
 
-/// The first rule, in numbered order, that the decision breaks, with its number; tested in the
+/// The first rule, in the order of their numbers, that the decision breaks, with its number; tested in the
 /// world after the courses given up have left and the choices made so far were added. The decision
 /// is one of the path's options. Only the student's own enrolments are read. It takes no memory.
 pub fn broken<const N: usize>(
