@@ -26,6 +26,7 @@ fn past_row(row: &OfferingRow) -> Option<Floors>
     past_configs(floors, row.configs.as_slice())
 }
 
+/// The floors behind one id. None where it doesn't rise.
 fn past(floors: Floors, id: Key) -> Option<Floors>
     ensures { result ≡ past_of floors id }
 {
@@ -40,6 +41,7 @@ fn past(floors: Floors, id: Key) -> Option<Floors>
     Some(floors)
 }
 
+/// The floors behind the courses' ids. None where one of them doesn't rise.
 fn past_courses(floors: Floors, courses: &[CourseRow]) -> Option<Floors>
     ensures { result ≡ past_all floors (map (λ c. (1, c.id.0)) courses.now) }
 {
@@ -50,6 +52,7 @@ fn past_courses(floors: Floors, courses: &[CourseRow]) -> Option<Floors>
     Some(floors)
 }
 
+/// The floors behind the ids of the configurations and of what they hold. None where one of them doesn't rise.
 fn past_configs(floors: Floors, configs: &[ConfigRow]) -> Option<Floors>
     ensures { result ≡ past_all floors (flat_map config_ids configs.now) }
 {
@@ -60,6 +63,7 @@ fn past_configs(floors: Floors, configs: &[ConfigRow]) -> Option<Floors>
     Some(floors)
 }
 
+/// The floors behind the ids of a configuration and of what it holds. None where one of them doesn't rise.
 fn past_config(floors: Floors, config: &ConfigRow) -> Option<Floors>
     ensures { result ≡ past_all floors (config_ids config.now) }
 {
@@ -70,6 +74,7 @@ fn past_config(floors: Floors, config: &ConfigRow) -> Option<Floors>
     Some(floors)
 }
 
+/// The floors behind the ids of a subpart and of its sections. None where one of them doesn't rise.
 fn past_subpart(floors: Floors, subpart: &SubpartRow) -> Option<Floors>
     ensures { result ≡ past_all floors (subpart_ids subpart.now) }
 {

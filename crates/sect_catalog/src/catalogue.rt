@@ -95,6 +95,7 @@ impl Catalogue {
         }
     }
 
+    /// The first fault for which a row isn't added, if it has one.
     fn fault(&self, row: &OfferingRow) -> Option<CatalogFault>
         ensures { result ≡ fault_of self.now row.now }
     {
@@ -111,6 +112,7 @@ impl Catalogue {
         count_fault(row, self.sections)
     }
 
+    /// The first id of the row that the catalogue has, or that stands twice in the row.
     fn known_id(&self, row: &OfferingRow) -> Option<u32>
         ensures { result ≡ first_known self.now row.now }
     {

@@ -53,6 +53,7 @@ impl Duplicate for SectionRow {
     }
 }
 
+/// A copy of a section's meetings.
 fn copy_meetings(meetings: &Items<Meeting>, alloc: Global) -> Result<Items<Meeting>, Memory>
     ensures { IfOk result (λ copies. copies ≡ meetings.now) }
 {

@@ -54,6 +54,7 @@ fn above(limit: usize, count: usize) -> Option<CatalogFault>
     None
 }
 
+/// The fault of the first configuration with too many subparts.
 fn many_subparts(configs: &[ConfigRow]) -> Option<CatalogFault>
     ensures { result ≡ too_many_of 6 (map (λ g. length g.subparts) configs.now) }
 {
@@ -65,6 +66,7 @@ fn many_subparts(configs: &[ConfigRow]) -> Option<CatalogFault>
     None
 }
 
+/// The fault of the configurations' first subpart with too many sections.
 fn many_sections(configs: &[ConfigRow]) -> Option<CatalogFault>
     ensures { result ≡ too_many_of 200 (map (λ p. length p.sections) (flat_map (λ g. g.subparts) configs.now)) }
 {
@@ -76,6 +78,7 @@ fn many_sections(configs: &[ConfigRow]) -> Option<CatalogFault>
     None
 }
 
+/// The fault of the first subpart with too many sections.
 fn many_sections_of(subparts: &[SubpartRow]) -> Option<CatalogFault>
     ensures { result ≡ too_many_of 200 (map (λ p. length p.sections) subparts.now) }
 {
@@ -87,6 +90,7 @@ fn many_sections_of(subparts: &[SubpartRow]) -> Option<CatalogFault>
     None
 }
 
+/// The fault of the configurations' first section with too many meetings.
 fn many_meetings(configs: &[ConfigRow]) -> Option<CatalogFault>
     ensures { result ≡ too_many_of 8 (map (λ s. length s.meetings) (sections_in (flat_map (λ g. g.subparts) configs.now))) }
 {
@@ -98,6 +102,7 @@ fn many_meetings(configs: &[ConfigRow]) -> Option<CatalogFault>
     None
 }
 
+/// The fault of the subparts' first section with too many meetings.
 fn many_meetings_of(subparts: &[SubpartRow]) -> Option<CatalogFault>
     ensures { result ≡ too_many_of 8 (map (λ s. length s.meetings) (sections_in subparts.now)) }
 {
@@ -109,6 +114,7 @@ fn many_meetings_of(subparts: &[SubpartRow]) -> Option<CatalogFault>
     None
 }
 
+/// The fault of a subpart's first section with too many meetings.
 fn many_meetings_in(subpart: &SubpartRow) -> Option<CatalogFault>
     ensures { result ≡ too_many_of 8 (map (λ s. length s.meetings) subpart.now.sections) }
 {
@@ -120,6 +126,7 @@ fn many_meetings_in(subpart: &SubpartRow) -> Option<CatalogFault>
     None
 }
 
+/// The fault of too many sections in all: those of the configurations and so many others.
 fn many_in_all(configs: &[ConfigRow], others: usize) -> Option<CatalogFault>
     ensures { result ≡ too_many_of 20000 ((others + length (sections_in (flat_map (λ g. g.subparts) configs.now))) ∷ []) }
 {
@@ -140,6 +147,7 @@ pub fn sections(configs: &[ConfigRow]) -> usize
     count
 }
 
+/// The number of the subparts' sections, or the largest number.
 fn sections_of(subparts: &[SubpartRow]) -> usize
     ensures { result ≡ min (length (sections_in subparts.now)) (2 ^ 64 - 1) }
 {

@@ -52,6 +52,7 @@ fn bare_subpart(configs: &[ConfigRow]) -> Option<CatalogFault>
     None
 }
 
+/// The fault of the first subpart without a section.
 fn bare_subpart_of(subparts: &[SubpartRow]) -> Option<CatalogFault>
     ensures { result ≡ subpart_is_bare subparts.now }
 {
@@ -71,6 +72,7 @@ pub fn bad_parent(configs: &[ConfigRow]) -> Option<u32>
     None
 }
 
+/// The first section whose parent stands in no earlier subpart of the configuration.
 fn bad_parent_in(subparts: &[SubpartRow]) -> Option<u32>
     ensures { result ≡ bad_parent_after [] subparts.now }
 {
@@ -93,6 +95,7 @@ fn first_orphan(earlier: &[SubpartRow], subpart: &SubpartRow) -> Option<u32>
     Some(section.id.0)
 }
 
+/// Whether the section names a parent that isn't in the earlier subparts.
 fn lacks_parent(earlier: &[SubpartRow], section: &SectionRow) -> bool
     ensures { result ≡ parent_lacks earlier.now section.now }
 {
@@ -102,18 +105,21 @@ fn lacks_parent(earlier: &[SubpartRow], section: &SectionRow) -> bool
     }
 }
 
+/// Whether a section of this id stands in the subparts.
 fn stands_in(subparts: &[SubpartRow], id: SectionId) -> bool
     ensures { result ≡ list_any (λ e. e.id.0 == id.0) (sections_in subparts.now) }
 {
     any_has(subparts, id)
 }
 
+/// Whether any of the subparts has a section of this id.
 fn any_has(subparts: &[SubpartRow], id: SectionId) -> bool
     ensures { result ≡ list_any (λ p. list_any (λ e. e.id.0 == id.0) p.sections) subparts.now }
 {
     subparts.iter().any(|subpart| has_section(subpart, id))
 }
 
+/// Whether the subpart has a section of this id.
 fn has_section(subpart: &SubpartRow, id: SectionId) -> bool
     ensures { result ≡ list_any (λ e. e.id.0 == id.0) subpart.now.sections }
 {

@@ -7,12 +7,14 @@ ghost use Rattle.sect_catalog.specs.Place.{config_at as config_of, section_at as
 use crate::place::Place;
 use crate::row::{ConfigRow, CourseRow, OfferingRow, SectionRow};
 
+/// The offering at a place of the rows.
 pub fn offering_at(rows: &[OfferingRow], at: Option<Place>) -> Option<&OfferingRow>
     ensures { option_copied result ≡ option_and_then (λ at. slice_get rows.now at.row) at }
 {
     rows.get(at?.row)
 }
 
+/// The configuration at a place of the rows.
 pub fn config_at(rows: &[OfferingRow], at: Option<Place>) -> Option<&ConfigRow>
     ensures { option_copied result ≡ option_and_then (config_of rows.now) at }
 {
@@ -21,6 +23,7 @@ pub fn config_at(rows: &[OfferingRow], at: Option<Place>) -> Option<&ConfigRow>
     row.configs.as_slice().get(at.config)
 }
 
+/// The section at a place of the rows.
 pub fn section_at(rows: &[OfferingRow], at: Option<Place>) -> Option<&SectionRow>
     ensures { option_copied result ≡ option_and_then (section_of rows.now) at }
 {
@@ -30,6 +33,7 @@ pub fn section_at(rows: &[OfferingRow], at: Option<Place>) -> Option<&SectionRow
     subpart.sections.as_slice().get(at.section)
 }
 
+/// The course at a place of the rows, with its offering.
 pub fn course_at(rows: &[OfferingRow], at: Option<Place>) -> Option<(&OfferingRow, &CourseRow)>
     ensures { option_map (λ found. (found.0.now, found.1.now)) result ≡ option_and_then (course_of rows.now) at }
 {

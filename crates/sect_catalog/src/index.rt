@@ -109,6 +109,7 @@ impl Index {
         Ok(())
     }
 
+    /// Notes one id's place. An id that has one keeps it.
     fn note_one(&mut self, id: Key, at: Place) -> Result<(), Memory>
         requires { has_kind (id, at) ≡ true }
         ensures ok { OnOk result (Notes self.old self.new ((id, at) ∷ [])) }

@@ -34,6 +34,7 @@ fn is_taken(index: &Index, row: &OfferingRow, apart: bool, id: Key) -> bool
     index.has(id) || !apart && times_in_row(row, id) > 1
 }
 
+/// The first of the courses' ids that is taken.
 fn known_course(index: &Index, row: &OfferingRow, apart: bool, courses: &[CourseRow]) -> Option<u32>
     requires { apart ≡ true → AreApart row.now }
     ensures { result ≡ option_map (λ id. id.1) (find (taken_of index.now row.now) (map (λ c. (1, c.id.0)) courses.now)) }
@@ -46,6 +47,7 @@ fn known_course(index: &Index, row: &OfferingRow, apart: bool, courses: &[Course
     None
 }
 
+/// The first id of the configurations, and of what they hold, that is taken.
 fn known_in_configs(
     index: &Index,
     row: &OfferingRow,
@@ -63,6 +65,7 @@ fn known_in_configs(
     None
 }
 
+/// The first id of a configuration, and of what it holds, that is taken.
 fn known_in_config(index: &Index, row: &OfferingRow, apart: bool, config: &ConfigRow) -> Option<u32>
     requires { apart ≡ true → AreApart row.now }
     ensures { result ≡ option_map (λ id. id.1) (find (taken_of index.now row.now) (config_ids config.now)) }
@@ -73,6 +76,7 @@ fn known_in_config(index: &Index, row: &OfferingRow, apart: bool, config: &Confi
     known_in_subparts(index, row, apart, config.subparts.as_slice())
 }
 
+/// The first id of the subparts and their sections that is taken.
 fn known_in_subparts(
     index: &Index,
     row: &OfferingRow,
@@ -90,6 +94,7 @@ fn known_in_subparts(
     None
 }
 
+/// The first id of a subpart and its sections that is taken.
 fn known_in_subpart(
     index: &Index,
     row: &OfferingRow,
@@ -105,6 +110,7 @@ fn known_in_subpart(
     known_section(index, row, apart, subpart.sections.as_slice())
 }
 
+/// The first of the sections' ids that is taken.
 fn known_section(
     index: &Index,
     row: &OfferingRow,

@@ -36,6 +36,7 @@ pub fn put_at(rows: &mut Vec<OfferingRow>, cap: Cap, limit: Limit, at: Place)
     }
 }
 
+/// Gives the course, configuration or section at this place of a row its new limit.
 fn put_in_row(row: &mut OfferingRow, cap: Cap, limit: Limit, at: Place)
     ensures { row.new ≡ with_cap cap limit at row.old }
 {
@@ -46,6 +47,7 @@ fn put_in_row(row: &mut OfferingRow, cap: Cap, limit: Limit, at: Place)
     }
 }
 
+/// Gives the course at this place of a row its new limit.
 fn put_course(row: &mut OfferingRow, limit: Limit, at: Place)
     ensures { row.new ≡ with_course limit at row.old }
 {
@@ -54,6 +56,7 @@ fn put_course(row: &mut OfferingRow, limit: Limit, at: Place)
     }
 }
 
+/// Gives the configuration at this place of a row its new limit.
 fn put_config(row: &mut OfferingRow, limit: Limit, at: Place)
     ensures { row.new ≡ with_config limit at row.old }
 {
@@ -62,6 +65,7 @@ fn put_config(row: &mut OfferingRow, limit: Limit, at: Place)
     }
 }
 
+/// Gives the section at this place of a row its new limit.
 fn put_section(row: &mut OfferingRow, limit: Limit, at: Place)
     ensures { row.new ≡ with_section limit at row.old }
 {
@@ -70,6 +74,7 @@ fn put_section(row: &mut OfferingRow, limit: Limit, at: Place)
     }
 }
 
+/// Gives the section at this place of a configuration its new limit.
 fn put_in_config(config: &mut ConfigRow, limit: Limit, at: Place)
     ensures { config.new ≡ within_config limit at config.old }
 {
@@ -78,6 +83,7 @@ fn put_in_config(config: &mut ConfigRow, limit: Limit, at: Place)
     }
 }
 
+/// Gives the section at this place of a subpart its new limit.
 fn put_in_subpart(subpart: &mut SubpartRow, limit: Limit, at: Place)
     ensures { subpart.new ≡ within_subpart limit at subpart.old }
 {

@@ -38,6 +38,7 @@ pub struct Place {
 /// An id by the number of its kind and its own.
 pub type Key = (u8, u32);
 
+/// An id with the number of its kind.
 pub fn key(kind: Kind, id: u32) -> Key
     ensures { result ≡ (kind_number kind, id) }
 {
@@ -65,6 +66,7 @@ pub fn note_row(entries: &mut Vec<(Key, Place)>, at: usize, row: &OfferingRow) -
     note_configs(entries, at, row.configs.as_slice())
 }
 
+/// The entries of the courses' ids, behind those that are there.
 fn note_courses(
     entries: &mut Vec<(Key, Place)>,
     at: Place,
@@ -78,6 +80,7 @@ fn note_courses(
     Ok(())
 }
 
+/// The entries of the ids of the configurations and of what they hold, behind those that are there.
 fn note_configs(
     entries: &mut Vec<(Key, Place)>,
     at: Place,
@@ -98,6 +101,7 @@ fn note_configs(
     Ok(())
 }
 
+/// The entries of the ids of a configuration and of what it holds, behind those that are there.
 fn note_config(entries: &mut Vec<(Key, Place)>, at: Place, config: &ConfigRow) -> Result<(), Memory>
     ensures { OnOk result (entries.new.items ≡ entries.old.items ++ config_entries at at.config config.now) }
 {
@@ -108,6 +112,7 @@ fn note_config(entries: &mut Vec<(Key, Place)>, at: Place, config: &ConfigRow) -
     Ok(())
 }
 
+/// The entries of the ids of a subpart and of its sections, behind those that are there.
 fn note_subpart(
     entries: &mut Vec<(Key, Place)>,
     at: Place,

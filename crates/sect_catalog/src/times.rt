@@ -32,6 +32,7 @@ pub fn times_in_row(row: &OfferingRow, id: Key) -> usize
     up_to_two(own, up_to_two(courses, configs))
 }
 
+/// How often the id is one of the courses', at most 2.
 fn times_in_courses(courses: &[CourseRow], id: Key) -> usize
     ensures { result ≡ times_in (map (λ c. (1, c.id.0)) courses.now) id }
 {
@@ -42,6 +43,7 @@ fn times_in_courses(courses: &[CourseRow], id: Key) -> usize
     times
 }
 
+/// How often the id stands in the configurations, at most 2.
 fn times_in_configs(configs: &[ConfigRow], id: Key) -> usize
     ensures { result ≡ times_in (flat_map config_ids configs.now) id }
 {
@@ -52,6 +54,7 @@ fn times_in_configs(configs: &[ConfigRow], id: Key) -> usize
     times
 }
 
+/// How often the id stands in a configuration, at most 2.
 fn times_in_config(config: &ConfigRow, id: Key) -> usize
     ensures { result ≡ times_in (config_ids config.now) id }
 {
@@ -62,6 +65,7 @@ fn times_in_config(config: &ConfigRow, id: Key) -> usize
     times
 }
 
+/// How often the id stands in a subpart, at most 2.
 fn times_in_subpart(subpart: &SubpartRow, id: Key) -> usize
     ensures { result ≡ times_in (subpart_ids subpart.now) id }
 {

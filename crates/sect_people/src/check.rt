@@ -48,6 +48,7 @@ pub fn courses(ask: &Ask) -> &[CourseId]
     }
 }
 
+/// The requests' first course that isn't known. The known ones are in order.
 fn first_unknown(asks: &[Ask], known: &[CourseId]) -> Option<CourseId>
     requires { IsNonDecreasingBy (λ c. c.0) known.now }
     ensures { result ≡ find (is_unknown known.now) (courses_of_all asks.now) }
@@ -60,6 +61,7 @@ fn first_unknown(asks: &[Ask], known: &[CourseId]) -> Option<CourseId>
     None
 }
 
+/// The first of the courses that isn't known. The known ones are in order.
 fn unknown_among(courses: &[CourseId], known: &[CourseId]) -> Option<CourseId>
     requires { IsNonDecreasingBy (λ c. c.0) known.now }
     ensures { result ≡ find (is_unknown known.now) courses.now }
@@ -83,6 +85,7 @@ fn wrong_count(asks: &[Ask]) -> Option<usize>
     }
 }
 
+/// The number of courses of the first request that lists none or too many.
 fn first_bad_length(asks: &[Ask]) -> Option<usize>
     ensures { result ≡ first_length_fault asks.now }
 {
@@ -94,6 +97,7 @@ fn first_bad_length(asks: &[Ask]) -> Option<usize>
     None
 }
 
+/// The number of a request's courses, where there are none or too many.
 fn bad_length(ask: &Ask) -> Option<usize>
     ensures { result ≡ length_fault ask.now }
 {

@@ -158,6 +158,7 @@ impl People {
         self.students.remove(last).into_row()
     }
 
+    /// Puts the row in the place of its student's, which is given back.
     fn replace_row(&mut self, place: usize, row: StudentRow) -> StudentRow
         requires { place_of (λ s. s.row.id.0) self.old row.id.0 ≡ Some place }
         ensures given_back { Some result ≡ option_map (λ s. s.row) (find_student self.old row.id) }
@@ -166,6 +167,7 @@ impl People {
         self.students[place].replace_row(row)
     }
 
+    /// Puts the requests in the place of the student's, which are given back.
     fn replace_asks(&mut self, place: usize, student: StudentId, asks: Items<Ask>) -> Items<Ask>
         requires { place_of (λ s. s.row.id.0) self.old student.0 ≡ Some place }
         ensures given_back { Some result ≡ option_map (λ s. s.asks) (find_student self.old student) }
@@ -191,6 +193,7 @@ impl People {
         Ok(())
     }
 
+    /// The student of this id, if there is one.
     fn find(&self, id: StudentId) -> Option<&Student>
         ensures { option_copied result ≡ find_student self.now id }
     {

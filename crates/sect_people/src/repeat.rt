@@ -34,18 +34,21 @@ fn repeat_in(earlier: &[Ask], courses: &[CourseId]) -> Option<CourseId>
     None
 }
 
+/// Whether the course stands in the earlier requests, or before its place in its own.
 fn stands_before(earlier: &[Ask], before: &[CourseId], course: CourseId) -> bool
     ensures { result ≡ list_any (λ e. e.0 == course.0) (before.now ++ courses_of_all earlier.now) }
 {
     before.contains(&course) || stands_in(earlier, course)
 }
 
+/// Whether one of the requests lists the course.
 fn stands_in(asks: &[Ask], course: CourseId) -> bool
     ensures { result ≡ list_any (lists_course course) asks.now }
 {
     asks.iter().any(|ask| lists(ask, course))
 }
 
+/// Whether the request lists the course.
 fn lists(ask: &Ask, course: CourseId) -> bool
     ensures { result ≡ lists_course course ask.now }
 {

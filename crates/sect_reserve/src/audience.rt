@@ -52,12 +52,14 @@ fn fits(area: AreaId, classes: &[ClassId], majors: &[MajorId], c: &Curriculum) -
     c.area == area && class_listed(classes, c.class) && major_listed(majors, c.majors.as_slice())
 }
 
+/// Whether the class is among those listed. Where none is listed, each is.
 fn class_listed(classes: &[ClassId], class: ClassId) -> bool
     ensures { result ≡ has_class classes.now class }
 {
     classes.is_empty() || classes.contains(&class)
 }
 
+/// Whether one of the student's majors is among those listed. Where none is listed, each student passes.
 fn major_listed(majors: &[MajorId], has: &[MajorId]) -> bool
     ensures { result ≡ has_major majors.now has.now }
 {

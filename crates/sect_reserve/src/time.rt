@@ -27,6 +27,7 @@ pub fn lasts(r: &Reservation, day: Day) -> bool
     }
 }
 
+/// Whether the reservation's first day has come. One without a first day has begun.
 fn has_begun(r: &Reservation, day: Day) -> bool
     ensures { result ≡ is_begun r.now day }
 {

@@ -80,6 +80,7 @@ pub fn keep<V: Copy, T: Test<V>>(slots: &mut [Option<V>], test: &T)
     }
 }
 
+/// The slot's value where it passes the test, else nothing.
 fn kept<V: Copy, T: Test<V>>(slot: Option<V>, test: &T) -> Option<V>
     ensures { result ≡ kept_of (T.passes test.now) slot }
 {

@@ -55,6 +55,7 @@ impl<V: Copy> Table<V> {
         }
     }
 
+    /// The value of a number among those that have no slot.
     fn other(&self, number: u32) -> Option<V>
         ensures { result ≡ get nat_eq self.now.others number }
     {
@@ -106,6 +107,7 @@ fn keep_seen<V: Copy>(others: &mut HashMap<u32, V>, slots: &[Option<V>])
     others.retain(|number, _| slots::get(slots, *number as usize).is_none());
 }
 
+/// Forgets the values that don't pass the test.
 fn keep_passing<V: Copy, T: Test<V>>(others: &mut HashMap<u32, V>, test: &T)
     ensures { (n : ℕ) → get nat_eq others.new n ≡ kept (T.passes test.now) (get nat_eq others.old n) }
 {

@@ -32,6 +32,7 @@ impl MeetingText {
         &self.bytes[..self.len]
     }
 
+    /// The empty text.
     pub(crate) fn empty() -> MeetingText
         ensures { result ≡ [] }
     {
@@ -41,6 +42,7 @@ impl MeetingText {
         }
     }
 
+    /// Puts a byte behind the others, where there is room.
     pub(crate) fn push(&mut self, byte: u8)
         requires { length self.old < 160 }
         ensures { self.new ≡ self.old ++ byte ∷ [] }

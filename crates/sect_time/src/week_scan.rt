@@ -53,6 +53,7 @@ struct Scan {
 }
 
 impl Scan {
+    /// The scan before the first byte: no weeks, and no number read.
     fn start() -> Scan
         ensures { result ≡ record { weeks = 0; first = 0; number = 0 } }
     {
@@ -63,6 +64,7 @@ impl Scan {
         }
     }
 
+    /// The scan behind one byte more.
     fn after(self, byte: u8) -> Scan
         ensures { result ≡ scan_after self byte }
     {
@@ -84,6 +86,7 @@ impl Scan {
         }
     }
 
+    /// The weeks of the scan, with the run whose end is the number read last.
     fn weeks(self) -> u64
         ensures { result ≡ weeks_of_scan self }
     {
