@@ -35,6 +35,7 @@ impl Numbers {
         self.add_level(Level::Offering(row.id))
     }
 
+    /// Gives each of the courses a row. Where memory runs out, some have it.
     fn add_courses(&mut self, rows: &[CourseRow]) -> Result<(), Memory>
         ensures grown { Grown self.old self.new }
         ensures ok { OnOk result (have_courses self.new rows.now ≡ true) }
@@ -45,6 +46,7 @@ impl Numbers {
         Ok(())
     }
 
+    /// Gives each of the configurations, and each of their sections, a row. Where memory runs out, some have it.
     fn add_configs(&mut self, rows: &[ConfigRow]) -> Result<(), Memory>
         ensures grown { Grown self.old self.new }
         ensures ok { OnOk result (have_configs self.new rows.now ≡ true) }
@@ -56,6 +58,7 @@ impl Numbers {
         Ok(())
     }
 
+    /// Gives each section of the subparts a row. Where memory runs out, some have it.
     fn add_subparts(&mut self, rows: &[SubpartRow]) -> Result<(), Memory>
         ensures grown { Grown self.old self.new }
         ensures ok { OnOk result (have_subparts self.new rows.now ≡ true) }
@@ -66,6 +69,7 @@ impl Numbers {
         Ok(())
     }
 
+    /// Gives each of the sections a row. Where memory runs out, some have it.
     fn add_sections(&mut self, rows: &[SectionRow]) -> Result<(), Memory>
         ensures grown { Grown self.old self.new }
         ensures ok { OnOk result (have_sections self.new rows.now ≡ true) }
@@ -76,6 +80,7 @@ impl Numbers {
         Ok(())
     }
 
+    /// Gives a course, offering, configuration or section a row, where it has none.
     fn add_level(&mut self, level: Level) -> Result<(), Memory>
         ensures grown { Grown self.old self.new }
         ensures ok { OnOk result (has_level self.new level ≡ true) }

@@ -78,6 +78,7 @@ impl World {
         }
     }
 
+    /// Takes the last recorded change back. There is one.
     fn undo_last(&mut self, undo: &mut Undo)
         requires some { 0 < length undo.old.backs }
         requires undoable { Undoable self.old undo.old.backs }
@@ -87,6 +88,7 @@ impl World {
         self.take_back(back);
     }
 
+    /// Makes room for so many enrolments more of each student. Where memory runs out, some have it.
     fn reserve_roster(&mut self, n: usize) -> Result<(), Memory>
         ensures same { Unchanged self.old self.new }
         ensures uses { KeepsUses self.old self.new }

@@ -54,6 +54,7 @@ impl Parts {
         }
     }
 
+    /// Whether this reservation permits over limit. One that is unknown doesn't.
     fn permits_over(&self, id: ReservationId) -> bool
         ensures { result ≡ permits_over (reservation_of (roomed_of self.now).world id) }
     {

@@ -44,6 +44,7 @@ impl World {
         self.parts.change(change)
     }
 
+    /// Enrols a student, and counts it. Where memory runs out, nothing changes.
     fn enrol(&mut self, enrolment: Enrolment) -> Result<Back, Memory>
         requires { Fits self.old.world (Change.Enrol enrolment) }
         ensures ok { IfOk result (λ back. Made self.old self.new (Change.Enrol enrolment) back) }
@@ -57,6 +58,7 @@ impl World {
         Ok(back)
     }
 
+    /// Takes a student's enrolment in a course away, and counts it no more.
     fn leave(&mut self, student: StudentId, course: CourseId) -> Back
         requires { Fits self.old.world (Change.Leave student course) }
         ensures made { Made self.old self.new (Change.Leave student course) result }
@@ -93,6 +95,7 @@ impl World {
         self.parts.take_back(back);
     }
 
+    /// Takes an enrolment that was made last back, and counts it no more.
     fn remove_enrolment(&mut self, student: StudentId, offering: Option<OfferingId>)
         requires { MadeBy self.old (Back.Enrolled student offering) }
         ensures taken { Taken self.old self.new (Back.Enrolled student offering) }
@@ -103,6 +106,7 @@ impl World {
             .count_out(&mut self.numbers, &mut self.weeks, &enrolment);
     }
 
+    /// Puts an enrolment that was taken away last back at its place, and counts it again.
     fn put_enrolment_back(
         &mut self,
         place: usize,

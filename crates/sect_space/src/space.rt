@@ -50,6 +50,7 @@ impl World {
         }
     }
 
+    /// The places of an offering. None where one of its configurations has no limit, or it isn't known.
     fn places_of(&self, id: OfferingId) -> Option<u64>
         ensures value { result ≡ places_at self.now.world (Level.Offering id) }
         ensures bound { IfSome result (λ n. n ≤ 42949672950) }
@@ -175,24 +176,28 @@ pub fn names(row: &Reservation, level: Level) -> bool
     }
 }
 
+/// Whether the configuration is among those listed.
 fn lists_config(configs: &[ConfigId], id: ConfigId) -> bool
     ensures { result ≡ list_any (λ c. c.0 == id.0) configs.now }
 {
     configs.iter().any(|config| *config == id)
 }
 
+/// Whether the section is among the places listed.
 fn lists_place(places: &[Place], id: SectionId) -> bool
     ensures { result ≡ list_any (λ p. p.section.0 == id.0) places.now }
 {
     places.iter().any(|place| place.section == id)
 }
 
+/// Whether the limit is unlimited.
 fn is_boundless(limit: Limit) -> bool
     ensures { result ≡ is_none (places_in limit) }
 {
     matches!(limit, Limit::Unlimited)
 }
 
+/// The number of places of a limit. None where it is unlimited.
 fn places(limit: Limit) -> Option<u64>
     ensures value { result ≡ places_in limit }
     ensures bound { IfSome result (λ n. n ≤ 4294967295) }
@@ -219,6 +224,7 @@ fn total(configs: &[ConfigRow]) -> Option<u64>
     Some(sum)
 }
 
+/// The places less those taken, which may be below zero.
 fn difference(places: u64, taken: u64) -> i64
     requires places { places ≤ 42949672950 }
     requires taken { taken ≤ 4300000000000000 }

@@ -100,6 +100,7 @@ impl Undo {
     }
 }
 
+/// What a change concerns.
 fn mark(back: &Back) -> Mark
     ensures { result ≡ mark_of back.now }
 {
@@ -121,6 +122,7 @@ fn mark(back: &Back) -> Mark
     }
 }
 
+/// The mark of a change that concerns a student alone.
 fn of_student(student: StudentId) -> Mark
     ensures { result ≡ record { student = Some student; offering = None; days = None } }
 {
@@ -131,6 +133,7 @@ fn of_student(student: StudentId) -> Mark
     }
 }
 
+/// The mark of a change that concerns an offering alone, or nothing where there is none.
 fn of_offering(offering: Option<OfferingId>) -> Mark
     ensures { result ≡ record { student = None; offering = offering; days = None } }
 {
@@ -141,6 +144,7 @@ fn of_offering(offering: Option<OfferingId>) -> Mark
     }
 }
 
+/// The mark of a change that concerns a student, and an offering where there is one.
 fn of_both(student: StudentId, offering: Option<OfferingId>) -> Mark
     ensures { result ≡ record { student = Some student; offering = offering; days = None } }
 {
@@ -151,6 +155,7 @@ fn of_both(student: StudentId, offering: Option<OfferingId>) -> Mark
     }
 }
 
+/// The mark of a change from the old day to the new one.
 fn of_days(old: Day, new: Day) -> Mark
     ensures { result ≡ record { student = None; offering = None; days = Some (old, new) } }
 {

@@ -30,6 +30,7 @@ pub fn add_sections(calendar: &mut Calendar, catalogue: &Catalogue, sections: &[
     }
 }
 
+/// Takes the slots of a section. One that is unknown has none.
 fn add_section(calendar: &mut Calendar, catalogue: &Catalogue, section: SectionId)
     ensures { Adds calendar.old calendar.new (meetings_take (meetings_in catalogue.now.rows section)) }
 {
@@ -38,6 +39,7 @@ fn add_section(calendar: &mut Calendar, catalogue: &Catalogue, section: SectionI
     }
 }
 
+/// Takes the slots of each of these meetings.
 fn add_meetings(calendar: &mut Calendar, meetings: &[Meeting])
     ensures { Adds calendar.old calendar.new (meetings_take meetings.now) }
 {

@@ -95,6 +95,7 @@ impl Weeks {
         }
     }
 
+    /// The place of a student's row, if it has one.
     fn place(&self, student: StudentId) -> Option<usize>
         ensures { result ≡ place_of self.now student.0 }
     {
