@@ -85,6 +85,7 @@ pub(crate) fn place_in(places: &mut HashMap<u128, u32>, id: &Id, place: u32) -> 
     Ok(())
 }
 
+/// The entry at a place, which has one.
 fn entry_at<C, R>(entries: &[Entry<C, R>], place: u32) -> &Entry<C, R>
     requires { place < length entries.now }
     ensures { slice_get entries.now place ≡ Some result.now }

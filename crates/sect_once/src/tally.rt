@@ -144,6 +144,7 @@ fn row_of(day: Day, caller: Caller, number: u64, command: u8, sum: u64) -> [u8; 
     ]
 }
 
+/// The number in the four bytes from a place on, the highest byte first.
 fn u32_at(row: &[u8], at: usize) -> u32
     requires { at + 4 ≤ length row.now }
     ensures { to_be_bytes w32 result ≡ take 4 (drop at row.now) }
@@ -151,6 +152,7 @@ fn u32_at(row: &[u8], at: usize) -> u32
     u32::from_be_bytes([row[at], row[at + 1], row[at + 2], row[at + 3]])
 }
 
+/// The number in the eight bytes from a place on, the highest byte first.
 fn u64_at(row: &[u8], at: usize) -> u64
     requires { at + 8 ≤ length row.now }
     ensures { to_be_bytes w64 result ≡ take 8 (drop at row.now) }

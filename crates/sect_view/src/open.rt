@@ -28,6 +28,7 @@ pub fn open(alloc: Global, world: &World, id: OfferingId) -> Result<View, Memory
     }
 }
 
+/// The views of the courses, in the order of the rows.
 fn courses(alloc: Global, world: &World, rows: &[CourseRow]) -> Result<Items<OpenCourse>, Memory>
     ensures { IfOk result (λ views. views ≡ map (view_of_course world.now.world) rows.now) }
 {
@@ -38,6 +39,7 @@ fn courses(alloc: Global, world: &World, rows: &[CourseRow]) -> Result<Items<Ope
     Ok(Items::from_vec(views))
 }
 
+/// The places and enrolments of a course.
 fn course_view(world: &World, row: &CourseRow) -> OpenCourse
     ensures { result ≡ view_of_course world.now.world row.now }
 {
@@ -48,6 +50,7 @@ fn course_view(world: &World, row: &CourseRow) -> OpenCourse
     }
 }
 
+/// The views of the configurations, in the order of the rows.
 fn configs(alloc: Global, world: &World, rows: &[ConfigRow]) -> Result<Items<OpenConfig>, Memory>
     ensures { IfOk result (λ views. views ≡ map (view_of_config world.now.world) rows.now) }
 {
@@ -58,6 +61,7 @@ fn configs(alloc: Global, world: &World, rows: &[ConfigRow]) -> Result<Items<Ope
     Ok(Items::from_vec(views))
 }
 
+/// The places, enrolments and unreserved space of a configuration, with its sections.
 fn config_view(alloc: Global, world: &World, row: &ConfigRow) -> Result<OpenConfig, Memory>
     ensures { IfOk result (λ view. view ≡ view_of_config world.now.world row.now) }
 {
@@ -99,6 +103,7 @@ fn add_sections(
     Ok(())
 }
 
+/// The places, enrolments and unreserved space of a section, and whether it is cancelled.
 fn section_view(world: &World, row: &SectionRow) -> OpenSection
     ensures { result ≡ view_of_section world.now.world row.now }
 {

@@ -40,6 +40,7 @@ fn held_in(alloc: Global, world: &World, section: SectionId) -> Result<Items<Hel
     Ok(Items::from_vec(held))
 }
 
+/// The student, the course and the reservation of an enrolment.
 fn held_view(enrolment: &Enrolment) -> HeldView
     ensures { result ≡ view_of_enrolment enrolment.now }
 {

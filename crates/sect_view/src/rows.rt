@@ -25,6 +25,7 @@ pub fn rows(alloc: Global, world: &World, table: Table) -> Result<View, Memory>
     }
 }
 
+/// The rows of all offerings, by id.
 fn offerings(alloc: Global, world: &World) -> Result<Items<OfferingRow>, Memory>
     ensures { IfOk result (λ rows. rows ≡ sorted_by (λ o. o.id.0) world.now.world.catalogue.rows) }
 {
@@ -62,6 +63,7 @@ fn offerings_of(
     Ok(Items::from_vec(rows))
 }
 
+/// The rows of all students, by id.
 fn students(alloc: Global, world: &World) -> Result<Items<StudentRow>, Memory>
     ensures { IfOk result (λ rows. rows ≡ map (λ s. s.row) (students_by_id world.now.world)) }
 {
@@ -82,6 +84,7 @@ fn students_of(alloc: Global, world: &World, ids: &[StudentId]) -> Result<Items<
     Ok(Items::from_vec(rows))
 }
 
+/// The requests of all students, by id.
 fn requests(alloc: Global, world: &World) -> Result<Items<AsksView>, Memory>
     ensures { IfOk result (λ rows. rows ≡ map (λ s. record { student = s.row.id; asks = s.asks }) (students_by_id world.now.world)) }
 {
@@ -102,6 +105,7 @@ fn requests_of(alloc: Global, world: &World, ids: &[StudentId]) -> Result<Items<
     Ok(Items::from_vec(rows))
 }
 
+/// A student's requests, copied.
 fn asks_view(alloc: Global, student: StudentId, asks: &[Ask]) -> Result<AsksView, Memory>
     ensures { IfOk result (λ row. row ≡ record { student = student; asks = asks.now }) }
 {
@@ -115,6 +119,7 @@ fn asks_view(alloc: Global, student: StudentId, asks: &[Ask]) -> Result<AsksView
     })
 }
 
+/// The rows of all reservations, by id.
 fn reservations(alloc: Global, world: &World) -> Result<Items<Reservation>, Memory>
     ensures { IfOk result (λ rows. rows ≡ sorted_by (λ r. r.id.0) world.now.world.reservations) }
 {

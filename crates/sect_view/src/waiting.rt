@@ -19,6 +19,7 @@ pub fn waiting(alloc: Global, entries: &[Waiting]) -> Result<View, Memory>
     Ok(View::Waiting(Items::from_vec(views)))
 }
 
+/// An entry of the wait-list, without its class.
 fn wait_view(alloc: Global, entry: &Waiting) -> Result<WaitView, Memory>
     ensures { IfOk result (λ view. view ≡ view_of_entry entry.now) }
 {
