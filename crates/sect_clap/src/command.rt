@@ -32,12 +32,14 @@ pub(crate) fn desk_command<'a>(alloc: Global) -> Result<Command<'a>, AllocError>
         .subcommand(kept(alloc, "survey")?)
 }
 
+/// The command `import`, with the options that it takes.
 fn import_command<'a>(alloc: Global) -> Result<Command<'a>, AllocError> {
     named(alloc, "import")?
         .arg(setting(alloc, "first").required(true))?
         .arg(setting(alloc, "term"))
 }
 
+/// The command `serve`, with the options that it takes.
 fn serve_command<'a>(alloc: Global) -> Result<Command<'a>, AllocError> {
     kept(alloc, "serve")?
         .arg(setting(alloc, "port").required(true))?
@@ -45,6 +47,7 @@ fn serve_command<'a>(alloc: Global) -> Result<Command<'a>, AllocError> {
         .arg(setting(alloc, "sessions"))
 }
 
+/// The command `plan`, with the option that it takes.
 fn plan_command<'a>(alloc: Global) -> Result<Command<'a>, AllocError> {
     named(alloc, "plan")?.arg(setting(alloc, "budget"))
 }

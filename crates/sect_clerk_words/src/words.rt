@@ -96,6 +96,7 @@ fn asked_of(verb: Verb, words: &[String]) -> Option<Words>
     }
 }
 
+/// What `explain` asks for: the place in the history.
 fn read_explain(words: &[String]) -> Option<Words>
     ensures { result ≡ explain_of (items_of (map string_bytes words.now)) }
 {
@@ -103,6 +104,7 @@ fn read_explain(words: &[String]) -> Option<Words>
     Some(Words::Explain(place))
 }
 
+/// What `log` asks for: the student, the section and the first place, where they are named.
 fn read_log(words: &[String]) -> Option<Words>
     ensures { result ≡ where_none (log_of (items_of (map string_bytes words.now))) (positionals (items_of (map string_bytes words.now))) }
 {
@@ -153,6 +155,7 @@ fn place_or_first(word: Option<&[u8]>) -> Option<u32>
     }
 }
 
+/// What `timetable` asks for: the student.
 fn read_timetable(words: &[String]) -> Option<Words>
     ensures { result ≡ timetable_of (items_of (map string_bytes words.now)) }
 {

@@ -10,6 +10,7 @@ use itoa::Buffer;
 use sect_base::Memory;
 use sect_pieces::{append, append_all};
 
+/// The digits of a status.
 #[tactic(auto, unfolding(crate::specs::Pages::code_text))]
 fn code_text(status: StatusCode) -> &'static [u8]
     ensures { result.now ≡ code_text status }
@@ -17,6 +18,7 @@ fn code_text(status: StatusCode) -> &'static [u8]
     status.as_str().as_bytes()
 }
 
+/// The words of a status, and none where it has none.
 #[tactic(auto, unfolding(crate::specs::Pages::phrase))]
 fn phrase(status: StatusCode) -> &'static [u8]
     ensures { result.now ≡ phrase status }
@@ -24,6 +26,7 @@ fn phrase(status: StatusCode) -> &'static [u8]
     status.canonical_reason().unwrap_or("").as_bytes()
 }
 
+/// The media type of a body.
 fn kind_text(kind: Kind) -> &'static [u8]
     ensures { result.now ≡ kind_text kind }
 {
@@ -33,6 +36,7 @@ fn kind_text(kind: Kind) -> &'static [u8]
     }
 }
 
+/// The line for the method that is allowed, where one is named.
 fn allow_line(allow: Option<Method>) -> &'static [u8]
     ensures { result.now ≡ allow_line allow }
 {
@@ -43,6 +47,7 @@ fn allow_line(allow: Option<Method>) -> &'static [u8]
     }
 }
 
+/// The line for a connection that is closed, where it is.
 fn closing_line(closing: bool) -> &'static [u8]
     ensures { result.now ≡ closing_line closing }
 {
@@ -53,6 +58,7 @@ fn closing_line(closing: bool) -> &'static [u8]
     }
 }
 
+/// The body, unless the answer is `headless`.
 fn shown_body(headless: bool, body: &[u8]) -> &[u8]
     ensures { result.now ≡ shown_body headless body.now }
 {
@@ -132,12 +138,14 @@ pub fn print_page(
     printed
 }
 
+/// The answer for want of memory, without its body.
 fn no_memory_page() -> &'static [u8]
     ensures { result.now ≡ page_text no_memory.page true no_memory.body }
 {
     b"HTTP/1.1 507 Insufficient Storage\r\nContent-Type: application/json\r\nContent-Length: 18\r\nConnection: close\r\n\r\n"
 }
 
+/// The answer for want of memory, with its body.
 fn no_memory_whole() -> &'static [u8]
     ensures { result.now ≡ page_text no_memory.page false no_memory.body }
 {

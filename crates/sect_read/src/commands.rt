@@ -31,6 +31,7 @@ use sect_command::Command;
 use sect_words::{Fault, Parts};
 use std::alloc::Global;
 
+/// The command that sets a student's requests.
 #[tactic(auto, unfolding(crate::specs::ReadingCommands::requests_at))]
 fn read_requests(alloc: Global, words: &mut Parts) -> Result<Command, Fault>
     ensures { Reads result words.new (requests_at words.old) }
@@ -40,6 +41,7 @@ fn read_requests(alloc: Global, words: &mut Parts) -> Result<Command, Fault>
     Ok(Command::Requests { student, asks })
 }
 
+/// The command that sets a reservation's last day, or that there is none.
 #[tactic(auto, unfolding(crate::specs::ReadingCommands::expire_at))]
 fn read_expire(alloc: Global, words: &mut Parts) -> Result<Command, Fault>
     ensures { Reads result words.new (expire_at words.old) }
@@ -52,6 +54,7 @@ fn read_expire(alloc: Global, words: &mut Parts) -> Result<Command, Fault>
     })
 }
 
+/// The command that sets a limit.
 #[tactic(auto, unfolding(crate::specs::ReadingCommands::set_limit_at))]
 fn read_limit(alloc: Global, words: &mut Parts) -> Result<Command, Fault>
     ensures { Reads result words.new (set_limit_at words.old) }
@@ -61,6 +64,7 @@ fn read_limit(alloc: Global, words: &mut Parts) -> Result<Command, Fault>
     Ok(Command::SetLimit { cap, limit })
 }
 
+/// The command that enrols a student. Where `shown`, a default may be written.
 #[tactic(auto, unfolding(crate::specs::ReadingCommands::enrol_at))]
 fn read_enrol(alloc: Global, shown: bool, words: &mut Parts) -> Result<Command, Fault>
     ensures { Reads result words.new (enrol_at shown words.old) }
@@ -75,6 +79,7 @@ fn read_enrol(alloc: Global, shown: bool, words: &mut Parts) -> Result<Command, 
     })
 }
 
+/// The command that gives a student's course up.
 #[tactic(auto, unfolding(crate::specs::ReadingCommands::drop_at))]
 fn read_drop(alloc: Global, words: &mut Parts) -> Result<Command, Fault>
     ensures { Reads result words.new (drop_at words.old) }
@@ -84,6 +89,7 @@ fn read_drop(alloc: Global, words: &mut Parts) -> Result<Command, Fault>
     Ok(Command::Drop { student, course })
 }
 
+/// The command that gives courses up and takes others. Where `shown`, a default may be written.
 #[tactic(auto, unfolding(crate::specs::ReadingCommands::swap_at))]
 fn read_swap(alloc: Global, shown: bool, words: &mut Parts) -> Result<Command, Fault>
     ensures { Reads result words.new (swap_at shown words.old) }
@@ -100,6 +106,7 @@ fn read_swap(alloc: Global, shown: bool, words: &mut Parts) -> Result<Command, F
     })
 }
 
+/// The command that puts a student on the wait-list. Where `shown`, a default may be written.
 #[tactic(auto, unfolding(crate::specs::ReadingCommands::wait_at))]
 fn read_wait(alloc: Global, shown: bool, words: &mut Parts) -> Result<Command, Fault>
     ensures { Reads result words.new (wait_at shown words.old) }
@@ -116,6 +123,7 @@ fn read_wait(alloc: Global, shown: bool, words: &mut Parts) -> Result<Command, F
     })
 }
 
+/// The command after which the student waits no longer.
 #[tactic(auto, unfolding(crate::specs::ReadingCommands::unwait_at))]
 fn read_unwait(alloc: Global, words: &mut Parts) -> Result<Command, Fault>
     ensures { Reads result words.new (unwait_at words.old) }
@@ -125,6 +133,7 @@ fn read_unwait(alloc: Global, words: &mut Parts) -> Result<Command, Fault>
     Ok(Command::Unwait { student, ticket })
 }
 
+/// The command that adds an offering.
 #[tactic(auto, unfolding(crate::specs::ReadingCommands::offering_command_at))]
 fn read_offering_command(alloc: Global, words: &mut Parts) -> Result<Command, Fault>
     ensures { Reads result words.new (offering_command_at words.old) }
@@ -132,6 +141,7 @@ fn read_offering_command(alloc: Global, words: &mut Parts) -> Result<Command, Fa
     Ok(Command::Offering(read_offering(alloc, words)?))
 }
 
+/// The command that adds a student, or replaces the row of a known one.
 #[tactic(auto, unfolding(crate::specs::ReadingCommands::student_command_at))]
 fn read_student_command(alloc: Global, words: &mut Parts) -> Result<Command, Fault>
     ensures { Reads result words.new (student_command_at words.old) }
@@ -139,6 +149,7 @@ fn read_student_command(alloc: Global, words: &mut Parts) -> Result<Command, Fau
     Ok(Command::Student(read_student(alloc, words)?))
 }
 
+/// The command that adds a reservation.
 #[tactic(auto, unfolding(crate::specs::ReadingCommands::reserve_command_at))]
 fn read_reserve_command(alloc: Global, words: &mut Parts) -> Result<Command, Fault>
     ensures { Reads result words.new (reserve_command_at words.old) }
@@ -146,6 +157,7 @@ fn read_reserve_command(alloc: Global, words: &mut Parts) -> Result<Command, Fau
     Ok(Command::Reserve(read_reserve(alloc, words)?))
 }
 
+/// The command that adds a restriction.
 #[tactic(auto, unfolding(crate::specs::ReadingCommands::restrict_command_at))]
 fn read_restrict_command(alloc: Global, words: &mut Parts) -> Result<Command, Fault>
     ensures { Reads result words.new (restrict_command_at words.old) }
@@ -153,6 +165,7 @@ fn read_restrict_command(alloc: Global, words: &mut Parts) -> Result<Command, Fa
     Ok(Command::Restrict(read_restrict(alloc, words)?))
 }
 
+/// The command that takes a reservation back.
 #[tactic(auto, unfolding(crate::specs::ReadingCommands::unreserve_at))]
 fn read_unreserve_command(alloc: Global, words: &mut Parts) -> Result<Command, Fault>
     ensures { Reads result words.new (unreserve_at words.old) }
@@ -160,6 +173,7 @@ fn read_unreserve_command(alloc: Global, words: &mut Parts) -> Result<Command, F
     Ok(Command::Unreserve(words.word(alloc)?))
 }
 
+/// The command that takes a restriction back.
 #[tactic(auto, unfolding(crate::specs::ReadingCommands::unrestrict_at))]
 fn read_unrestrict_command(alloc: Global, words: &mut Parts) -> Result<Command, Fault>
     ensures { Reads result words.new (unrestrict_at words.old) }
@@ -167,6 +181,7 @@ fn read_unrestrict_command(alloc: Global, words: &mut Parts) -> Result<Command, 
     Ok(Command::Unrestrict(words.word(alloc)?))
 }
 
+/// The command that cancels a section.
 #[tactic(auto, unfolding(crate::specs::ReadingCommands::cancel_at))]
 fn read_cancel_command(alloc: Global, words: &mut Parts) -> Result<Command, Fault>
     ensures { Reads result words.new (cancel_at words.old) }
@@ -174,6 +189,7 @@ fn read_cancel_command(alloc: Global, words: &mut Parts) -> Result<Command, Faul
     Ok(Command::Cancel(words.word(alloc)?))
 }
 
+/// The command that meets the requests of students.
 #[tactic(auto, unfolding(crate::specs::ReadingCommands::batch_at))]
 fn read_batch_command(alloc: Global, words: &mut Parts) -> Result<Command, Fault>
     ensures { Reads result words.new (batch_at words.old) }

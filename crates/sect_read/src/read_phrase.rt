@@ -40,9 +40,11 @@ pub(crate) trait ReadPhrase: Drop {
     // The value in front of the words, where there is one, and the words behind it.
     ghost at: { Bool → List (List ℕ) → Option (Self × List (List ℕ)) };
 
+    /// Whether such a value starts.
     fn starts(words: &Parts) -> bool
         ensures { result ≡ starts words.now };
 
+    /// The value in front of the words, which is taken.
     fn read(alloc: Global, shown: bool, words: &mut Parts) -> Result<Self, Fault>
         ensures reads { Reads result words.new (at shown words.old) }
         ensures shorter { IfOk result (λ _. length words.new < length words.old) };
@@ -229,6 +231,7 @@ impl ReadPhrase for CourseId {
     }
 }
 
+/// A request for a course, and whether it may wait and may be a substitute.
 #[tactic(auto, unfolding(crate::specs::ReadingRows::course_ask_at))]
 fn read_course_ask(alloc: Global, words: &mut Parts) -> Result<Ask, Fault>
     ensures reads { Reads result words.new (course_ask_at words.old) }
@@ -244,6 +247,7 @@ fn read_course_ask(alloc: Global, words: &mut Parts) -> Result<Ask, Fault>
     }))
 }
 
+/// A request for a time without meetings.
 #[tactic(auto, unfolding(crate::specs::ReadingRows::free_ask_at))]
 fn read_free_ask(alloc: Global, words: &mut Parts) -> Result<Ask, Fault>
     ensures reads { Reads result words.new (free_ask_at words.old) }

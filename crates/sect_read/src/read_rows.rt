@@ -22,6 +22,7 @@ use sect_time::Day;
 use sect_words::{Fault, Parts};
 use std::alloc::Global;
 
+/// The row of an offering, with its courses and its configurations.
 #[tactic(auto, unfolding(crate::specs::ReadingRows::offering_at))]
 pub(crate) fn read_offering(alloc: Global, words: &mut Parts) -> Result<OfferingRow, Fault>
     ensures { Reads result words.new (offering_at words.old) }
@@ -36,6 +37,7 @@ pub(crate) fn read_offering(alloc: Global, words: &mut Parts) -> Result<Offering
     })
 }
 
+/// The row of a student, with its groups and its curricula.
 #[tactic(auto, unfolding(crate::specs::ReadingRows::student_row_at))]
 pub(crate) fn read_student(alloc: Global, words: &mut Parts) -> Result<StudentRow, Fault>
     ensures { Reads result words.new (student_row_at words.old) }
@@ -64,6 +66,7 @@ fn read_from(alloc: Global, words: &mut Parts) -> Result<Option<Day>, Fault>
     Ok(Some(words.word(alloc)?))
 }
 
+/// The row of a reservation.
 #[tactic(auto, unfolding(crate::specs::ReadingCommands::reserve_at))]
 pub(crate) fn read_reserve(alloc: Global, words: &mut Parts) -> Result<ReserveRow, Fault>
     ensures { Reads result words.new (reserve_at words.old) }
@@ -94,6 +97,7 @@ pub(crate) fn read_reserve(alloc: Global, words: &mut Parts) -> Result<ReserveRo
     })
 }
 
+/// The row of a restriction.
 #[tactic(auto, unfolding(crate::specs::ReadingCommands::restrict_at))]
 pub(crate) fn read_restrict(alloc: Global, words: &mut Parts) -> Result<RestrictRow, Fault>
     ensures { Reads result words.new (restrict_at words.old) }
@@ -112,6 +116,7 @@ pub(crate) fn read_restrict(alloc: Global, words: &mut Parts) -> Result<Restrict
     })
 }
 
+/// The id of a course, as a level.
 #[tactic(auto, unfolding(crate::specs::ReadingCommands::course_cap_at))]
 fn read_course_cap(alloc: Global, words: &mut Parts) -> Result<Cap, Fault>
     ensures { Reads result words.new (course_cap_at words.old) }
@@ -119,6 +124,7 @@ fn read_course_cap(alloc: Global, words: &mut Parts) -> Result<Cap, Fault>
     Ok(Cap::Course(words.word(alloc)?))
 }
 
+/// The id of a configuration, as a level.
 #[tactic(auto, unfolding(crate::specs::ReadingCommands::config_cap_at))]
 fn read_config_cap(alloc: Global, words: &mut Parts) -> Result<Cap, Fault>
     ensures { Reads result words.new (config_cap_at words.old) }
@@ -126,6 +132,7 @@ fn read_config_cap(alloc: Global, words: &mut Parts) -> Result<Cap, Fault>
     Ok(Cap::Config(words.word(alloc)?))
 }
 
+/// The id of a section, as a level.
 #[tactic(auto, unfolding(crate::specs::ReadingCommands::section_cap_at))]
 fn read_section_cap(alloc: Global, words: &mut Parts) -> Result<Cap, Fault>
     ensures { Reads result words.new (section_cap_at words.old) }

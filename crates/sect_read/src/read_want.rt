@@ -58,6 +58,7 @@ fn read_only(alloc: Global, shown: bool, words: &mut Parts) -> Result<Items<Sect
     Ok(sections)
 }
 
+/// The courses that are wanted, the only sections for them, and the rank.
 #[tactic(auto, unfolding(crate::specs::ReadingCommands::want_at))]
 pub(crate) fn read_want(alloc: Global, shown: bool, words: &mut Parts) -> Result<Want, Fault>
     ensures reads { Reads result words.new (want_at shown words.old) }
@@ -100,6 +101,7 @@ pub(crate) fn read_give(alloc: Global, words: &mut Parts) -> Result<Option<Cours
     Ok(Some(CourseId::read(alloc, false, words)?))
 }
 
+/// The budget, or the default where it isn't named.
 pub(crate) fn read_budget(shown: bool, words: &mut Parts) -> Result<Budget, Fault>
     ensures { Reads result words.new (budget_at shown words.old) }
 {

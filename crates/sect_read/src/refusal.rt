@@ -33,6 +33,7 @@ pub(crate) fn take_name<'a>(words: &mut Parts<'a>) -> Result<&'a [u8], Fault>
     }
 }
 
+/// The fault of an offering's row that has this name.
 #[tactic(auto, unfolding(crate::specs::ReadingReplies::catalog_fault_named))]
 fn read_catalog_fault(alloc: Global, name: &[u8], words: &mut Parts) -> Result<CatalogFault, Fault>
     ensures { Reads result words.new (catalog_fault_named name.now words.old) }
@@ -61,6 +62,7 @@ fn read_catalog_fault(alloc: Global, name: &[u8], words: &mut Parts) -> Result<C
     Err(Fault::Bad)
 }
 
+/// The fault of a student's requests that has this name.
 #[tactic(auto, unfolding(crate::specs::ReadingReplies::request_fault_named))]
 fn read_request_fault(alloc: Global, name: &[u8], words: &mut Parts) -> Result<RequestFault, Fault>
     ensures { Reads result words.new (request_fault_named name.now words.old) }
@@ -77,6 +79,7 @@ fn read_request_fault(alloc: Global, name: &[u8], words: &mut Parts) -> Result<R
     Err(Fault::Bad)
 }
 
+/// The fault of a reservation's or a restriction's row that has this name.
 #[tactic(auto, unfolding(crate::specs::ReadingReplies::reserve_fault_named))]
 fn read_reserve_fault(alloc: Global, name: &[u8], words: &mut Parts) -> Result<ReserveFault, Fault>
     ensures { Reads result words.new (reserve_fault_named name.now words.old) }
@@ -96,6 +99,7 @@ fn read_reserve_fault(alloc: Global, name: &[u8], words: &mut Parts) -> Result<R
     Err(Fault::Bad)
 }
 
+/// The fault of an offering's row, as the fault of a row.
 #[tactic(auto, unfolding(crate::specs::ReadingReplies::offering_fault_at))]
 fn read_offering_fault(alloc: Global, words: &mut Parts) -> Result<RowFault, Fault>
     ensures { Reads result words.new (offering_fault_at words.old) }
@@ -104,6 +108,7 @@ fn read_offering_fault(alloc: Global, words: &mut Parts) -> Result<RowFault, Fau
     Ok(RowFault::Offering(read_catalog_fault(alloc, name, words)?))
 }
 
+/// The fault of a student's requests, as the fault of a row.
 #[tactic(auto, unfolding(crate::specs::ReadingReplies::asked_fault_at))]
 fn read_asked_fault(alloc: Global, words: &mut Parts) -> Result<RowFault, Fault>
     ensures { Reads result words.new (asked_fault_at words.old) }
@@ -112,6 +117,7 @@ fn read_asked_fault(alloc: Global, words: &mut Parts) -> Result<RowFault, Fault>
     Ok(RowFault::Request(read_request_fault(alloc, name, words)?))
 }
 
+/// The fault of a reservation's or a restriction's row, as the fault of a row.
 #[tactic(auto, unfolding(crate::specs::ReadingReplies::reserved_fault_at))]
 fn read_reserved_fault(alloc: Global, words: &mut Parts) -> Result<RowFault, Fault>
     ensures { Reads result words.new (reserved_fault_at words.old) }
@@ -120,6 +126,7 @@ fn read_reserved_fault(alloc: Global, words: &mut Parts) -> Result<RowFault, Fau
     Ok(RowFault::Reserve(read_reserve_fault(alloc, name, words)?))
 }
 
+/// The fault of a row, behind the word for its kind.
 #[tactic(auto, unfolding(crate::specs::ReadingReplies::row_fault_at))]
 fn read_row_fault(alloc: Global, words: &mut Parts) -> Result<RowFault, Fault>
     ensures { Reads result words.new (row_fault_at words.old) }
@@ -136,6 +143,7 @@ fn read_row_fault(alloc: Global, words: &mut Parts) -> Result<RowFault, Fault>
     Err(Fault::Bad)
 }
 
+/// The refusal for the fault of a row.
 #[tactic(auto, unfolding(crate::specs::ReadingReplies::row_refusal_at))]
 fn read_row_refusal(alloc: Global, words: &mut Parts) -> Result<Refusal, Fault>
     ensures { Reads result words.new (row_refusal_at words.old) }
@@ -143,6 +151,7 @@ fn read_row_refusal(alloc: Global, words: &mut Parts) -> Result<Refusal, Fault>
     Ok(Refusal::Row(read_row_fault(alloc, words)?))
 }
 
+/// The refusal that has this name.
 #[tactic(auto, unfolding(crate::specs::ReadingReplies::refusal_named))]
 fn read_named_refusal(alloc: Global, name: &[u8], words: &mut Parts) -> Result<Refusal, Fault>
     ensures { Reads result words.new (refusal_named name.now words.old) }
@@ -180,6 +189,7 @@ fn read_named_refusal(alloc: Global, name: &[u8], words: &mut Parts) -> Result<R
     Err(Fault::Bad)
 }
 
+/// Why a command was refused.
 #[tactic(auto, unfolding(crate::specs::ReadingReplies::refusal_at))]
 pub(crate) fn read_refusal(alloc: Global, words: &mut Parts) -> Result<Refusal, Fault>
     ensures { Reads result words.new (refusal_at words.old) }

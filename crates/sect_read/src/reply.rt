@@ -43,6 +43,7 @@ fn read_blocked(alloc: Global, words: &mut Parts) -> Result<(u32, Block), Fault>
     Ok((visits, tree))
 }
 
+/// The result of a course request for which no choice is possible.
 #[tactic(auto, unfolding(crate::specs::ReadingReplies::blocked_result_at))]
 fn read_blocked_result(alloc: Global, words: &mut Parts) -> Result<LineResult, Fault>
     ensures reads { Reads result words.new (blocked_result_at words.old) }
@@ -52,6 +53,7 @@ fn read_blocked_result(alloc: Global, words: &mut Parts) -> Result<LineResult, F
     Ok(LineResult::Blocked(visits, tree))
 }
 
+/// The result of a course request that has this name.
 #[tactic(auto, unfolding(crate::specs::ReadingReplies::result_named))]
 fn read_named_result(alloc: Global, name: &[u8], words: &mut Parts) -> Result<LineResult, Fault>
     ensures reads { Reads result words.new (result_named name.now words.old) }
@@ -78,6 +80,7 @@ fn read_named_result(alloc: Global, name: &[u8], words: &mut Parts) -> Result<Li
     Err(Fault::Bad)
 }
 
+/// What became of a course request.
 #[tactic(auto, unfolding(crate::specs::ReadingReplies::result_at))]
 fn read_result(alloc: Global, words: &mut Parts) -> Result<LineResult, Fault>
     ensures reads { Reads result words.new (result_at words.old) }
@@ -122,6 +125,7 @@ impl ReadPhrase for Choice {
     }
 }
 
+/// The reply to a swap: the places that the student has.
 #[tactic(auto, unfolding(crate::specs::ReadingReplies::swapped_at))]
 fn read_swapped(alloc: Global, words: &mut Parts) -> Result<Reply, Fault>
     ensures { Reads result words.new (swapped_at words.old) }
@@ -129,6 +133,7 @@ fn read_swapped(alloc: Global, words: &mut Parts) -> Result<Reply, Fault>
     Ok(Reply::Swapped(read_each(alloc, false, words)?))
 }
 
+/// The reply that the entry with a ticket was placed at once.
 #[tactic(auto, unfolding(crate::specs::ReadingReplies::placed_at))]
 fn read_placed(alloc: Global, words: &mut Parts) -> Result<Reply, Fault>
     ensures { Reads result words.new (placed_at words.old) }
@@ -138,6 +143,7 @@ fn read_placed(alloc: Global, words: &mut Parts) -> Result<Reply, Fault>
     Ok(Reply::Placed(ticket, choice))
 }
 
+/// The reply to a batch: a line for each course request.
 #[tactic(auto, unfolding(crate::specs::ReadingReplies::batched_at))]
 fn read_batched(alloc: Global, words: &mut Parts) -> Result<Reply, Fault>
     ensures { Reads result words.new (batched_at words.old) }
@@ -145,6 +151,7 @@ fn read_batched(alloc: Global, words: &mut Parts) -> Result<Reply, Fault>
     Ok(Reply::Batched(read_each(alloc, false, words)?))
 }
 
+/// The reply that no choice is possible.
 #[tactic(auto, unfolding(crate::specs::ReadingReplies::blocked_reply_at))]
 fn read_blocked_reply(alloc: Global, words: &mut Parts) -> Result<Reply, Fault>
     ensures { Reads result words.new (blocked_reply_at words.old) }
@@ -153,6 +160,7 @@ fn read_blocked_reply(alloc: Global, words: &mut Parts) -> Result<Reply, Fault>
     Ok(Reply::Blocked(visits, tree))
 }
 
+/// The reply that the command was refused.
 #[tactic(auto, unfolding(crate::specs::ReadingReplies::refused_at))]
 fn read_refused(alloc: Global, words: &mut Parts) -> Result<Reply, Fault>
     ensures { Reads result words.new (refused_at words.old) }
@@ -160,6 +168,7 @@ fn read_refused(alloc: Global, words: &mut Parts) -> Result<Reply, Fault>
     Ok(Reply::Refused(read_refusal(alloc, words)?))
 }
 
+/// The reply that has this name.
 #[tactic(auto, unfolding(crate::specs::ReadingReplies::reply_named))]
 fn read_named_reply(alloc: Global, name: &[u8], words: &mut Parts) -> Result<Reply, Fault>
     ensures { Reads result words.new (reply_named name.now words.old) }

@@ -15,6 +15,7 @@ pub(crate) struct Request {
     pub(crate) rank: u8,
 }
 
+/// The request of a line, as the student and its position.
 #[tactic(auto, unfolding(crate::specs::ReadingReplies::request_at))]
 fn read_request(alloc: Global, parts: &mut Parts) -> Result<Request, Fault>
     ensures { Reads result parts.new (request_at parts.old) }

@@ -36,6 +36,7 @@ fn agree(a: bool, b: bool) -> bool
     if a { b } else { !b }
 }
 
+/// The entry of a row: its day, its id, its command and its reply.
 #[tactic(auto, unfolding(crate::specs::ReadingLines::row_at))]
 fn read_entry(alloc: Global, words: &mut Parts) -> Result<Entry<Command, Reply>, Fault>
     ensures { Reads result words.new (row_at words.old) }

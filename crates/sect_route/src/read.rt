@@ -26,6 +26,7 @@ fn pass(parts: &mut Parts, word: &[u8]) -> Option<()>
     if parts.takes(word) { Some(()) } else { None }
 }
 
+/// The id behind this word, in the next parts, which are taken.
 #[tactic(auto, unfolding(crate::specs::Reading::id_at))]
 fn id_at(parts: &mut Parts, name: &[u8]) -> Option<u32>
     ensures { Takes result parts.new (id_at name.now parts.old) }
@@ -35,6 +36,7 @@ fn id_at(parts: &mut Parts, name: &[u8]) -> Option<u32>
     Some(number_at(parts, 4_294_967_295)? as u32)
 }
 
+/// The id behind this word, and the number of its ask, in the next parts, which are taken.
 #[tactic(auto, unfolding(crate::specs::Reading::ask_at))]
 fn ask_at(parts: &mut Parts, name: &[u8]) -> Option<(u32, u64)>
     ensures { Takes result parts.new (ask_at name.now parts.old) }
@@ -45,6 +47,7 @@ fn ask_at(parts: &mut Parts, name: &[u8]) -> Option<(u32, u64)>
     Some((id, number))
 }
 
+/// The id behind this word, with this report behind it, in the next parts, which are taken.
 #[tactic(auto, unfolding(crate::specs::Reading::report_at))]
 fn report_at(parts: &mut Parts, name: &[u8], report: &[u8]) -> Option<u32>
     ensures { Takes result parts.new (report_at name.now report.now parts.old) }
@@ -61,6 +64,7 @@ fn ended<T: Copy>(parts: &Parts, value: T) -> Option<T>
     if parts.is_empty() { Some(value) } else { None }
 }
 
+/// The id and the number of an ask, where the path is of this form and no more.
 fn read_ask(path: &[u8], name: &[u8]) -> Option<(u32, u64)>
     ensures { result ≡ ended (ask_at name.now (pieces 47 path.now)) }
 {
@@ -69,6 +73,7 @@ fn read_ask(path: &[u8], name: &[u8]) -> Option<(u32, u64)>
     ended(&parts, ask)
 }
 
+/// The id, where the path is of this form and no more.
 fn read_id(path: &[u8], name: &[u8]) -> Option<u32>
     ensures { result ≡ ended (id_at name.now (pieces 47 path.now)) }
 {
@@ -77,6 +82,7 @@ fn read_id(path: &[u8], name: &[u8]) -> Option<u32>
     ended(&parts, id)
 }
 
+/// The id, where the path is that of a report of this name and no more.
 fn read_report(path: &[u8], name: &[u8], report: &[u8]) -> Option<u32>
     ensures { result ≡ ended (report_at name.now report.now (pieces 47 path.now)) }
 {
@@ -85,6 +91,7 @@ fn read_report(path: &[u8], name: &[u8], report: &[u8]) -> Option<u32>
     ended(&parts, id)
 }
 
+/// The query, where the path is this text.
 fn only_path(path: &[u8], text: &[u8], query: Query) -> Option<Target>
     ensures { result ≡ only_path path.now text.now query }
 {
@@ -95,6 +102,7 @@ fn only_path(path: &[u8], text: &[u8], query: Query) -> Option<Target>
     }
 }
 
+/// The ask of a caller with this number.
 fn asked(caller: Caller, number: u64) -> Target
     ensures { result ≡ Target.Ask (record { caller = caller; number = number }) }
 {

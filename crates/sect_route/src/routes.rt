@@ -29,6 +29,7 @@ impl Model for Routes {
     ghost invariant = { λ r. r.router ≡ desk_routes };
 }
 
+/// The router of the desk's paths.
 fn desk_router(alloc: Global) -> Result<Router<Route>, InsertError>
     ensures { IfOk result (λ r. r ≡ desk_routes) }
 {
@@ -43,6 +44,7 @@ fn desk_router(alloc: Global) -> Result<Router<Route>, InsertError>
     Ok(router)
 }
 
+/// The route that the path matches.
 fn route_at(router: &Router<Route>, path: &str) -> Option<Route>
     requires { router.now ≡ desk_routes }
     ensures { result ≡ route_of path.now }

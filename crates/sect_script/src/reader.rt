@@ -121,6 +121,7 @@ impl LineReader {
         })
     }
 
+    /// Whether every byte that was read is handed out.
     fn is_empty(&self) -> bool
         ensures { IsTrue result ↔ (self.now ≡ []) }
     {
@@ -206,6 +207,7 @@ fn line_feed_at(bytes: &[u8]) -> Option<usize>
     memchr(b'\n', bytes)
 }
 
+/// Takes a carriage return off the end, where one is there.
 fn drop_return(line: &mut Vec<u8>)
     ensures { line.new.items ≡ without_return line.old.items }
 {

@@ -19,6 +19,7 @@ pub(crate) fn write_offerings(rows: &[OfferingRow], sheet: &mut Sheet) -> Result
     Ok(())
 }
 
+/// Writes the rows of an offering, one for each of its sections.
 fn write_offering(offering: &OfferingRow, sheet: &mut Sheet) -> Result<(), Memory>
     ensures { OnOk result (sheet.new ≡ sheet.old ++ offering_text offering.now) }
 {
@@ -28,6 +29,7 @@ fn write_offering(offering: &OfferingRow, sheet: &mut Sheet) -> Result<(), Memor
     Ok(())
 }
 
+/// Writes the rows of a configuration, one for each of its sections.
 fn write_config(offering: &OfferingRow, config: &ConfigRow, sheet: &mut Sheet) -> Result<(), Memory>
     ensures { OnOk result (sheet.new ≡ sheet.old ++ config_text offering.now config.now) }
 {
@@ -37,6 +39,7 @@ fn write_config(offering: &OfferingRow, config: &ConfigRow, sheet: &mut Sheet) -
     Ok(())
 }
 
+/// Writes the rows of a subpart, one for each of its sections.
 fn write_subpart(
     offering: &OfferingRow,
     config: &ConfigRow,
@@ -51,6 +54,7 @@ fn write_subpart(
     Ok(())
 }
 
+/// Writes the row of a section, with what it belongs to.
 fn write_section<'a>(
     offering: &'a OfferingRow,
     config: &'a ConfigRow,

@@ -21,6 +21,7 @@ pub(crate) fn write_students(rows: &[StudentRow], sheet: &mut Sheet) -> Result<(
     Ok(())
 }
 
+/// Writes the row of a student.
 fn write_student(student: &StudentRow, sheet: &mut Sheet) -> Result<(), Memory>
     ensures { OnOk result (sheet.new ≡ sheet.old ++ written (student_fields student.now)) }
 {
@@ -42,6 +43,7 @@ pub(crate) fn write_requests(rows: &[AsksView], sheet: &mut Sheet) -> Result<(),
     Ok(())
 }
 
+/// Writes the rows of a student's requests, by position.
 fn write_asks(student: StudentId, asks: &[Ask], sheet: &mut Sheet) -> Result<(), Memory>
     ensures { OnOk result (sheet.new ≡ sheet.old ++ asks_text student 1 asks.now) }
 {
@@ -51,6 +53,7 @@ fn write_asks(student: StudentId, asks: &[Ask], sheet: &mut Sheet) -> Result<(),
     Ok(())
 }
 
+/// Writes the row of a request at this position.
 fn write_ask(student: StudentId, rank: u64, ask: &Ask, sheet: &mut Sheet) -> Result<(), Memory>
     ensures { OnOk result (sheet.new ≡ sheet.old ++ written (ask_fields student rank ask.now)) }
 {
@@ -84,6 +87,7 @@ pub(crate) fn write_reservations(rows: &[Reservation], sheet: &mut Sheet) -> Res
     Ok(())
 }
 
+/// Writes the row of a reservation.
 fn write_reservation(reservation: &Reservation, sheet: &mut Sheet) -> Result<(), Memory>
     ensures { OnOk result (sheet.new ≡ sheet.old ++ written (reservation_fields reservation.now)) }
 {

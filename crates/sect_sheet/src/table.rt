@@ -24,6 +24,7 @@ pub fn export(table: Table, view: &View, into: &mut Vec<u8>) -> Result<(), Memor
     Ok(())
 }
 
+/// Writes the names of a table's columns.
 fn write_header(table: Table, sheet: &mut Sheet) -> Result<(), Memory>
     ensures { OnOk result (sheet.new ≡ sheet.old ++ written (header table)) }
 {
@@ -69,6 +70,7 @@ fn write_header(table: Table, sheet: &mut Sheet) -> Result<(), Memory>
     }
 }
 
+/// Writes the rows of a view. One of another kind has none.
 fn write_view(view: &View, sheet: &mut Sheet) -> Result<(), Memory>
     ensures { OnOk result (sheet.new ≡ sheet.old ++ view_text view.now) }
 {

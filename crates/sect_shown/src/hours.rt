@@ -27,6 +27,7 @@ pub fn hours_of(alloc: Global, rows: &[OfferingRow], held: &[Choice]) -> Result<
     Ok(hours)
 }
 
+/// Adds the hours of the choices in an offering.
 fn add_offering(row: &OfferingRow, held: &[Choice], hours: &mut Vec<Hour>) -> Result<(), Memory>
     ensures { OnOk result (hours.new.items ≡ hours.old.items ++ offering_hours held.now row.now) }
 {
@@ -36,6 +37,7 @@ fn add_offering(row: &OfferingRow, held: &[Choice], hours: &mut Vec<Hour>) -> Re
     Ok(())
 }
 
+/// Adds the hours of the choices in a configuration.
 fn add_config(row: &ConfigRow, held: &[Choice], hours: &mut Vec<Hour>) -> Result<(), Memory>
     ensures { OnOk result (hours.new.items ≡ hours.old.items ++ config_hours held.now row.now) }
 {
@@ -45,6 +47,7 @@ fn add_config(row: &ConfigRow, held: &[Choice], hours: &mut Vec<Hour>) -> Result
     Ok(())
 }
 
+/// Adds the hours of the choices in a subpart.
 fn add_subpart(row: &SubpartRow, held: &[Choice], hours: &mut Vec<Hour>) -> Result<(), Memory>
     ensures { OnOk result (hours.new.items ≡ hours.old.items ++ subpart_hours held.now row.now) }
 {
@@ -54,6 +57,7 @@ fn add_subpart(row: &SubpartRow, held: &[Choice], hours: &mut Vec<Hour>) -> Resu
     Ok(())
 }
 
+/// Adds the hours of the choices in a section.
 fn add_section(row: &SectionRow, held: &[Choice], hours: &mut Vec<Hour>) -> Result<(), Memory>
     ensures { OnOk result (hours.new.items ≡ hours.old.items ++ section_hours held.now row.now) }
 {
@@ -85,6 +89,7 @@ fn takes(choice: &Choice, section: SectionId) -> bool
         .any(|taken| taken.0 == section.0)
 }
 
+/// Adds the hours of a section's meetings, for this course.
 fn add_meetings(row: &SectionRow, course: CourseId, hours: &mut Vec<Hour>) -> Result<(), Memory>
     ensures { OnOk result (hours.new.items ≡ hours.old.items ++ map (λ m. record { course = course; section = row.now.id; meeting = m }) row.now.meetings) }
 {

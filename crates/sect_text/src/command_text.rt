@@ -39,6 +39,7 @@ use sect_reserve::Audience;
 use sect_time::Day;
 use sect_words::{Spelled, print_bytes};
 
+/// The row of an offering, with its courses and its configurations.
 fn print_offering(row: &OfferingRow, into: &mut Vec<u8>) -> Result<(), Memory>
     ensures text { OnOk result (into.new.items ≡ into.old.items ++ sentence (offering_words row.now)) }
     ensures front { take (length into.old.items) into.new.items ≡ into.old.items }
@@ -49,6 +50,7 @@ fn print_offering(row: &OfferingRow, into: &mut Vec<u8>) -> Result<(), Memory>
     print_each(row.configs.as_slice(), into)
 }
 
+/// The row of a student, with its groups and its curricula.
 fn print_student(row: &StudentRow, into: &mut Vec<u8>) -> Result<(), Memory>
     ensures text { OnOk result (into.new.items ≡ into.old.items ++ sentence (student_words row.now)) }
     ensures front { take (length into.old.items) into.new.items ≡ into.old.items }
@@ -113,6 +115,7 @@ fn print_subject(
     print_word(audience, into)
 }
 
+/// The row of a reservation.
 fn print_reserve(row: &ReserveRow, into: &mut Vec<u8>) -> Result<(), Memory>
     ensures text { OnOk result (into.new.items ≡ into.old.items ++ sentence (reserve_words row.now)) }
     ensures front { take (length into.old.items) into.new.items ≡ into.old.items }
@@ -124,6 +127,7 @@ fn print_reserve(row: &ReserveRow, into: &mut Vec<u8>) -> Result<(), Memory>
     print_terms(row, into)
 }
 
+/// The row of a restriction.
 fn print_restrict(row: &RestrictRow, into: &mut Vec<u8>) -> Result<(), Memory>
     ensures text { OnOk result (into.new.items ≡ into.old.items ++ sentence (restrict_words row.now)) }
     ensures front { take (length into.old.items) into.new.items ≡ into.old.items }
@@ -134,6 +138,7 @@ fn print_restrict(row: &RestrictRow, into: &mut Vec<u8>) -> Result<(), Memory>
     print_each(row.sections.as_slice(), into)
 }
 
+/// A level and its id.
 fn print_cap(cap: &Cap, into: &mut Vec<u8>) -> Result<(), Memory>
     ensures text { OnOk result (into.new.items ≡ into.old.items ++ behind 32 (cap_words cap.now)) }
     ensures front { take (length into.old.items) into.new.items ≡ into.old.items }
@@ -169,6 +174,7 @@ fn print_only(sections: &Items<SectionId>, into: &mut Vec<u8>) -> Result<(), Mem
     print_word(sections, into)
 }
 
+/// The courses that are wanted, the only sections for them, and the rank where it is not the default.
 fn print_want(want: &Want, into: &mut Vec<u8>) -> Result<(), Memory>
     ensures text { OnOk result (into.new.items ≡ into.old.items ++ behind 32 (printed_want want.now)) }
     ensures front { take (length into.old.items) into.new.items ≡ into.old.items }
@@ -187,6 +193,7 @@ impl Phrase for Want {
     }
 }
 
+/// The budget, where it is not the default.
 fn print_budget(budget: Budget, into: &mut Vec<u8>) -> Result<(), Memory>
     ensures text { OnOk result (into.new.items ≡ into.old.items ++ behind 32 (budget_words false budget)) }
     ensures front { take (length into.old.items) into.new.items ≡ into.old.items }
@@ -194,6 +201,7 @@ fn print_budget(budget: Budget, into: &mut Vec<u8>) -> Result<(), Memory>
     print_stated(b"budget", 2000, budget.get(), into)
 }
 
+/// The command that enrols a student.
 fn print_enrol(
     student: StudentId,
     want: &Want,
@@ -210,6 +218,7 @@ fn print_enrol(
     print_budget(budget, into)
 }
 
+/// The command that gives courses up and takes others.
 fn print_swap(
     student: StudentId,
     given: &[CourseId],
@@ -229,6 +238,7 @@ fn print_swap(
     print_budget(budget, into)
 }
 
+/// The command that puts a student on the wait-list.
 fn print_wait(
     student: StudentId,
     want: &Want,
@@ -259,6 +269,7 @@ fn print_give(give: Option<CourseId>, into: &mut Vec<u8>) -> Result<(), Memory>
     }
 }
 
+/// The command that sets a limit.
 fn print_limit(cap: &Cap, limit: Limit, into: &mut Vec<u8>) -> Result<(), Memory>
     ensures text { OnOk result (into.new.items ≡ into.old.items ++ sentence (codes "limit" ∷ cap_words cap.now ++ (limit_text limit ∷ []))) }
     ensures front { take (length into.old.items) into.new.items ≡ into.old.items }

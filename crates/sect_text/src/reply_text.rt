@@ -27,6 +27,7 @@ use sect_people::RequestFault;
 use sect_reserve::ReserveFault;
 use sect_words::{Spelled, print_bytes, print_marked, print_number};
 
+/// The fault of an offering's row.
 fn print_catalog_fault(fault: &CatalogFault, into: &mut Vec<u8>) -> Result<(), Memory>
     ensures text { OnOk result (into.new.items ≡ into.old.items ++ behind 32 (catalog_fault_words fault.now)) }
     ensures front { take (length into.old.items) into.new.items ≡ into.old.items }
@@ -42,6 +43,7 @@ fn print_catalog_fault(fault: &CatalogFault, into: &mut Vec<u8>) -> Result<(), M
     }
 }
 
+/// The fault of a student's requests.
 fn print_request_fault(fault: &RequestFault, into: &mut Vec<u8>) -> Result<(), Memory>
     ensures text { OnOk result (into.new.items ≡ into.old.items ++ behind 32 (request_fault_words fault.now)) }
     ensures front { take (length into.old.items) into.new.items ≡ into.old.items }
@@ -53,6 +55,7 @@ fn print_request_fault(fault: &RequestFault, into: &mut Vec<u8>) -> Result<(), M
     }
 }
 
+/// The fault of a reservation's or a restriction's row.
 fn print_reserve_fault(fault: &ReserveFault, into: &mut Vec<u8>) -> Result<(), Memory>
     ensures text { OnOk result (into.new.items ≡ into.old.items ++ behind 32 (reserve_fault_words fault.now)) }
     ensures front { take (length into.old.items) into.new.items ≡ into.old.items }
@@ -65,6 +68,7 @@ fn print_reserve_fault(fault: &ReserveFault, into: &mut Vec<u8>) -> Result<(), M
     }
 }
 
+/// The fault of a row, behind the word for its kind.
 fn print_row_fault(fault: &RowFault, into: &mut Vec<u8>) -> Result<(), Memory>
     ensures text { OnOk result (into.new.items ≡ into.old.items ++ behind 32 (row_fault_words fault.now)) }
     ensures front { take (length into.old.items) into.new.items ≡ into.old.items }
@@ -85,6 +89,7 @@ fn print_row_fault(fault: &RowFault, into: &mut Vec<u8>) -> Result<(), Memory>
     }
 }
 
+/// Why a command was refused.
 fn print_refusal(refusal: &Refusal, into: &mut Vec<u8>) -> Result<(), Memory>
     ensures text { OnOk result (into.new.items ≡ into.old.items ++ behind 32 (refusal_words refusal.now)) }
     ensures front { take (length into.old.items) into.new.items ≡ into.old.items }
@@ -115,6 +120,7 @@ fn print_blocked(visits: u32, tree: &Block, into: &mut Vec<u8>) -> Result<(), Me
     print_word(tree, into)
 }
 
+/// What became of a course request.
 fn print_result(result_of: &LineResult, into: &mut Vec<u8>) -> Result<(), Memory>
     ensures text { OnOk result (into.new.items ≡ into.old.items ++ behind 32 (result_words result_of.now)) }
     ensures front { take (length into.old.items) into.new.items ≡ into.old.items }

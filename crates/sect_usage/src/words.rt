@@ -117,6 +117,7 @@ fn asked_of(verb: Verb, words: &[String]) -> Option<Words>
     }
 }
 
+/// What `serve` asks for: the port, and the workers and sessions where they are named.
 fn read_serve(words: &[String]) -> Option<Words>
     ensures { result ≡ where_none (serve_of (items_of (map string_bytes words.now))) (positionals (items_of (map string_bytes words.now))) }
 {
@@ -131,6 +132,7 @@ fn read_serve(words: &[String]) -> Option<Words>
     alone(asked, words)
 }
 
+/// What `make` asks for: so many offerings.
 fn read_make(words: &[String]) -> Option<Words>
     ensures { result ≡ make_of (items_of (map string_bytes words.now)) }
 {
@@ -138,6 +140,7 @@ fn read_make(words: &[String]) -> Option<Words>
     Some(Words::Make(offerings))
 }
 
+/// What `report` asks for, with the words behind it.
 fn read_report(words: &[String]) -> Option<Words>
     ensures { result ≡ option_map Words.Report (query_of (positionals (items_of (map string_bytes words.now)))) }
 {
@@ -169,6 +172,7 @@ fn read_query(kind: &[u8], words: &[String]) -> Option<Query>
     }
 }
 
+/// What `import` asks for: the table, the first number, and the term where it is named.
 fn read_import(words: &[String]) -> Option<Words>
     ensures { result ≡ import_of (items_of (map string_bytes words.now)) }
 {
@@ -191,6 +195,7 @@ fn read_term(text: Option<&[u8]>) -> Option<Option<Day>>
     }
 }
 
+/// What `export` asks for: the table.
 #[tactic(auto, unfolding(crate::specs::Grammar::asked_for))]
 fn read_export(words: &[String]) -> Option<Words>
     ensures { result ≡ asked_for Verb.Export (items_of (map string_bytes words.now)) }
@@ -199,6 +204,7 @@ fn read_export(words: &[String]) -> Option<Words>
     Some(Words::Export(table))
 }
 
+/// What `plan` asks for: the student, and the budget where it is named.
 fn read_plan(words: &[String]) -> Option<Words>
     ensures { result ≡ plan_of (items_of (map string_bytes words.now)) }
 {

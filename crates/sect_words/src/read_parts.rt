@@ -26,6 +26,7 @@ use sect_catalog::CourseRow;
 use sect_reserve::Audience;
 use std::alloc::Global;
 
+/// A course of an offering: its id, its limit and its credits.
 #[tactic(auto, unfolding(crate::specs::ReadingWords::course_parts_at))]
 fn read_course_row(alloc: Global, parts: &mut Parts) -> Result<CourseRow, Fault>
     ensures { Reads result parts.new (course_parts_at parts.old) }
@@ -47,6 +48,7 @@ impl Readable for CourseRow {
     }
 }
 
+/// A curriculum: its area, its class and its majors.
 #[tactic(auto, unfolding(crate::specs::ReadingWords::curriculum_at))]
 fn read_curriculum(alloc: Global, parts: &mut Parts) -> Result<Curriculum, Fault>
     ensures { Reads result parts.new (curriculum_at parts.old) }
@@ -72,6 +74,7 @@ impl Readable for Curriculum {
     }
 }
 
+/// The audience of the students that are listed.
 #[tactic(auto, unfolding(crate::specs::ReadingWords::students_at))]
 fn read_students(alloc: Global, parts: &mut Parts) -> Result<Audience, Fault>
     ensures { Reads result parts.new (students_at parts.old) }
@@ -79,6 +82,7 @@ fn read_students(alloc: Global, parts: &mut Parts) -> Result<Audience, Fault>
     Ok(Audience::Students(parts.word(alloc)?))
 }
 
+/// The audience of a group.
 #[tactic(auto, unfolding(crate::specs::ReadingWords::group_audience_at))]
 fn read_group(alloc: Global, parts: &mut Parts) -> Result<Audience, Fault>
     ensures { Reads result parts.new (group_audience_at parts.old) }
@@ -86,6 +90,7 @@ fn read_group(alloc: Global, parts: &mut Parts) -> Result<Audience, Fault>
     Ok(Audience::Group(parts.word(alloc)?))
 }
 
+/// The audience of an area, with its classes and its majors.
 #[tactic(auto, unfolding(crate::specs::ReadingWords::study_at))]
 fn read_study(alloc: Global, parts: &mut Parts) -> Result<Audience, Fault>
     ensures { Reads result parts.new (study_at parts.old) }
@@ -100,6 +105,7 @@ fn read_study(alloc: Global, parts: &mut Parts) -> Result<Audience, Fault>
     })
 }
 
+/// The audience of a course.
 #[tactic(auto, unfolding(crate::specs::ReadingWords::course_audience_at))]
 fn read_course(alloc: Global, parts: &mut Parts) -> Result<Audience, Fault>
     ensures { Reads result parts.new (course_audience_at parts.old) }
@@ -107,6 +113,7 @@ fn read_course(alloc: Global, parts: &mut Parts) -> Result<Audience, Fault>
     Ok(Audience::Course(parts.word(alloc)?))
 }
 
+/// An audience, behind the word for its kind.
 #[tactic(auto, unfolding(crate::specs::ReadingWords::audience_at))]
 fn read_audience(alloc: Global, parts: &mut Parts) -> Result<Audience, Fault>
     ensures { Reads result parts.new (audience_at parts.old) }
@@ -137,6 +144,7 @@ impl Readable for Audience {
     }
 }
 
+/// A choice: its course, its reservation, its configuration and its sections.
 #[tactic(auto, unfolding(crate::specs::ReadingWords::choice_at))]
 fn read_choice(alloc: Global, parts: &mut Parts) -> Result<Choice, Fault>
     ensures { Reads result parts.new (choice_at parts.old) }

@@ -66,6 +66,7 @@ fn read_dated(alloc: Global, term: Day, word: &[u8]) -> Result<Meeting, Fault>
     Ok(meeting)
 }
 
+/// The meeting of its days, its time and the dates of its weeks.
 #[tactic(auto, unfolding(crate::specs::Times::dated_at))]
 fn read_dated_parts(alloc: Global, term: Day, parts: &mut Parts) -> Result<Meeting, Fault>
     ensures { Reads result parts.new (dated_at term parts.old) }
