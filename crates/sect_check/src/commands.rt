@@ -27,6 +27,7 @@ use sect_read::Verb;
 use sect_words::Parts;
 use std::alloc::Global;
 
+/// Passes the row of an offering.
 #[tactic(auto, unfolding(crate::specs::Walks::offering_walk))]
 fn offering(alloc: Global, words: &mut Parts) -> Result<(), Halt>
     ensures { Walks result words.new (offering_walk words.old) }
@@ -36,6 +37,7 @@ fn offering(alloc: Global, words: &mut Parts) -> Result<(), Halt>
     each::<ConfigRow>(alloc, words)
 }
 
+/// Passes the row of a student.
 #[tactic(auto, unfolding(crate::specs::Walks::student_walk))]
 fn student(alloc: Global, words: &mut Parts) -> Result<(), Halt>
     ensures { Walks result words.new (student_walk words.old) }
@@ -47,6 +49,7 @@ fn student(alloc: Global, words: &mut Parts) -> Result<(), Halt>
     each::<CurriculumName>(alloc, words)
 }
 
+/// Passes a student and its requests.
 #[tactic(auto, unfolding(crate::specs::Walks::requests_walk))]
 fn requests(alloc: Global, words: &mut Parts) -> Result<(), Halt>
     ensures { Walks result words.new (requests_walk words.old) }
@@ -55,6 +58,7 @@ fn requests(alloc: Global, words: &mut Parts) -> Result<(), Halt>
     each::<Ask>(alloc, words)
 }
 
+/// Passes the row of a reservation.
 #[tactic(auto, unfolding(crate::specs::Walks::reserve_walk))]
 fn reserve(alloc: Global, words: &mut Parts) -> Result<(), Halt>
     ensures { Walks result words.new (reserve_walk words.old) }
@@ -73,6 +77,7 @@ fn reserve(alloc: Global, words: &mut Parts) -> Result<(), Halt>
     Ok(())
 }
 
+/// Passes a reservation and its last day.
 #[tactic(auto, unfolding(crate::specs::Walks::expire_walk))]
 fn expire(alloc: Global, words: &mut Parts) -> Result<(), Halt>
     ensures { Walks result words.new (expire_walk words.old) }
@@ -81,6 +86,7 @@ fn expire(alloc: Global, words: &mut Parts) -> Result<(), Halt>
     word(alloc, Form::OptionalDay, words)
 }
 
+/// Passes the row of a restriction.
 #[tactic(auto, unfolding(crate::specs::Walks::restrict_walk))]
 fn restrict(alloc: Global, words: &mut Parts) -> Result<(), Halt>
     ensures { Walks result words.new (restrict_walk words.old) }
@@ -92,6 +98,7 @@ fn restrict(alloc: Global, words: &mut Parts) -> Result<(), Halt>
     each::<SectionName>(alloc, words)
 }
 
+/// Passes a level, its id and a limit.
 #[tactic(auto, unfolding(crate::specs::Walks::limit_walk))]
 fn limit(alloc: Global, words: &mut Parts) -> Result<(), Halt>
     ensures { Walks result words.new (limit_walk words.old) }
@@ -101,6 +108,7 @@ fn limit(alloc: Global, words: &mut Parts) -> Result<(), Halt>
     word(alloc, Form::Limit, words)
 }
 
+/// Passes a student, a want and, where it is named, the budget.
 #[tactic(auto, unfolding(crate::specs::Walks::enrol_walk))]
 fn enrol(alloc: Global, words: &mut Parts) -> Result<(), Halt>
     ensures { Walks result words.new (enrol_walk words.old) }
@@ -110,6 +118,7 @@ fn enrol(alloc: Global, words: &mut Parts) -> Result<(), Halt>
     option(alloc, b"budget", Form::UpTo(20_000), words)
 }
 
+/// Passes a student and the course that is dropped.
 #[tactic(auto, unfolding(crate::specs::Walks::drop_walk))]
 fn give_up(alloc: Global, words: &mut Parts) -> Result<(), Halt>
     ensures { Walks result words.new (drop_walk words.old) }
@@ -118,6 +127,7 @@ fn give_up(alloc: Global, words: &mut Parts) -> Result<(), Halt>
     word(alloc, Form::Id, words)
 }
 
+/// Passes a student, what is given up, what is taken and, where it is named, the budget.
 #[tactic(auto, unfolding(crate::specs::Walks::swap_walk))]
 fn swap(alloc: Global, words: &mut Parts) -> Result<(), Halt>
     ensures { Walks result words.new (swap_walk words.old) }
@@ -128,6 +138,7 @@ fn swap(alloc: Global, words: &mut Parts) -> Result<(), Halt>
     option(alloc, b"budget", Form::UpTo(20_000), words)
 }
 
+/// Passes a student, a want and, where they are named, what is given up and the class.
 #[tactic(auto, unfolding(crate::specs::Walks::wait_walk))]
 fn wait(alloc: Global, words: &mut Parts) -> Result<(), Halt>
     ensures { Walks result words.new (wait_walk words.old) }
@@ -138,6 +149,7 @@ fn wait(alloc: Global, words: &mut Parts) -> Result<(), Halt>
     option(alloc, b"class", Form::UpTo(9), words)
 }
 
+/// Passes a student and a ticket.
 #[tactic(auto, unfolding(crate::specs::Walks::unwait_walk))]
 fn unwait(alloc: Global, words: &mut Parts) -> Result<(), Halt>
     ensures { Walks result words.new (unwait_walk words.old) }

@@ -202,6 +202,7 @@ impl Group for Give {
     }
 }
 
+/// Passes the request for a course.
 #[tactic(auto, unfolding(crate::specs::Walks::course_ask_walk))]
 fn course_ask(alloc: Global, words: &mut Parts) -> Result<(), Halt>
     ensures walks { Walks result words.new (course_ask_walk words.old) }

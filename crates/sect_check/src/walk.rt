@@ -130,9 +130,11 @@ pub(crate) trait Group {
     /// The walk over them, where they start.
     ghost walk: { List (List ℕ) → Walk };
 
+    /// Whether such words start.
     fn starts(words: &Parts) -> bool
         ensures { result ≡ starts words.now };
 
+    /// Passes the words, where they start.
     fn pass(alloc: Global, words: &mut Parts) -> Result<(), Halt>
         ensures walks { Walks result words.new (walk words.old) }
         ensures shorter { IfOk result (λ _. length words.new < length words.old) };

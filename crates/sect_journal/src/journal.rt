@@ -258,12 +258,14 @@ impl<D: Disk> Journal<D> {
         self.admit(rows)
     }
 
+    /// Takes the buffer out, whose bytes no contract sees.
     fn take_buffer(&mut self) -> Vec<u8>
         ensures { self.new ≡ self.old }
     {
         mem::replace(&mut self.buffer, Vec::new(self.alloc))
     }
 
+    /// Puts a buffer back, whose bytes no contract sees.
     fn give_buffer(&mut self, text: Vec<u8>)
         ensures { self.new ≡ self.old }
     {

@@ -7,6 +7,7 @@ use crate::window::Window;
 use sect_edge::{KeepFault, Keeper};
 use sqlite::{Connection, Error, ErrorCode, File, FileStore, params};
 
+/// A database that stands in a file.
 pub(crate) type Database = Connection<FileStore<File>>;
 
 /// The rows of the table `entry` of a database file, by place from 0. It doesn't tell them. While it lives the file is locked
@@ -106,6 +107,7 @@ fn made_and_counted(database: &mut Database) -> Result<u64, Error> {
     u64::try_from(rows).map_err(|_| Error::IntegralValueOutOfRange(0))
 }
 
+/// Puts a row at this place of the table.
 fn insert(database: &mut Database, place: u64, row: &[u8]) -> Result<(), Error> {
     let Ok(place) = i64::try_from(place) else {
         return Err(Error::IntegralValueOutOfRange(0));
