@@ -5,7 +5,7 @@ use Rattle.std.specs.Option.{option_and_then, option_map, option_map_or}
 use Rattle.std.proofs.Common.{sym, ◌∙◌, ap, arith, inl}
 use Rattle.std.proofs.lemmas.Bool.{eq-eqb}
 use Rattle.sect_base.specs.declared.limit.Cap.TheVariants.{Course as cap_course, Config as cap_config, Section as cap_section}
-use Rattle.sect_catalog.specs.Catalogue.{find_offering, has_course}
+use Rattle.sect_catalog.specs.Catalogue.{find_offering, has_course, has_section as section_is_in}
 use Rattle.sect_catalog.specs.Limits.{capped_course, with_limit}
 use Rattle.sect_catalog.proofs.SearchLemmas.{any-parts}
 use Rattle.sect_model.specs.Data.{Cap, Limit, CourseId, ConfigId, SectionId, OfferingId, OfferingRow}
@@ -22,7 +22,7 @@ use Rattle.sect_model.proofs.CapChange.{any-map}
 use Rattle.sect_model.proofs.FreerIndex.{its-offering}
 use Rattle.sect_model.proofs.FreerRows.{config-row, one-row, section-row}
 use Rattle.sect_space.specs.declared.back.Back.{Back}
-use Rattle.sect_space.specs.Back.{back_of, cap_offering, mark_of, has_section as section_is_in}
+use Rattle.sect_space.specs.Back.{back_of, cap_offering, mark_of}
 use Rattle.sect_space.proofs.MarkLemmas.{marked}
 use Rattle.sect_wait.specs.Marked.{concerns}
 use Rattle.sect_machine.specs.Opening.{last_offering, sectioned_in}
@@ -46,7 +46,7 @@ last-none (x ∷ xs) h = absurd (omega (arith, h))
 
 -- ---- the offering of a limit
 
-section-test : (o : OfferingRow) (id : SectionId) → has_section o id ≡ section_is_in id o
+section-test : (o : OfferingRow) (id : SectionId) → has_section o id ≡ section_is_in o id
 section-test o id =
     any-parts (λ s. s.id.0 == id.0) (λ p. p.sections) (flat_map (λ g. g.subparts) o.configs)
     ∙ any-parts (λ p. list_any (λ s. s.id.0 == id.0) p.sections) (λ g. g.subparts) o.configs
@@ -63,7 +63,7 @@ module _ (w : World) (k : KeptWorld w) (x : OfferingRow) (m : Member w.catalogue
   limited (cap_course id) has = ap (option_map (λ o. o.id)) (its-offering w k x m id has)
   limited (cap_config id) has = finds (λ o. has_config o id) has (λ y n h. config-row w.catalogue.rows k.rows_pass x y id m n has h)
   limited (cap_section id) has =
-      finds (section_is_in id) (sym (section-test x id) ∙ has) (λ y n h. section-row w.catalogue.rows k.rows_pass x y id m n has (section-test y id ∙ h))
+      finds (λ o. section_is_in o id) (sym (section-test x id) ∙ has) (λ y n h. section-row w.catalogue.rows k.rows_pass x y id m n has (section-test y id ∙ h))
 
   -- the row by its id, once the limit is set
   row-after : (cap : Cap) (limit : Limit) → find_offering (map (with_limit cap limit) w.catalogue.rows) x.id ≡ Some (with_limit cap limit x)
@@ -110,8 +110,8 @@ cancel-closed w id e k closed = Members.none-of (λ c. option_map_or (has_cap (c
     by_test c m x its false has = refl
     by_test c m x its true has =
         let f = Members.find-member (λ o. has_course o c) w.catalogue.rows x its in
-        let y = Members.known (find (section_is_in id) w.catalogue.rows) (Members.find-some (section_is_in id) w.catalogue.rows x f.0 (sym (section-test x id) ∙ has)) in
-        let g = Members.find-member (section_is_in id) w.catalogue.rows y.0 y.1 in
+        let y = Members.known (find (λ o. section_is_in o id) w.catalogue.rows) (Members.find-some (λ o. section_is_in o id) w.catalogue.rows x f.0 (sym (section-test x id) ∙ has)) in
+        let g = Members.find-member (λ o. section_is_in o id) w.catalogue.rows y.0 y.1 in
         let own : sectioned_in w id ≡ Some x = y.1 ∙ ap Some (sym (section-row w.catalogue.rows k.rows_pass x y.0 id f.0 g.0 has (section-test y.0 id ∙ g.1))) in
         absurd (not_both (has_course x c) f.1 (Members.none-at (has_course x) e.want.courses (sym (ap (λ o. concerns None o e) own) ∙ closed) c m))
 

@@ -2,7 +2,7 @@
 use Rattle.std.specs.Prelude.{◌≡◌, ℕ, ◌-◌, ◌==◌, ◌||◌, ◌&&◌, Bool, true, false, List, [], ◌∷◌, ◌++◌, length, find, slice_get, Option, None, Some}
 use Rattle.std.specs.List.{list_any}
 use Rattle.std.specs.Option.{option_and_then}
-use Rattle.sect_catalog.specs.Catalogue.{find_offering}
+use Rattle.sect_catalog.specs.Catalogue.{find_offering, offering_of_section}
 use Rattle.sect_command.specs.declared.command.Command.{Command}
 use Rattle.sect_command.specs.declared.command.Command.TheVariants.{Offering, Student as student_row, Requests, Reserve, Unreserve, Expire, Restrict, Unrestrict, SetLimit, Cancel, Enrol, Drop, Swap, Wait, Unwait, Batch}
 use Rattle.sect_command.specs.declared.reply.Line.{Line}
@@ -18,7 +18,7 @@ use Rattle.sect_model.specs.Allowed.{reservations_of}
 use Rattle.sect_model.specs.Refusals.{restriction_of}
 use Rattle.sect_model.specs.Freer.{flips, may_open, wants}
 use Rattle.sect_space.specs.declared.back.Back.{Back}
-use Rattle.sect_space.specs.Back.{back_of, has_section, mark_of}
+use Rattle.sect_space.specs.Back.{back_of, mark_of}
 use Rattle.sect_wait.specs.Marked.{concerns, is_noted, is_noted_in, may_need}
 
 -- the offering of a reservation
@@ -27,7 +27,7 @@ reserved_in w id = option_and_then (λ r. find_offering w.catalogue.rows r.offer
 
 -- the offering in which a section stands
 abbrev pub sectioned_in : World → SectionId → Option OfferingRow
-sectioned_in w id = find (has_section id) w.catalogue.rows
+sectioned_in w id = offering_of_section w.catalogue.rows id
 
 -- the offering of a restriction
 abbrev pub restricted_in : World → RestrictionId → Option OfferingRow

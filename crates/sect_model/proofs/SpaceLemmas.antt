@@ -4,11 +4,12 @@ use Rattle.std.specs.List.{list_all}
 use Rattle.std.specs.Option.{option_map, option_map_or, is_none}
 use Rattle.std.proofs.Common.{sym, ◌∙◌, ap}
 use Rattle.sect_reserve.specs.Audience.{active}
+use Rattle.sect_reserve.specs.Lasting.{lasts}
 use Rattle.sect_model.specs.Data.{Reservation, Level}
 use Rattle.sect_model.specs.World.{World}
 use Rattle.sect_model.specs.Counts.{count_of}
 use Rattle.sect_model.specs.Space.{places_at, names, remaining, has_unlimited}
-use Rattle.sect_model.specs.Before.{lasts, have_no_first_day}
+use Rattle.sect_model.specs.Before.{have_no_first_day}
 use Rattle.sect_base.specs.declared.limit.Level.TheVariants.{Offering, Config, Section}
 use Rattle.std.specs.Option.{option_and_then}
 use Rattle.std.specs.Prelude.{map}

@@ -1,7 +1,8 @@
 -- Settling and reserved space as they are where no entry has a class and no reservation a first day.
-use Rattle.std.specs.Prelude.{ℕ, zero, suc, ◌+◌, ℤ, pos, ◌-ℤ◌, Bool, true, ◌&&◌, ◌==◌, nat_le, cond, List, [], ◌∷◌, length, filter, sum_by, Option, Some, None}
+use Rattle.std.specs.Prelude.{ℕ, zero, suc, ◌+◌, ℤ, pos, ◌-ℤ◌, Bool, ◌&&◌, ◌==◌, nat_le, cond, List, [], ◌∷◌, length, filter, sum_by, Option, Some, None}
 use Rattle.std.specs.List.{list_all}
 use Rattle.std.specs.Option.{option_map, option_map_or, is_none}
+use Rattle.sect_reserve.specs.Lasting.{lasts}
 use Rattle.sect_model.specs.Data.{Waiting, Reservation, Level}
 use Rattle.sect_model.specs.World.{World, State}
 use Rattle.sect_model.specs.Space.{places_at, names, remaining, has_unlimited}
@@ -33,10 +34,6 @@ abbrev pub are_of_class : ℕ → List Waiting → Bool
 are_of_class class es = list_all (λ e. e.class == class) es
 
 -- ---- reserved space
-
--- to the expiry day, if there is one
-abbrev pub lasts : Reservation → ℕ → Bool
-lasts r day = option_map_or (nat_le day) r.expiry true
 
 -- the reservations that name the level and aren't over
 abbrev pub lasting_at : World → Level → List Reservation

@@ -1,14 +1,11 @@
 -- What is left of a path: the decisions for the next want, as a path of a move that takes this want alone, in the world that has
 -- the choices done.
-use Rattle.std.specs.Prelude.{◌≡◌, List, [], ◌∷◌, ◌++◌, Some}
-use Rattle.sect_model.specs.Data.{StudentId, Choice, Want, Move, Pick}
+use Rattle.std.specs.Prelude.{◌≡◌, List, [], ◌++◌, Some}
+use Rattle.sect_model.specs.Data.{Choice, Want, Move, Pick}
 use Rattle.sect_model.specs.World.{World}
 use Rattle.sect_model.specs.Path.{Path, want_at, options_at, extend}
 use Rattle.sect_model.specs.Rules.{world_at, leaf_of}
-
--- the move that gives nothing up and takes one want
-abbrev pub one_want : StudentId → Want → Move
-one_want student want = record { student = student; give = []; take = want ∷ [] }
+use Rattle.sect_model.specs.Step.{enrol_move}
 
 -- the path without the choices that are complete
 abbrev pub rest_path : Path → Path
@@ -22,13 +19,13 @@ in_front choices p = record p { done = choices ++ p.done }
 abbrev pub RestIsPath : Type 0
 RestIsPath =
     (w : World) (mv : Move) (want : Want) (p : Path) (pick : Pick) → want_at mv p ≡ Some want
-    → leaf_of w mv p pick ≡ leaf_of (world_at w mv p) (one_want mv.student want) (rest_path p) pick
+    → leaf_of w mv p pick ≡ leaf_of (world_at w mv p) (enrol_move mv.student want) (rest_path p) pick
 
 -- the rest of a path has the same options
 abbrev pub RestHasOptions : Type 0
 RestHasOptions =
     (w : World) (mv : Move) (want : Want) (p : Path) → want_at mv p ≡ Some want
-    → options_at w mv p ≡ options_at (world_at w mv p) (one_want mv.student want) (rest_path p)
+    → options_at w mv p ≡ options_at (world_at w mv p) (enrol_move mv.student want) (rest_path p)
 
 -- the path with one decision more is the rest with it, behind the choices done
 abbrev pub RestExtends : Type 0

@@ -1,6 +1,6 @@
 -- What is kept of a change, the world after it is taken back, and what it concerns.
 use Rattle.std.specs.Prelude.{ℕ, Bool, true, false, ◌-◌, ◌==◌, List, length, take, find, Option, None, Some}
-use Rattle.std.specs.List.{list_any, position_or_len}
+use Rattle.std.specs.List.{position_or_len}
 use Rattle.std.specs.Option.{option_map, option_map_or}
 use Rattle.sect_base.specs.declared.limit.Cap.{Cap}
 use Rattle.sect_base.specs.declared.limit.Cap.TheVariants.{Course as cap_course, Config as cap_config, Section as cap_section}
@@ -10,7 +10,7 @@ use Rattle.sect_base.specs.declared.ids.SectionId.{SectionId}
 use Rattle.sect_base.specs.declared.ids.CourseId.{CourseId}
 use Rattle.sect_base.specs.declared.ids.StudentId.{StudentId}
 use Rattle.sect_base.specs.declared.ids.ReservationId.{ReservationId}
-use Rattle.sect_catalog.specs.declared.row.OfferingRow.{OfferingRow}
+use Rattle.sect_catalog.specs.Catalogue.{offering_of_section}
 use Rattle.sect_catalog.specs.Limits.{limit_in}
 use Rattle.sect_people.specs.Student.{find_student}
 use Rattle.sect_reserve.specs.declared.row.Reservation.{Reservation}
@@ -36,13 +36,9 @@ use Rattle.sect_space.specs.declared.back.Mark.{Mark}
 abbrev pub offering_id : World → CourseId → Option OfferingId
 offering_id w course = option_map (λ o. o.id) (offering_of w course)
 
--- the offering has the section
-abbrev pub has_section : SectionId → OfferingRow → Bool
-has_section id o = list_any (λ g. list_any (λ p. list_any (λ s. s.id.0 == id.0) p.sections) g.subparts) o.configs
-
 -- the offering in which the section stands
 abbrev pub section_offering : World → SectionId → Option OfferingId
-section_offering w id = option_map (λ o. o.id) (find (has_section id) w.catalogue.rows)
+section_offering w id = option_map (λ o. o.id) (offering_of_section w.catalogue.rows id)
 
 -- the offering that has the configuration
 abbrev pub config_offering : World → ConfigId → Option OfferingId
