@@ -231,7 +231,7 @@ impl ReadPhrase for CourseId {
     }
 }
 
-/// A request for a course, and whether it may wait and may be a substitute.
+/// A request for one of some courses, whether it may wait, and whether it is a substitute.
 #[tactic(auto, unfolding(crate::specs::ReadingRows::course_ask_at))]
 fn read_course_ask(alloc: Global, words: &mut Parts) -> Result<Ask, Fault>
     ensures reads { Reads result words.new (course_ask_at words.old) }
