@@ -37,6 +37,7 @@ fn open_journal(rt: HostRuntime, path: &str) -> Result<AnyKeeper, End> {
     }
 }
 
+/// The keeper over the journal on this disk.
 fn start_journal(rt: HostRuntime, disk: FileDisk) -> Result<AnyKeeper, End> {
     match Journal::start(rt.alloc(), disk) {
         Ok(journal) => Ok(AnyKeeper::Journal(journal)),
