@@ -6,6 +6,7 @@ use sect_edge::KeepFault;
 use sect_journal::{Journal, JournalFault};
 use sect_real::{AnyKeeper, FileDisk, SqliteKeeper};
 use sect_usage::Paths;
+use std::alloc::{AllocFailed, AllocGlobal};
 use std::io;
 
 /// The keeper over the file that is named, or none where no file is.
@@ -22,9 +23,20 @@ pub fn keeper_of(rt: HostRuntime, paths: &Paths) -> Result<AnyKeeper, End> {
 /// The keeper over the database at this path.
 fn open_database(rt: HostRuntime, path: &str) -> Result<AnyKeeper, End> {
     match SqliteKeeper::open(&rt, path) {
-        Ok(keeper) => Ok(AnyKeeper::Sqlite(keeper)),
+        Ok(keeper) => database(rt, keeper),
         Err(KeepFault::Failed) => Err(End::Told(Status::KeeperFault)),
         Err(KeepFault::Memory) => Err(End::Told(Status::Memory)),
+    }
+}
+
+/// The keeper over this database. Without memory for it, it is closed.
+fn database(rt: HostRuntime, keeper: SqliteKeeper) -> Result<AnyKeeper, End> {
+    match Box::new(rt.alloc(), keeper) {
+        Ok(keeper) => Ok(AnyKeeper::Sqlite(keeper)),
+        Err(AllocFailed { value }) => {
+            let _ = value.close();
+            Err(End::Told(Status::Memory))
+        }
     }
 }
 

@@ -13,7 +13,7 @@ use crate::entry::Entry;
 use crate::key::key_of;
 use crate::object::Object;
 use crate::past::Past;
-use sect_base::{Id, Memory};
+use sect_base::{Caller, Id, Memory};
 use sect_edge::{KeepFault, Keeper};
 use sect_time::Day;
 use std::alloc::Global;
@@ -42,24 +42,47 @@ fn written<O: Object>(
     Ok(reply)
 }
 
+/// Acts a command on the object in its place. After want of memory the state is as before.
+pub(crate) fn step_in<O: Object>(
+    object: &mut Box<O>,
+    day: Day,
+    caller: Caller,
+    command: &O::Command,
+) -> Result<(O::Reply, O::Undo), Memory>
+    ensures state { IfOk result (λ r. O.state object.new.value ≡ (O.stepped (O.state object.old.value) day caller command.now).0) }
+    ensures reply { IfOk result (λ r. r.0 ≡ (O.stepped (O.state object.old.value) day caller command.now).1) }
+    ensures undo { IfOk result (λ r. O.restores r.1 object.new.value (O.state object.old.value)) }
+    ensures err { OnErr result (O.state object.new.value ≡ O.state object.old.value) }
+{
+    object.as_mut().step(day, caller, command)
+}
+
+/// Takes back the last step of the object in its place.
+pub(crate) fn take_back<O: Object>(object: &mut Box<O>, undo: O::Undo)
+    requires { (before : O.State) × O.restores undo object.old.value before }
+    ensures { (before : O.State) → O.restores undo object.old.value before → O.state object.new.value ≡ before }
+{
+    object.as_mut().undo(undo);
+}
+
 /// Steps the object, and prints what is to be kept of it, which has a row.
 fn step<O: Object>(
     alloc: Global,
-    object: &mut O,
+    object: &mut Box<O>,
     row: &mut Vec<u8>,
     id: Id,
     day: Day,
     command: O::Command,
 ) -> Result<Stepped<O::Command, O::Reply, O::Undo>, Memory>
-    requires { HasRow O.is_row (record { id = id; day = day; command = command; reply = (O.stepped (O.state object.old) day id.caller command).1 }) }
-    ensures state { IfOk result (λ s. O.state object.new ≡ (O.stepped (O.state object.old) day id.caller command).0) }
+    requires { HasRow O.is_row (record { id = id; day = day; command = command; reply = (O.stepped (O.state object.old.value) day id.caller command).1 }) }
+    ensures state { IfOk result (λ s. O.state object.new.value ≡ (O.stepped (O.state object.old.value) day id.caller command).0) }
     ensures entry { IfOk result (λ s. s.entry ≡ record { id = id; day = day; command = command; reply = s.reply }) }
-    ensures reply { IfOk result (λ s. s.reply ≡ (O.stepped (O.state object.old) day id.caller command).1) }
+    ensures reply { IfOk result (λ s. s.reply ≡ (O.stepped (O.state object.old.value) day id.caller command).1) }
     ensures row { IfOk result (λ s. O.is_row s.entry row.new.items) }
-    ensures undo { IfOk result (λ s. O.restores s.undo object.new (O.state object.old)) }
-    ensures err { OnErr result (O.state object.new ≡ O.state object.old) }
+    ensures undo { IfOk result (λ s. O.restores s.undo object.new.value (O.state object.old.value)) }
+    ensures err { OnErr result (O.state object.new.value ≡ O.state object.old.value) }
 {
-    let (reply, undo) = object.step(day, id.caller, &command)?;
+    let (reply, undo) = step_in(object, day, id.caller, &command)?;
     let entry = Entry {
         id,
         day,
@@ -69,7 +92,7 @@ fn step<O: Object>(
     match written::<O>(alloc, &entry, row) {
         Ok(reply) => Ok(Stepped { entry, reply, undo }),
         Err(memory) => {
-            object.undo(undo);
+            take_back(object, undo);
             Err(memory)
         }
     }
@@ -136,7 +159,7 @@ impl<O: Object> Past<O> {
                 Ok(reply)
             }
             Err(fault) => {
-                self.object.undo(undo);
+                take_back(&mut self.object, undo);
                 Err(fault)
             }
         }

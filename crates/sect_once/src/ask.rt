@@ -98,7 +98,7 @@ impl<O: Object, K: Keeper> Desk<O, K> {
         ensures sound { IsSound O.stepped O.is_row K.rows K.faults O.start self.now }
     {
         self.recall_sound();
-        self.past.object.look(query)
+        self.past.object.as_ref().look(query)
     }
 }
 

@@ -87,7 +87,7 @@ impl<O: Object, K: Keeper> Desk<O, K> {
     pub fn object(&self) -> &O
         ensures { O.state result.now ≡ self.now.object }
     {
-        &self.past.object
+        self.past.object.as_ref()
     }
 
     /// The number of requests that acted.

@@ -15,6 +15,7 @@ ghost use Rattle.std.specs.Prelude.{
   slice_get,
   cond,
   IfNone,
+  IfOk,
   IfSome,
   IsTrue,
   Some,
@@ -37,9 +38,10 @@ use std::collections::HashMap;
 use std::marker::Model;
 
 /// An object that is the replay of its entries. Each entry names its id, and a look-up tests it. The bytes of their rows are
-/// counted, and the last row stands in a buffer for the next.
+/// counted, and the last row stands in a buffer for the next. The object lies in a place of its own, so that who takes a desk
+/// over doesn't copy it.
 pub(crate) struct Past<O: Object> {
-    pub(crate) object: O,
+    pub(crate) object: Box<O>,
     pub(crate) entries: Vec<Entry<O::Command, O::Reply>>,
     pub(crate) places: HashMap<u128, u32>,
     pub(crate) row_bytes: u64,
@@ -64,9 +66,9 @@ impl<O: Object> Model for Past<O> {
 
     ghost Value = { Trail O.State O.Command O.Reply };
 
-    ghost view = { λ p. record { object = O.state p.object; entries = p.entries.items } };
+    ghost view = { λ p. record { object = O.state p.object.value; entries = p.entries.items } };
 
-    ghost invariant = { λ p. IsPast O.start O.stepped O.is_row (O.state p.object) p.entries.items p.places p.row_bytes };
+    ghost invariant = { λ p. IsPast O.start O.stepped O.is_row (O.state p.object.value) p.entries.items p.places p.row_bytes };
 }
 
 /// The notes with which a log is full.
@@ -106,16 +108,18 @@ fn seen_at<O: Object>(entry: &Entry<O::Command, O::Reply>, place: u32, command: 
 
 impl<O: Object> Past<O> {
     /// The object at the start.
-    pub(crate) fn new(alloc: Global) -> Past<O>
-        ensures { result ≡ record { object = O.start; entries = [] } }
+    pub(crate) fn new(alloc: Global) -> Result<Past<O>, Memory>
+    where
+        O: Drop,
+        ensures { IfOk result (λ past. past ≡ record { object = O.start; entries = [] }) }
     {
-        Past {
-            object: O::empty(alloc),
+        Ok(Past {
+            object: Box::new(alloc, O::empty(alloc))?,
             entries: Vec::new(alloc),
             places: HashMap::new(alloc),
             row_bytes: 0,
             row: Vec::new(alloc),
-        }
+        })
     }
 
     /// The type keeps this.

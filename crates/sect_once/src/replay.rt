@@ -5,6 +5,7 @@ ghost use Rattle.sect_once.specs.declared.entry.Mark.TheVariants.{Acts};
 ghost use Rattle.sect_once.specs.History.{acted_log, IsFull, IsNew, NeverFull, TellsRows};
 ghost use Rattle.sect_once.specs.Opening.{IsCause, IsRowCause, Opens, Reopens, Resumes, Takes, TakesNext};
 
+use crate::act::{step_in, take_back};
 use crate::answer::OpenFault;
 use crate::desk::Desk;
 use crate::entry::{Entry, Mark};
@@ -40,11 +41,14 @@ impl<O: Object> Past<O> {
     {
         self.entries.reserve(1)?;
         let place = self.entries.len() as u32;
-        let (reply, undo) = self
-            .object
-            .step(entry.day, entry.id.caller, &entry.command)?;
+        let (reply, undo) = step_in(
+            &mut self.object,
+            entry.day,
+            entry.id.caller,
+            &entry.command,
+        )?;
         if !O::same_reply(&reply, &entry.reply) {
-            self.object.undo(undo);
+            take_back(&mut self.object, undo);
             return Ok(false);
         }
         match place_in(&mut self.places, &entry.id, place) {
@@ -54,7 +58,7 @@ impl<O: Object> Past<O> {
                 Ok(true)
             }
             Err(memory) => {
-                self.object.undo(undo);
+                take_back(&mut self.object, undo);
                 Err(memory)
             }
         }
@@ -113,7 +117,7 @@ impl<O: Object> Past<O> {
         ensures err { IfErr result (IsCause O.start O.stepped O.is_row K.rows K.faults keeper.old keeper.new) }
     {
         let count = keeper.len()?;
-        let mut past = Past::new(alloc);
+        let mut past = Past::new(alloc)?;
         let mut row = Vec::new(alloc);
         for at in 0..count {
             past.take_next(alloc, keeper, at, &mut row)?;

@@ -5,7 +5,7 @@ use Rattle.sect_once.proofs.Openings.{opened_cause, replayed_all, replayed_more,
 use Rattle.sect_once.proofs.past.Past.replay.Goals as goal
 
 pub loop-at-init : goal.loop-at-init
-loop-at-init g c = rw c.new-past.ensures (replayed_none g.O.Object.start g.O.Object.stepped g.O.Object.is_row (g.K.Keeper.rows c.args.keeper.now) (g.K.Keeper.rows c.len.new.self) (g.K.Keeper.faults c.args.keeper.now) (g.K.Keeper.faults c.len.new.self) c.len.ensures.rows c.len.ensures.cause.later)
+loop-at-init g c = rw c.in_ok-past.ensures (replayed_none g.O.Object.start g.O.Object.stepped g.O.Object.is_row (g.K.Keeper.rows c.args.keeper.now) (g.K.Keeper.rows c.len.new.self) (g.K.Keeper.faults c.args.keeper.now) (g.K.Keeper.faults c.len.new.self) c.len.ensures.rows c.len.ensures.cause.later)
 
 pub loop-at-preserved : goal.loop-at-preserved
 loop-at-preserved g c = replayed_more g.O.Object.start g.O.Object.stepped g.O.Object.is_row _ (g.K.Keeper.rows c.loop-at.keeper) _ _ (g.K.Keeper.faults c.loop-at.keeper) _ c.loop-at.past c.take_next.new.self c.loop-at.at
