@@ -1,5 +1,5 @@
 -- The laws of the best whole schedule.
-use Rattle.std.specs.Prelude.{◌≡◌, ℕ, suc, ◌+◌, ◌≤◌, Bool, true, false, not, List, [], ◌∷◌, ◌++◌, length, map, refl, cond}
+use Rattle.std.specs.Prelude.{◌≡◌, ℕ, suc, ◌+◌, ◌≤◌, Bool, true, false, not, List, [], ◌∷◌, ◌++◌, length, map, flat_map, refl, cond}
 use Rattle.std.specs.List.{list_all}
 use Rattle.std.specs.Option.{is_some}
 use Rattle.std.proofs.Common.{sym, ◌∙◌, ap, subst, arith, append_assoc, append-nil}
@@ -22,7 +22,7 @@ use Rattle.sect_model.proofs.OutcomeLemmas.{full-not-spent}
 use Rattle.sect_model.proofs.RefutedLemmas.{blocked-refutes}
 use Rattle.sect_best.specs.Plan.{course_asks, plan_move, planned, plan_ask, plan_asks, planned_by, tried_with, nothing_planned, line_then, lines_of, plan_lines}
 use Rattle.sect_best.specs.Vector.{picked, is_greater, is_kept, is_spent, kept_vector, never_spent}
-use Rattle.sect_best.specs.Laws.{EachHasALine, UnmetIsRefuted, FullIsEnough, NoPlanIsGreater, RefutedTry, RefutedTries, CoversTries}
+use Rattle.sect_best.specs.Laws.{EachHasALine, PlanIsAllowed, met_choice, LinesAreOfThePlan, UnmetIsRefuted, FullIsEnough, NoPlanIsGreater, RefutedTry, RefutedTries, CoversTries}
 use Rattle.sect_best.specs.declared.line.PlanLine.{PlanLine}
 use Rattle.sect_best.specs.declared.planned.Judged.{Judged}
 use Rattle.sect_best.specs.declared.planned.Planned.{Planned}
@@ -240,10 +240,57 @@ counted w student budget [] p h = h
 counted w student budget (want ∷ wants) p h =
     counted w student budget wants (plan_ask w student budget p want) (counted-by w student budget p want h (tried w student budget p want) refl)
 
+-- there are as many choices as requests kept
+planned-counted : (w : World) (student : StudentId) (budget : ℕ) → kept_in (planned w student budget).verdicts ≡ length (planned w student budget).plan
+unfolding planned
+planned-counted w student budget =
+    let h = counted w student budget (course_asks (asks_of w student)) nothing_planned (record { plan = refl; kept = refl }) in
+    h.kept ∙ sym h.plan
+
 pub each-has-a-line : EachHasALine
 unfolding planned plan_lines
 each-has-a-line w student budget =
     let wants = course_asks (asks_of w student) in
     let p = plan_asks w student budget nothing_planned wants in
-    let h : IsCounted p = counted w student budget wants nothing_planned (record { plan = refl; kept = refl }) in
-    lines-ranks p.verdicts p.plan (h.kept ∙ sym h.plan) ∙ ap (map (λ j. j.rank)) (verdicts-are w student budget wants nothing_planned) ∙ verdict-ranks w student budget wants nothing_planned
+    lines-ranks p.verdicts p.plan (planned-counted w student budget) ∙ ap (map (λ j. j.rank)) (verdicts-are w student budget wants nothing_planned) ∙ verdict-ranks w student budget wants nothing_planned
+
+-- ---- the lines have the choices of the plan
+
+line-met : (rank : ℕ) (v : Verdict) (choices : List Choice) (js : List Judged)
+    → ((left : List Choice) → kept_in js ≡ length left → flat_map (λ l. met_choice l.result) (lines_of left js) ≡ left)
+    → cond (is_kept v) (kept_in js + 1) (kept_in js) ≡ length choices
+    → flat_map (λ (l : PlanLine). met_choice l.result) (line_then rank v choices (λ left. lines_of left js)) ≡ choices
+line-met rank Kept [] js later h = absurd (omega (arith, h))
+line-met rank Kept (c ∷ cs) js later h = ap (λ xs. c ∷ xs) (later cs (omega (arith, h)))
+line-met rank (Unmet tree visits) choices js later h = later choices h
+line-met rank Spent choices js later h = later choices h
+
+lines-met : (js : List Judged) (choices : List Choice) → kept_in js ≡ length choices → flat_map (λ l. met_choice l.result) (lines_of choices js) ≡ choices
+lines-met [] [] h = refl
+lines-met [] (c ∷ cs) h = absurd (omega (arith, h))
+lines-met (j ∷ js) choices h = line-met j.rank j.verdict choices js (lines-met js) h
+
+pub lines-of-the-plan : LinesAreOfThePlan
+unfolding plan_lines
+lines-of-the-plan w student budget = lines-met (planned w student budget).verdicts (planned w student budget).plan (planned-counted w student budget)
+
+-- ---- the plan is an allowed move
+
+-- the plan so far is an allowed move of the wants kept
+abbrev IsPlan : World → StudentId → Planned → Type 0
+IsPlan w student p = is_allowed_move w (plan_move w student p.kept) p.plan ≡ true
+
+allowed-by : (w : World) (student : StudentId) (budget : ℕ) (p : Planned) (want : Want) → IsPlan w student p → (o : Outcome)
+    → outcome_of w (plan_move w student (tried_with p want)) budget ≡ o → IsPlan w student (planned_by p (tried_with p want) want.rank o)
+allowed-by w student budget p want h (Found choices visits) e = found-allowed w (plan_move w student (tried_with p want)) budget choices (ap found_in e)
+allowed-by w student budget p want h (Blocked tree visits) e = h
+allowed-by w student budget p want h (over_budget spent) e = h
+
+all-allowed : (w : World) (student : StudentId) (budget : ℕ) (wants : List Want) (p : Planned) → IsPlan w student p → IsPlan w student (plan_asks w student budget p wants)
+all-allowed w student budget [] p h = h
+all-allowed w student budget (want ∷ wants) p h =
+    all-allowed w student budget wants (plan_ask w student budget p want) (allowed-by w student budget p want h (tried w student budget p want) refl)
+
+pub plan-is-allowed : PlanIsAllowed
+unfolding planned
+plan-is-allowed w student budget = all-allowed w student budget (course_asks (asks_of w student)) nothing_planned refl

@@ -1,5 +1,5 @@
 -- What follows from the definition of the best whole schedule.
-use Rattle.std.specs.Prelude.{◌≡◌, ℕ, ◌≤◌, false, Bool, List, [], ◌∷◌, map, filter, not, ◌==◌, IsTrue, ⊤}
+use Rattle.std.specs.Prelude.{◌≡◌, ℕ, ◌≤◌, false, Bool, List, [], ◌∷◌, map, filter, flat_map, not, ◌==◌, IsTrue, ⊤}
 use Rattle.std.specs.Option.{is_some}
 use Rattle.sect_people.specs.Student.{find_student}
 use Rattle.sect_model.specs.Data.{StudentId, Want, Choice}
@@ -14,6 +14,8 @@ use Rattle.sect_model.specs.declared.pick.Outcome.{Outcome}
 use Rattle.sect_model.specs.declared.pick.Outcome.TheVariants.{Found, Blocked, Spent}
 use Rattle.sect_best.specs.Plan.{course_asks, plan_move, plan_ask, planned, plan_lines, tried_with, nothing_planned}
 use Rattle.sect_best.specs.Vector.{picked, is_greater, kept_vector, never_spent}
+use Rattle.sect_best.specs.declared.line.PlanResult.{PlanResult}
+use Rattle.sect_best.specs.declared.line.PlanResult.TheVariants.{Met, Unmet, Spent as spent_line}
 use Rattle.sect_best.specs.declared.planned.Planned.{Planned}
 
 -- the world in which all that the student holds is given up is the world without the student's enrolments
@@ -27,6 +29,24 @@ abbrev pub EachHasALine : Type 0
 EachHasALine =
     (w : World) (student : StudentId) (budget : ℕ)
     → map (λ l. l.rank) (plan_lines w student budget) ≡ map (λ a. a.rank) (course_asks (asks_of w student))
+
+-- the plan is an allowed move of the requests kept, in the world without the student's enrolments
+abbrev pub PlanIsAllowed : Type 0
+PlanIsAllowed =
+    (w : World) (student : StudentId) (budget : ℕ)
+    → IsTrue (is_allowed_move w (plan_move w student (planned w student budget).kept) (planned w student budget).plan)
+
+-- the choice of a request that is met, and none of another
+abbrev pub met_choice : PlanResult → List Choice
+met_choice (Met choice) = choice ∷ []
+met_choice (Unmet tree visits) = []
+met_choice spent_line = []
+
+-- the choices of the lines, in order, are the plan's
+abbrev pub LinesAreOfThePlan : Type 0
+LinesAreOfThePlan =
+    (w : World) (student : StudentId) (budget : ℕ)
+    → flat_map (λ l. met_choice l.result) (plan_lines w student budget) ≡ (planned w student budget).plan
 
 -- where the search is blocked, its tree refutes the move of the wants tried
 abbrev pub RefutedTry : World → StudentId → List Want → Outcome → Type 0

@@ -1,6 +1,14 @@
 // The laws of the best whole schedule. The functions do nothing: the contract of each is a law.
 
-ghost use Rattle.sect_best.specs.Laws.{LeavesAll, EachHasALine, UnmetIsRefuted, FullIsEnough, NoPlanIsGreater};
+ghost use Rattle.sect_best.specs.Laws.{
+  LeavesAll,
+  EachHasALine,
+  PlanIsAllowed,
+  LinesAreOfThePlan,
+  UnmetIsRefuted,
+  FullIsEnough,
+  NoPlanIsGreater,
+};
 
 /// A plan is one in the world without the student's enrolments.
 pub fn plans_give_all_up()
@@ -10,6 +18,17 @@ pub fn plans_give_all_up()
 /// Each course request has its line, by position.
 pub fn each_request_has_a_line()
     ensures { EachHasALine }
+{}
+
+/// The plan is an allowed move that gives up all that the student holds and takes the requests kept: each choice is
+/// allowed beside the ones before it.
+pub fn the_plan_is_allowed()
+    ensures { PlanIsAllowed }
+{}
+
+/// The choices of the lines that are met, in order, are those of the plan.
+pub fn lines_are_of_the_plan()
+    ensures { LinesAreOfThePlan }
 {}
 
 /// The tree of an unmet request covers the path without decisions, and the requests kept before it and it have no plan.
