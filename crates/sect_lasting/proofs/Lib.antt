@@ -1,0 +1,3 @@
+mod Logs
+mod Journals
+mod Lasting
