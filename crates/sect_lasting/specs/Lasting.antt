@@ -48,6 +48,6 @@ module _ {O C R D : Type 0} (start : O) (stepped : O → ℕ → Caller → C �
         → u.now.seen ≡ bytes → IsOpened told (prepared (Some u)) journal → Opens start stepped is_row rows faults journal result
         → HasHistory start stepped is_row rows faults entries result
 
-  -- so is each image that a crash may leave
+  -- each image that a crash may leave is such bytes
   abbrev pub LeavesDesk : List (Entry C R) → Content → Type 0
   LeavesDesk es c = (image : List ℕ) → IsImage c image → ComesBack es image
