@@ -53,8 +53,11 @@ module _ {O C R D : Type 0} (start : O) (stepped : O → ℕ → Caller → C �
   leaves_back : (c : Content) → Leaves known groups c → LeavesDesk start stepped is_row told rows faults (history desk.log) c
   leaves_back c leaves image is = image_back image (leaves image is)
 
-  pub lasts_now : (t : Told) → told desk.keeper.disk ≡ Some t → LeavesNow known groups (told desk.keeper.disk) → LeavesDesk start stepped is_row told rows faults (history desk.log) t.now
+  pub lasts_now : (t : Told) → told desk.keeper.disk ≡ Some t → LeavesNow known groups (told desk.keeper.disk)
+      → LeavesDesk start stepped is_row told rows faults (history desk.log) t.now
   lasts_now t is leaves = leaves_back t.now (subst (λ (o : Option Told). LeavesNow known groups o) is leaves)
 
-  pub lasts_on : (after : Journal D) → Stays (told desk.keeper.disk) (told after.disk) (Leaves known groups) → Stays (told desk.keeper.disk) (told after.disk) (LeavesDesk start stepped is_row told rows faults (history desk.log))
-  lasts_on after stays = stays_as (told desk.keeper.disk) (told after.disk) (Leaves known groups) (LeavesDesk start stepped is_row told rows faults (history desk.log)) leaves_back stays
+  pub lasts_on : (after : Journal D) → Stays (told desk.keeper.disk) (told after.disk) (Leaves known groups)
+      → Stays (told desk.keeper.disk) (told after.disk) (LeavesDesk start stepped is_row told rows faults (history desk.log))
+  lasts_on after stays =
+      stays_as (told desk.keeper.disk) (told after.disk) (Leaves known groups) (LeavesDesk start stepped is_row told rows faults (history desk.log)) leaves_back stays

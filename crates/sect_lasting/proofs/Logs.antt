@@ -31,38 +31,51 @@ module _ {C R : Type 0} where
       (get-snoc es e q h at'))
       (get-snoc es e p f at)
 
-  -- where the log of the entries alone is cut before a note, the log is cut behind the same entries
-  cut_front : (log before : List (Note C R)) (note : Note C R) (after : List (Note C R)) → acted_log (history log) ≡ before ++ note ∷ after
-      → (front : List (Note C R)) × (next : Note C R) × (back : List (Note C R)) × (log ≡ front ++ next ∷ back) × (history front ≡ history before) × (length before ≤ length front)
+  -- the log is cut before a note, behind the entries of this front and at least as many notes
+  record IsCut (log before : List (Note C R)) : Type 0 where
+    front : List (Note C R)
+    next : Note C R
+    back : List (Note C R)
+    is : log ≡ front ++ next ∷ back
+    same : history front ≡ history before
+    long : length before ≤ length front
+
+  cut_more : (log before : List (Note C R)) (e : Entry C R) (b : Note C R) → Acted e ≡ b → IsCut log before → IsCut (Acted e ∷ log) (b ∷ before)
+  cut_more log before e b head cut = record {
+    front = Acted e ∷ cut.front;
+    next = cut.next;
+    back = cut.back;
+    is = ap (λ (l : List (Note C R)). Acted e ∷ l) cut.is;
+    same = ap (λ (es : List (Entry C R)). e ∷ es) cut.same ∙ ap (λ (n : Note C R). history (n ∷ before)) head;
+    long = (let m = cut.long in omega (arith, m));
+  }
+
+  -- where the log of the entries alone is cut before a note, so is the log
+  cut_front : (log before : List (Note C R)) (note : Note C R) (after : List (Note C R)) → acted_log (history log) ≡ before ++ note ∷ after → IsCut log before
   cut_front [] [] note after h = absurd cc
   cut_front [] (b ∷ before) note after h = absurd cc
-  cut_front (Acted e ∷ log) [] note after h = ([], Acted e, log, refl, refl, omega arith)
+  cut_front (Acted e ∷ log) [] note after h = record { front = []; next = Acted e; back = log; is = refl; same = refl; long = omega arith }
   cut_front (Acted e ∷ log) (b ∷ before) note after h =
       let head : Acted e ≡ b = cc in
       let tail : acted_log (history log) ≡ before ++ note ∷ after = cc in
-      cut_more e b head (cut_front log before note after tail)
-    where
-      cut_more : (e : Entry C R) (b : Note C R) → Acted e ≡ b
-          → ((front : List (Note C R)) × (next : Note C R) × (back : List (Note C R)) × (log ≡ front ++ next ∷ back) × (history front ≡ history before) × (length before ≤ length front))
-          → (front : List (Note C R)) × (next : Note C R) × (back : List (Note C R)) × (Acted e ∷ log ≡ front ++ next ∷ back) × (history front ≡ history (b ∷ before)) × (length (b ∷ before) ≤ length front)
-      cut_more e b head (front, next, back, is, same, long) = (
-        Acted e ∷ front,
-        next,
-        back,
-        ap (λ (l : List (Note C R)). Acted e ∷ l) is,
-        ap (λ (es : List (Entry C R)). e ∷ es) same ∙ ap (λ (n : Note C R). history (n ∷ before)) head,
-        omega (arith, long),
-      )
-  cut_front (Faulted id ∷ log) before note after h = let t = cut_front log before note after h in
-      (Faulted id ∷ t.0, t.1, t.2, ap (λ (l : List (Note C R)). Faulted id ∷ l) t.3, t.4, (let m = t.5 in omega (arith, m)))
+      cut_more log before e b head (cut_front log before note after tail)
+  cut_front (Faulted id ∷ log) before note after h = let cut = cut_front log before note after h in record {
+    front = Faulted id ∷ cut.front;
+    next = cut.next;
+    back = cut.back;
+    is = ap (λ (l : List (Note C R)). Faulted id ∷ l) cut.is;
+    same = cut.same;
+    long = (let m = cut.long in omega (arith, m));
+  }
 
   -- without the notes of faults a log was never full either
   never_full-acted : (is_row : Entry C R → List ℕ → Type 0) (log : List (Note C R)) → NeverFull is_row log → NeverFull is_row (acted_log (history log))
   never_full-acted is_row log roomy before note after is full =
-      let t = cut_front log before note after is in
-      roomy t.0 t.1 t.2 t.3 (⊎_elim
-      (λ (big : 2 ^ 20 ≤ length before). inl (let m = t.5 in omega (arith, big, m)))
-      (λ (heavy : AreHeavy is_row (history before)). inr (subst (AreHeavy is_row) (sym t.4) heavy)) full)
+      let cut = cut_front log before note after is in
+      roomy cut.front cut.next cut.back cut.is
+      (⊎_elim
+      (λ (big : 2 ^ 20 ≤ length before). inl (let m = cut.long in omega (arith, big, m)))
+      (λ (heavy : AreHeavy is_row (history before)). inr (subst (AreHeavy is_row) (sym cut.same) heavy)) full)
 
   short_history : (log : List (Note C R)) → length (history log) ≤ length log
   short_history [] = omega arith
@@ -76,7 +89,8 @@ module _ {C R : Type 0} where
       (λ (heavy : AreHeavy is_row (history log)). inr heavy) (full_entries is_row (history log) full)
 
 module _ {O C R : Type 0} (start : O) (stepped : O → ℕ → Caller → C → O × R) (is_row : Entry C R → List ℕ → Type 0) where
-  legal_more : (log : List (Note C R)) (e : Entry C R) (row : List ℕ) → IsLegal stepped start log → Follows start stepped is_row (history log) row e → IsLegal stepped start (acted_log (history log ++ e ∷ []))
+  legal_more : (log : List (Note C R)) (e : Entry C R) (row : List ℕ) → IsLegal stepped start log → Follows start stepped is_row (history log) row e
+      → IsLegal stepped start (acted_log (history log ++ e ∷ []))
   legal_more log e row legal follows =
       let same : history (acted_log (history log ++ e ∷ [])) ≡ history log ++ e ∷ [] = history-acted_log (history log ++ e ∷ []) in
       record {
@@ -84,13 +98,15 @@ module _ {O C R : Type 0} (start : O) (stepped : O → ℕ → Caller → C → 
         once = subst ActsOnce (sym same) (once_more (history log) e legal.once follows.is_new);
       }
 
-  roomy_more : (log : List (Note C R)) (e : Entry C R) (row : List ℕ) → NeverFull is_row log → Follows start stepped is_row (history log) row e → NeverFull is_row (acted_log (history log ++ e ∷ []))
+  roomy_more : (log : List (Note C R)) (e : Entry C R) (row : List ℕ) → NeverFull is_row log → Follows start stepped is_row (history log) row e
+      → NeverFull is_row (acted_log (history log ++ e ∷ []))
   roomy_more log e row roomy follows =
       subst (NeverFull is_row) (sym (acted_log-append (history log) e))
       (λ before note after is. never_full-append is_row (acted_log (history log)) (Acted e) (never_full-acted is_row log roomy) follows.roomy before note after is)
 
 module _ {O C R K : Type 0} (start : O) (stepped : O → ℕ → Caller → C → O × R) (is_row : Entry C R → List ℕ → Type 0) (may_ask : Id → ℕ → C → Type 0)
-    (rows : K → Option (List (List ℕ))) (faults : K → ℕ) (one_row : (e : Entry C R) (a b : List ℕ) → is_row e a → is_row e b → a ≡ b) (has_row : NextHasRow start stepped is_row may_ask) where
+    (rows : K → Option (List (List ℕ))) (faults : K → ℕ)
+    (one_row : (e : Entry C R) (a b : List ℕ) → is_row e a → is_row e b → a ≡ b) (has_row : NextHasRow start stepped is_row may_ask) where
   pub answers_follow : AnswersFollow start stepped is_row rows faults may_ask
   answers_follow desk all id day command sound told asked new room =
       let es : List (Entry C R) = history desk.log in

@@ -16,7 +16,8 @@ use Rattle.sect_once.specs.Opening.{Follows, HasHistory, Opens}
 
 -- the entry of a request that acts behind these entries
 abbrev pub answered : {O C R : Type 0} → O → (O → ℕ → Caller → C → O × R) → List (Entry C R) → Id → ℕ → C → Entry C R
-answered start stepped es id day command = record { id = id; day = day; command = command; reply = (stepped (state_after stepped start es) day id.caller command).1 }
+answered start stepped es id day command =
+    record { id = id; day = day; command = command; reply = (stepped (state_after stepped start es) day id.caller command).1 }
 
 module _ {O C R : Type 0} (start : O) (stepped : O → ℕ → Caller → C → O × R) (is_row : Entry C R → List ℕ → Type 0) where
   -- the entry has one row, and can stand behind these
@@ -27,7 +28,8 @@ module _ {O C R : Type 0} (start : O) (stepped : O → ℕ → Caller → C → 
 
   -- each of these groups is the row alone of an entry that can stand behind these entries
   abbrev pub AreNext : List (Entry C R) → List (List (List ℕ)) → Type 0
-  AreNext es groups = (group : List (List ℕ)) → Contains groups group → (e : Entry C R) × (row : List ℕ) × Follows start stepped is_row es row e × (group ≡ row ∷ [])
+  AreNext es groups = (group : List (List ℕ)) → Contains groups group
+      → (e : Entry C R) × (row : List ℕ) × Follows start stepped is_row es row e × (group ≡ row ∷ [])
 
   -- the entries `fs` are these, or these and one more that can stand behind them
   abbrev pub AtMostOneMore : List (Entry C R) → List (Entry C R) → Type 0

@@ -20,13 +20,16 @@ module _ {O C R K : Type 0} (start : O) (stepped : O → ℕ → Caller → C �
   -- where a request may be asked, its id is new and the log has room, its entry has one row and can stand behind the history
   abbrev pub AnswersFollow : (Id → ℕ → C → Type 0) → Type 0
   AnswersFollow may_ask = (desk : Standing O C R K) (all : List (List ℕ)) (id : Id) (day : ℕ) (command : C)
-      → IsSound stepped is_row rows faults start desk → rows desk.keeper ≡ Some all → may_ask id day command → IsNew id (history desk.log) → (IsFull is_row desk.log → ⊥)
+      → IsSound stepped is_row rows faults start desk → rows desk.keeper ≡ Some all
+      → may_ask id day command → IsNew id (history desk.log) → (IsFull is_row desk.log → ⊥)
       → IsOneRowNext start stepped is_row (history desk.log) (answered start stepped (history desk.log) id day command)
 
   -- the rows of a legal log that was never full, or these and that of one entry more, open to its history, or to this and the entry
   abbrev pub OpensToAtMostOneMore : Type 0
-  OpensToAtMostOneMore = (keeper : K) (log : List (Note C R)) (entries : List (Entry C R)) (all : List (List ℕ)) (result : Result (Standing O C R K) (OpenFault × K))
-      → IsLegal stepped start log → NeverFull is_row log → AtMostOneMore start stepped is_row (history log) entries → rows keeper ≡ Some all → AllZip is_row entries all
+  OpensToAtMostOneMore = (keeper : K) (log : List (Note C R)) (entries : List (Entry C R)) (all : List (List ℕ))
+      (result : Result (Standing O C R K) (OpenFault × K))
+      → IsLegal stepped start log → NeverFull is_row log → AtMostOneMore start stepped is_row (history log) entries
+      → rows keeper ≡ Some all → AllZip is_row entries all
       → Opens start stepped is_row rows faults keeper result → HasHistory start stepped is_row rows faults entries result
 
 module _ {O C R D : Type 0} (start : O) (stepped : O → ℕ → Caller → C → O × R) (is_row : Entry C R → List ℕ → Type 0)
