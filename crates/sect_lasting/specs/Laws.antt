@@ -1,5 +1,5 @@
 -- What follows from the contracts of a journal and of a desk, stated for the contracts that prove it.
-use Rattle.std.specs.Prelude.{◌≡◌, ℕ, List, [], ◌++◌, Option, Some, Result}
+use Rattle.std.specs.Prelude.{◌≡◌, ℕ, List, [], ◌∷◌, ◌++◌, Option, Some, Result}
 use Rattle.std.specs.List.{AllZip}
 use Rattle.sect_base.specs.declared.limit.Caller.{Caller}
 use Rattle.sect_base.specs.declared.limit.Id.{Id}
@@ -43,6 +43,12 @@ module _ {O C R D : Type 0} (start : O) (stepped : O → ℕ → Caller → C �
     pub run : IsRun told calls first desk.keeper
     pub sound : IsSound stepped is_row rows faults start desk
     pub next : AreNext start stepped is_row (history desk.log) groups
+
+  -- after a call, of the row of an entry that can stand behind its history where it appends, the desk is over its journal as before
+  abbrev pub GoesOn : Type 0
+  GoesOn = (desk after : Standing O C R (Journal D)) (calls : List Call) (call : Call)
+      → Takes told call desk.keeper after.keeper → IsSound stepped is_row rows faults start after
+      → IsOver desk calls (unanswered [] calls ++ begun call) → IsOver after (calls ++ call ∷ []) (unanswered [] (calls ++ call ∷ []))
 
   -- after a crash between two calls the desk's history comes back, or it and one entry more
   abbrev pub LastsBetween : Type 0

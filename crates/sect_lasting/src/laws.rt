@@ -1,6 +1,6 @@
 // The laws of a desk that is opened again. The functions do nothing: the contract of each is a law.
 
-ghost use Rattle.sect_lasting.specs.Laws.{AnswersFollow, LastsBetween, LastsWithin, LastsWithout, OpensToAtMostOneMore};
+ghost use Rattle.sect_lasting.specs.Laws.{AnswersFollow, GoesOn, LastsBetween, LastsWithin, LastsWithout, OpensToAtMostOneMore};
 
 use sect_edge::Keeper;
 use sect_journal::{Disk, Journal, no_acknowledged_row_is_lost};
@@ -21,9 +21,10 @@ pub fn one_entry_more_is_taken<O: Object, K: Keeper>()
 
 /// What stands on the disk of a desk's journal opens, after a crash between two calls, after one at any moment of a call, and
 /// without one: to the rows of the desk's history, or to these and the row of one entry more that can stand behind it. And a
-/// desk opens over that, to these entries. The appends that were begun after the last acknowledged one and weren't answered
-/// Ok must each have been of the row of such an entry.
+/// desk opens over that, to these entries. Each append must have been of the row of an entry that could stand behind the history
+/// when it was begun; from call to call that is kept.
 pub fn a_desk_comes_back<O: Object, D: Disk>()
+    ensures onward { GoesOn O.start O.stepped O.is_row D.told ⟦<Journal<D> as Keeper>⟧.rows ⟦<Journal<D> as Keeper>⟧.faults }
     ensures between { LastsBetween O.start O.stepped O.is_row D.told ⟦<Journal<D> as Keeper>⟧.rows ⟦<Journal<D> as Keeper>⟧.faults }
     ensures within { LastsWithin O.start O.stepped O.is_row D.told ⟦<Journal<D> as Keeper>⟧.rows ⟦<Journal<D> as Keeper>⟧.faults }
     ensures without { LastsWithout O.start O.stepped O.is_row D.told ⟦<Journal<D> as Keeper>⟧.rows ⟦<Journal<D> as Keeper>⟧.faults }

@@ -1,8 +1,12 @@
 -- By what the journal's law says of the acknowledged rows, which are those of the history.
 use Rattle.sect_lasting.proofs.Lasting.{lasts_now, lasts_on}
+use Rattle.sect_lasting.proofs.Onward.{one_call_more}
 use Rattle.sect_journal.specs.Runs.{begun, unanswered}
 use Rattle.std.proofs.Common.{[], ◌++◌, Some, refl}
 use Rattle.sect_lasting.proofs.laws.a_desk_comes_back.Goals as goal
+
+pub returns-clause-onward : goal.returns-clause-onward
+returns-clause-onward g c = one_call_more g.O.Object.start g.O.Object.stepped g.O.Object.is_row g.D.Disk.told _ _ (λ journal. refl) g.met.O.Object.one_entry
 
 pub returns-clause-between : goal.returns-clause-between
 returns-clause-between g c desk calls t over is =
