@@ -7,5 +7,5 @@ ghost use Rattle.std.specs.Str.{bytes_eq};
 pub fn same_bytes(left: &[u8], right: &[u8]) -> bool
     ensures { result ≡ bytes_eq left.now right.now }
 {
-    left == right
+    left.len() == right.len() && left == right
 }
