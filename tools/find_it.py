@@ -367,8 +367,9 @@ GROUPS = [
         ('Opening a history', 'A term that lasts', ['sect_once/specs/History.antt: IsReplay'], ['sect_once/src/replay.rt: open'],
          'test_tally/src/tests/alone.rt: rows_are_replayed'),
         ('The journal, and a crash', 'A term that lasts', ['sect_journal/specs/Disk.antt: IsImage',
-         'sect_journal/specs/Runs.antt: acknowledged'], ['sect_journal/src/journal.rt: keep',
-         'sect_journal/src/law.rt: no_acknowledged_row_is_lost'], 'test_journal/stdin: # a crash after each call of an append'),
+         'sect_journal/specs/Runs.antt: acknowledged', 'sect_lasting/specs/Lasting.antt: ComesBack'],
+         ['sect_journal/src/journal.rt: keep', 'sect_journal/src/law.rt: no_acknowledged_row_is_lost', 'sect_lasting/src/laws.rt: a_desk_comes_back'],
+         'test_journal/stdin: # a crash after each call of an append'),
     ]),
     ('Statuses of the program', [
         ('0', 'Statuses', [STATUS + 'status_number'], ['sect_app/src/status.rt: number_of'],

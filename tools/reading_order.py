@@ -266,6 +266,10 @@ CHAPTERS = [
     ('The journal',
      'What a crash may leave of a disk, the text of a journal and its rows.',
      ['sect_journal/specs/' + n + '.antt' for n in ('Disk', 'Text', 'Standing', 'Opening', 'Runs')]),
+    ('A desk after a crash',
+     'What the disk of a journal opens to, as a journal and as a desk over it. The laws stand on the functions of '
+     '`crates/sect_lasting/src/laws.rt`.',
+     ['sect_lasting/specs/' + n + '.antt' for n in ('Lasting', 'Laws')]),
 ]
 
 # what reads a text word by word

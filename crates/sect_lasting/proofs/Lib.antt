@@ -1,0 +1,4 @@
+mod Logs
+mod Journals
+mod Lasting
+mod Onward
