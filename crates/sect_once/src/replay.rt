@@ -41,12 +41,7 @@ impl<O: Object> Past<O> {
     {
         self.entries.reserve(1)?;
         let place = self.entries.len() as u32;
-        let (reply, undo) = step_in(
-            &mut self.object,
-            entry.day,
-            entry.id.caller,
-            &entry.command,
-        )?;
+        let (reply, undo) = step_in(&mut self.object, entry.day, entry.id.caller, &entry.command)?;
         if !O::same_reply(&reply, &entry.reply) {
             take_back(&mut self.object, undo);
             return Ok(false);
