@@ -3,8 +3,8 @@
 ghost use Rattle.std.specs.Prelude.{◌≡◌};
 ghost use Rattle.sect_model.specs.Refusals.{too_many as many_of, in_use as use_of};
 
-use sect_command::Refusal;
 use sect_base::capped;
+use sect_command::Refusal;
 
 /// A count above its limit.
 pub fn too_many(limit: usize, count: usize) -> Option<Refusal>
