@@ -15,7 +15,7 @@ ghost use Rattle.sect_clerk.specs.Clerk.{ClerkDoes, TellsOf, reads as reads_sour
 
 use crate::checker::check;
 use crate::showing::{Demand, Timetable};
-use sect_clerk_words::{Words, help_of, version};
+use sect_clerk_words::{VERSION, Words, help_of};
 use sect_edge::{Clock, Keeper, Sink, Source};
 use sect_explaining::Explanation;
 use sect_log::Log;
@@ -71,7 +71,7 @@ pub(crate) fn do_asked<R: Threads + Sync, S: Source, T: Sink, K: Keeper, C: Cloc
         Words::Timetable(student) => tell_of(rt, alloc, sink, keeper, &Timetable(student)),
         Words::Try => try_over(alloc, source, sink, keeper, clock),
         Words::Help(topic) => (say(help_of(topic), sink), keeper),
-        Words::Version => (say(version(), sink), keeper),
+        Words::Version => (say(VERSION, sink), keeper),
     }
 }
 

@@ -11,7 +11,7 @@ ghost use Rattle.sect_clerk_words.specs.Grammar.{words_of};
 ghost use Rattle.sect_clerk.specs.Clerk.{ClerkDoes, reads_for};
 
 use crate::over::do_asked;
-use sect_clerk_words::read_words;
+use sect_clerk_words::{Verb, read_program};
 use sect_edge::{Clock, Keeper, Sink, Source};
 use sect_script::Status;
 use std::alloc::AllocGlobal;
@@ -50,7 +50,7 @@ pub fn clerk<R: AllocGlobal + Threads + Sync, S: Source, T: Sink, K: Keeper, C: 
     ensures keeper_fault { result.0 ≡ Status.KeeperFault → Rose (K.faults keeper) (K.faults result.1) }
     ensures others { result.0 ≢ Status.LinkFault }
 {
-    match read_words(words) {
+    match read_program::<Verb>(words) {
         None => (Status::BadWords, keeper),
         Some(asked) => do_asked(rt, rt.alloc(), asked, source, sink, keeper, clock),
     }

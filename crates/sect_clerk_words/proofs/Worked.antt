@@ -11,7 +11,7 @@ use Rattle.sect_clerk_words.specs.Grammar.{asked_for, takes, verb_of, words_of}
 use Rattle.sect_clerk_words.specs.Laws.{MayBeAsked, PlainWords, Worked, word_list}
 
 pub worked : Worked
-unfolding words_of verb_of asked_for takes
+unfolding verb_of asked_for takes
 worked = record {
   check = refl;
   demand = refl;
@@ -40,7 +40,7 @@ number_value name n fits = value_word name (decimal n) (number_plain n (omega (a
 
 log_words : (student : Option StudentId) (section : Option SectionId) (from : ℕ) → MayBeAsked (asked.Log student section from)
     → words_of (word_list (asked.Log student section from)) ≡ Some (asked.Log student section from)
-unfolding words_of verb_of asked_for takes
+unfolding verb_of asked_for takes
 log_words None None from may = rw (number_value (codes "from") from may.2, read_id from may.2) refl
 log_words (Some student) None from may =
     rw (number_value (codes "student") student.0 may.0, read_id student.0 may.0, number_value (codes "from") from may.2, read_id from may.2) refl
@@ -57,7 +57,7 @@ log_words (Some student) (Some section) from may =
     ) refl
 
 pub plain_words : PlainWords
-unfolding words_of verb_of asked_for takes
+unfolding verb_of asked_for takes
 plain_words asked.Check may = refl
 plain_words asked.Demand may = refl
 plain_words (asked.Explain place) may =

@@ -90,7 +90,7 @@ clerk_words = record {
 }
 
 -- what the words ask for
-unfoldable pub words_of : List (List ℕ) → Option Words
+abbrev pub words_of : List (List ℕ) → Option Words
 words_of words = words_in clerk_words words
 
 -- the files of the keepers that the words name, where they are in the grammar

@@ -1,7 +1,7 @@
 // What the clerk says of itself.
 
 ghost use Rattle.std.specs.Prelude.{◌≡◌};
-ghost use Rattle.sect_clerk_words.specs.Help.{help_text, version_text};
+ghost use Rattle.sect_clerk_words.specs.Help.{help_text};
 
 use crate::verb::{Topic, Verb};
 
@@ -106,7 +106,8 @@ Options:\n\
 \x20 --journal FILE  the history is in this journal (default: there is none)\n\
 Either file is made where there is none. Only one of the two may be given.\n";
 
-const VERSION: &[u8] = b"clerk 0.1.0\n";
+/// The text of the version.
+pub const VERSION: &[u8] = b"clerk 0.1.0\n";
 
 /// The text of a topic.
 pub fn help_of(topic: Topic) -> &'static [u8]
@@ -121,11 +122,4 @@ pub fn help_of(topic: Topic) -> &'static [u8]
         Topic::Command(Verb::Timetable) => TIMETABLE_HELP,
         Topic::Command(Verb::Try) => TRY_HELP,
     }
-}
-
-/// The text of the version.
-pub fn version() -> &'static [u8]
-    ensures { result.now ≡ version_text }
-{
-    VERSION
 }

@@ -7,7 +7,8 @@ mod needing;
 mod verb;
 mod words;
 
-pub use help::{help_of, version};
+pub use help::{VERSION, help_of};
 pub use needing::needs;
+pub use sect_usage::read_program;
 pub use verb::{Topic, Verb};
-pub use words::{Words, read_words};
+pub use words::Words;

@@ -13,12 +13,11 @@ ghost use Rattle.sect_clerk_words.specs.Grammar.{
   section_named as section_named_by,
   student_named as student_named_by,
   timetable_of,
-  words_of,
 };
 
 use crate::verb::{Topic, Verb, read_verb, takes};
 use sect_base::{SectionId, StudentId};
-use sect_usage::{Commands, alone, id, only, option_value, read_program};
+use sect_usage::{Commands, alone, id, only, option_value};
 
 /// What the words ask for.
 #[derive(Clone, Copy, Debug, PartialEq, Eq)]
@@ -41,14 +40,6 @@ pub enum Words {
     Try,
     Help(Topic),
     Version,
-}
-
-/// What the words ask for. None exactly where they aren't in the grammar.
-#[tactic(auto, unfolding(crate::specs::Grammar::words_of))]
-pub fn read_words(words: &[String]) -> Option<Words>
-    ensures { result ≡ words_of (map string_bytes words.now) }
-{
-    read_program::<Verb>(words)
 }
 
 impl Commands for Verb {
