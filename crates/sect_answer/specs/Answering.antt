@@ -16,8 +16,8 @@ use Rattle.sect_once.specs.declared.answer.Answer.TheVariants as answers
 use Rattle.sect_once.specs.declared.entry.Entry.{Entry}
 use Rattle.sect_once.specs.declared.entry.Note.{Note}
 use Rattle.sect_once.specs.History.{history, state_after, IsLegal, NeverFull}
-use Rattle.sect_page.specs.declared.page.Page.{Page}
-use Rattle.sect_page.specs.Said.{Said, json_page, no_command, no_memory, no_route, other_method, report_said}
+use Rattle.sect_talk.specs.declared.page.Page.{Page}
+use Rattle.sect_talk.specs.Said.{Said, json_page, no_command, no_memory, no_route, other_method, report_said}
 use Rattle.sect_report.specs.Answer.{report_text}
 use Rattle.sect_turn.specs.Passes.{front, own_calls}
 use Rattle.sect_turn.specs.declared.turn.Pass.{Pass}

@@ -4,8 +4,8 @@ use Rattle.std.specs.Str.{bytes_eq}
 use Rattle.sect_base.specs.declared.limit.Id.{Id}
 use Rattle.sect_command.specs.declared.command.Command.{Command}
 use Rattle.sect_json.specs.Bodies.{command_of}
-use Rattle.sect_page.specs.Pages.{method_text}
-use Rattle.sect_page.specs.declared.page.Method.TheVariants.{Get, Post}
+use Rattle.sect_talk.specs.Pages.{method_text}
+use Rattle.sect_talk.specs.declared.page.Method.TheVariants.{Get, Post}
 use Rattle.sect_read.specs.Fits.{FitsCommand, FitsDay, FitsId}
 use Rattle.sect_route.specs.Targets.{IsTarget}
 use Rattle.sect_route.specs.declared.target.Target.{Target}

@@ -15,8 +15,8 @@ use sect_command::{Command, Query, Reply, View};
 use sect_edge::{Clock, Keeper};
 use sect_office::Office;
 use sect_once::{Desk, Object};
-use sect_page::{Kind, Page};
 use sect_report::report;
+use sect_talk::{Kind, Page};
 use sect_turn::Pass;
 use std::sync::Wait;
 

@@ -3,7 +3,7 @@
 ghost use Rattle.std.specs.Prelude.{◌≡◌, IfOk, IfSome, IfNone, Result, Ok, Err, Some, ℕ};
 ghost use Rattle.sect_command.specs.declared.command.Command.{Command};
 ghost use Rattle.sect_json.specs.Bodies.{command_of};
-ghost use Rattle.sect_page.specs.Pages.{method_text};
+ghost use Rattle.sect_talk.specs.Pages.{method_text};
 ghost use Rattle.sect_read.specs.Fits.{FitsId};
 ghost use Rattle.sect_route.specs.declared.target.Target.TheVariants.{Ask, Look};
 ghost use Rattle.sect_answer.specs.Errands.{FitsErrand, IsErrand, errand_for, path_of};
@@ -11,9 +11,9 @@ ghost use Rattle.sect_answer.specs.Errands.{FitsErrand, IsErrand, errand_for, pa
 use sect_base::{Id, Memory};
 use sect_command::{Command, Query};
 use sect_json::{a_read_command_has_a_text, read_body};
-use sect_page::Method;
 use sect_read::WireFault;
 use sect_route::{Routes, Target};
+use sect_talk::Method;
 use sect_words::{Parts, same_bytes};
 use std::alloc::Global;
 

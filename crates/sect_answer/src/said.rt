@@ -2,15 +2,14 @@
 
 ghost use Rattle.std.specs.Prelude.{[], None, false, ◌≡◌, ◌≤◌, ◌+◌, ◌++◌, length, vec_capacity};
 ghost use Rattle.sect_answer.specs.Answering.{answer_said, closes_behind, said_of, Tells};
-ghost use Rattle.sect_page.specs.Said.{no_command, no_route, other_method, json_page};
+ghost use Rattle.sect_talk.specs.Said.{no_command, no_route, other_method, json_page};
 
 use http::StatusCode;
-use sect_base::Memory;
+use sect_base::{Memory, append};
 use sect_command::Reply;
 use sect_json::print_answer;
 use sect_once::Answer;
-use sect_page::{Kind, Method, Page};
-use sect_pieces::append;
+use sect_talk::{Kind, Method, Page};
 
 /// A page of JSON, and whether the connection closes behind it.
 pub fn json_page(status: StatusCode, allow: Option<Method>, closing: bool) -> Page

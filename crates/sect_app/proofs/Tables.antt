@@ -5,8 +5,8 @@ use Rattle.sect_command.specs.declared.view.Table.{Table}
 use Rattle.sect_command.specs.declared.view.Table.TheVariants as tables
 use Rattle.sect_csv.proofs.ReadingLemmas.{behind-behind, rows_read-append}
 use Rattle.sect_csv.specs.Intake.{read_so_far, with_end}
-use Rattle.sect_records.proofs.KeptLemmas.{all-more, shown-more}
-use Rattle.sect_records.specs.Rows.{all_rows, shown_rows}
+use Rattle.sect_csv.proofs.KeptLemmas.{all-more, shown-more}
+use Rattle.sect_csv.specs.Rows.{all_rows, shown_rows}
 use Rattle.sect_tables.specs.Headers.{first_difference, names_of}
 use Rattle.sect_tables.specs.Offerings.{OfferingSoFar}
 use Rattle.sect_tables.specs.Progress.{Progress, opening}

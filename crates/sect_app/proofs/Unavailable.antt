@@ -23,7 +23,7 @@ use Rattle.sect_once.specs.declared.entry.Note.{Note}
 use Rattle.sect_once.specs.declared.entry.Note.TheVariants.{Acted, Faulted}
 use Rattle.sect_once.specs.Faults.{AtMostFaults}
 use Rattle.sect_once.specs.History.{faulted}
-use Rattle.sect_page.specs.Said.{Said, no_command, no_memory, no_route, other_method, report_said}
+use Rattle.sect_talk.specs.Said.{Said, no_command, no_memory, no_route, other_method, report_said}
 use Rattle.sect_wire.specs.Laws.{IsRow}
 use Rattle.sect_serve.specs.Serving.{Worker}
 use Rattle.sect_serve.specs.Talks.{FrontsBegin, Talk}

@@ -12,7 +12,7 @@ use Rattle.sect_model.specs.World.{State, empty_state}
 use Rattle.sect_once.specs.Desks.{Standing}
 use Rattle.sect_once.specs.History.{history}
 use Rattle.sect_once.specs.Opening.{IsOpened}
-use Rattle.sect_page.specs.Said.{Said}
+use Rattle.sect_talk.specs.Said.{Said}
 use Rattle.sect_script.specs.declared.status.Status.{Status}
 use Rattle.sect_script.specs.declared.status.Status.TheVariants as statuses
 use Rattle.sect_serve.specs.Serving.{Serves}

@@ -11,11 +11,10 @@ use crate::answer::print_answer;
 use sect_base::Memory;
 use sect_command::{Command, Reply};
 use sect_edge::{Clock, Keeper};
-use sect_object::TextObject;
 use sect_once::{Answer, Desk, Object};
 use sect_script::{Handler, LineFault};
 use sect_time::Day;
-use sect_wire::{LineAsk, WireFault, read_line};
+use sect_wire::{LineAsk, TextObject, WireFault, read_line};
 use std::alloc::Global;
 use std::marker::Model;
 

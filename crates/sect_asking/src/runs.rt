@@ -11,9 +11,9 @@ ghost use Rattle.sect_script.specs.Statuses.{status_of};
 
 use crate::asker::Asker;
 use sect_edge::{Clock, Keeper, Sink, Source};
-use sect_object::TextObject;
 use sect_once::{Desk, OpenFault};
 use sect_script::{RunEnd, Status, run_lines, status_of};
+use sect_wire::TextObject;
 use std::alloc::Global;
 
 /// Answers the lines of the source into the sink, over the history of the keeper's rows. The keeper comes back.

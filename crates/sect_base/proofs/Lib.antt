@@ -1,2 +1,3 @@
 mod SectionLemmas
 pub mod TreeLemmas
+pub mod KeepLemmas

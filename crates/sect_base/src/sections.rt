@@ -7,7 +7,7 @@ use crate::ids::SectionId;
 use std::marker::Model;
 
 /// Sections, one of each subpart of a configuration in their order: at most six. Contracts see a list.
-#[derive(Clone, Copy, PartialEq, Eq, Debug)]
+#[derive(Clone, Copy, PartialEq, Eq)]
 pub struct Sections {
     // Those behind the first `len` are 0.
     cells: [SectionId; 6],

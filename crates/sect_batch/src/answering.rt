@@ -16,13 +16,12 @@ ghost use Rattle.sect_model.specs.Batch.{
 ghost use Rattle.sect_batch.specs.Lines.{Tells, MetFits, answer_by, unmet_of, met_of};
 
 use crate::lines::{Answer, Lines};
-use sect_base::{CourseId, Items, Memory, Move, StudentId};
+use sect_base::{CourseId, Items, Memory, Move, Steps, StudentId};
 use sect_command::LineResult;
 use sect_model::Outcome;
 use sect_people::CourseAsk;
 use sect_search::{search, usual_budget, want_of};
 use sect_space::World;
-use sect_steps::Steps;
 use std::alloc::Global;
 use std::sync::ledger::Ledger;
 

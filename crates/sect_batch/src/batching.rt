@@ -15,12 +15,11 @@ ghost use Rattle.sect_batch.specs.Lines.{Tells, MetFits, answer_by, answer_to_as
 
 use crate::answering::answer_to;
 use crate::lines::{Answer, Lines};
-use sect_base::{Choice, Items, Memory, StudentId};
+use sect_base::{Choice, Items, Memory, Steps, StudentId};
 use sect_command::{Line, LineResult};
 use sect_model::{Change, Enrolment};
 use sect_people::Ask;
 use sect_space::{Undo, World};
-use sect_steps::Steps;
 use std::alloc::Global;
 use std::marker::Brand;
 use std::sync::ledger::{Blank, Ledger};

@@ -17,7 +17,7 @@ pub struct Answer {
 }
 
 /// What later lines of the student count of a line.
-#[derive(Clone, Copy, PartialEq, Eq, Debug)]
+#[derive(Clone, Copy, PartialEq, Eq)]
 pub struct Mark {
     pub student: StudentId,
     /// It is blocked or spent, and its request is neither a substitute nor wait-listed.

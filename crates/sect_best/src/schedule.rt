@@ -12,11 +12,10 @@ ghost use Rattle.sect_best.specs.Plan.{plan_move as move_of_plan, plan_ask, plan
 use crate::line::PlanLine;
 use crate::planned::Planned;
 use crate::wants::wants_of;
-use sect_base::{Budget, CourseId, Duplicate, Items, Memory, Move, StudentId, Want};
+use sect_base::{Budget, CourseId, Duplicate, Items, Memory, Move, Steps, StudentId, Want};
 use sect_model::Enrolment;
 use sect_search::search_in;
 use sect_space::World;
-use sect_steps::Steps;
 use std::alloc::Global;
 use std::marker::Brand;
 use std::sync::ledger::{Blank, Ledger};

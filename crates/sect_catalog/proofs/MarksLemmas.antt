@@ -5,8 +5,8 @@ use Rattle.std.specs.Option.{is_some}
 use Rattle.std.proofs.Common.{sym, ◌∙◌, ap, append_assoc}
 use Rattle.std.proofs.lemmas.Bool.{eqb-true}
 use Rattle.std.proofs.lemmas.List.{append-nil}
-use Rattle.sect_table.specs.declared.table.Table.{Table}
-use Rattle.sect_table.specs.Table.{value_at, Puts, Stays, Removes}
+use Rattle.sect_base.specs.declared.table.Table.{Table}
+use Rattle.sect_base.specs.Table.{value_at, Puts, Stays, Removes}
 use Rattle.sect_base.specs.declared.ids.SectionId.{SectionId}
 use Rattle.sect_catalog.specs.Rising.{are_apart_after, Marks}
 use Rattle.sect_catalog.proofs.AppendLemmas.{both, both-left, both-right}

@@ -2,7 +2,7 @@
 use Rattle.std.specs.Prelude.{◌≡◌, ℕ, zero, suc, nat_lt, Bool, ◌||◌, slice_get, cond, List, [], ◌∷◌, ◌++◌, Option, Some, None}
 use Rattle.std.specs.Option.{option_or, option_map, option_and_then, is_some}
 use Rattle.std.specs.Map.{lookup}
-use Rattle.sect_table.specs.Table.{value_at}
+use Rattle.sect_base.specs.Table.{value_at}
 use Rattle.sect_catalog.specs.declared.index.Index.{Index}
 use Rattle.sect_catalog.specs.declared.row.OfferingRow.{OfferingRow}
 use Rattle.sect_catalog.specs.declared.row.CourseRow.{CourseRow}

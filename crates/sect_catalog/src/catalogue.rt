@@ -19,8 +19,7 @@ use crate::limit::{cap_key, put_at};
 use crate::place::{Key, Place, note_row};
 use crate::rising::{drop_courses, put_courses};
 use crate::row::{AddFault, CatalogFault, ConfigRow, CourseRow, OfferingRow, SectionRow};
-use sect_base::{Cap, ConfigId, CourseId, Limit, Memory, OfferingId, SectionId};
-use sect_table::Table;
+use sect_base::{Cap, ConfigId, CourseId, Limit, Memory, OfferingId, SectionId, Table};
 use std::alloc::Global;
 use std::marker::Model;
 

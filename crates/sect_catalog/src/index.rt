@@ -7,8 +7,7 @@ ghost use Rattle.sect_catalog.specs.Fault.{same_kind};
 ghost use Rattle.sect_catalog.specs.Place.{place_of, Notes, KeepsFirst, has_kind};
 
 use crate::place::{Key, Place};
-use sect_base::Memory;
-use sect_table::{Table, Test};
+use sect_base::{Memory, Table, Test};
 use std::alloc::Global;
 
 /// Ids of kinds, each with a place: a table for each kind.

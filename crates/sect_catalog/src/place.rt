@@ -16,7 +16,7 @@ use crate::row::{ConfigRow, CourseRow, OfferingRow, SectionRow, SubpartRow};
 use sect_base::Memory;
 
 /// The kinds of ids.
-#[derive(Clone, Copy, PartialEq, Eq, Debug)]
+#[derive(Clone, Copy, PartialEq, Eq)]
 pub enum Kind {
     Offering,
     Course,
@@ -27,7 +27,7 @@ pub enum Kind {
 
 /// Positions, each counted from 0 within what holds it. A course has its own where a
 /// configuration has its.
-#[derive(Clone, Copy, PartialEq, Eq, Debug)]
+#[derive(Clone, Copy, PartialEq, Eq)]
 pub struct Place {
     pub row: usize,
     pub config: usize,

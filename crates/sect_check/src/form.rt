@@ -3,7 +3,7 @@
 use sect_read::Verb;
 
 /// What is expected where a word of a line stands.
-#[derive(Clone, Copy, Debug, PartialEq, Eq)]
+#[derive(Clone, Copy, PartialEq, Eq)]
 pub enum Form {
     /// `@` and a day.
     DayMark,
@@ -38,7 +38,7 @@ pub enum Form {
 }
 
 /// Why the words of a line don't go on.
-#[derive(Clone, Copy, Debug, PartialEq, Eq)]
+#[derive(Clone, Copy, PartialEq, Eq)]
 pub enum Halt {
     /// The next word hasn't this form, or is missing.
     Bad(Form),

@@ -8,7 +8,7 @@ use Rattle.sect_model.specs.World.{empty_state}
 use Rattle.sect_once.specs.declared.entry.Entry.{Entry}
 use Rattle.sect_wire.specs.Laws.{IsRow}
 use Rattle.sect_script.specs.declared.status.Status.{Status}
-use Rattle.sect_try.specs.Tried.{Tries}
+use Rattle.sect_clerk.specs.Tried.{Tries}
 use Rattle.sect_clerk.specs.Clerk.{TellsOf}
 
 -- rows stay where nothing is done

@@ -23,7 +23,7 @@ use sect_script::{Handler, LineFault, RunEnd, Status, run_lines, status_of};
 use std::alloc::Global;
 
 /// How many lines were checked, and the number of the first that is refused.
-#[derive(Clone, Copy, Debug, PartialEq, Eq)]
+#[derive(Clone, Copy, PartialEq, Eq)]
 pub struct Checker {
     pub lines: u64,
     pub first: Option<u64>,

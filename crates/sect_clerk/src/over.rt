@@ -10,19 +10,18 @@ ghost use Rattle.sect_model.specs.World.{empty_state};
 ghost use Rattle.sect_once.specs.declared.entry.Entry.{Entry};
 ghost use Rattle.sect_wire.specs.Laws.{IsRow};
 ghost use Rattle.sect_script.specs.declared.status.Status.{Status};
-ghost use Rattle.sect_try.specs.Tried.{Tries};
+ghost use Rattle.sect_clerk.specs.Tried.{Tries};
 ghost use Rattle.sect_clerk.specs.Clerk.{ClerkDoes, TellsOf, reads as reads_source};
 
 use crate::checker::check;
 use crate::showing::{Demand, Timetable};
+use crate::{Explanation, try_lines};
 use sect_clerk_words::{VERSION, Words, help_of};
 use sect_edge::{Clock, Keeper, Sink, Source};
-use sect_explaining::Explanation;
 use sect_log::Log;
 use sect_machine::Machine;
 use sect_script::{Status, say};
 use sect_tell::{Teller, tell};
-use sect_try::try_lines;
 use std::alloc::Global;
 use std::thread::Threads;
 

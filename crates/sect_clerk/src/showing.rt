@@ -16,11 +16,11 @@ use std::alloc::Global;
 use std::thread::Threads;
 
 /// What is wanted of each course.
-#[derive(Clone, Copy, Debug, PartialEq, Eq)]
+#[derive(Clone, Copy, PartialEq, Eq)]
 pub struct Demand;
 
 /// The week of a student.
-#[derive(Clone, Copy, Debug, PartialEq, Eq)]
+#[derive(Clone, Copy, PartialEq, Eq)]
 pub struct Timetable(pub StudentId);
 
 impl Teller for Demand {

@@ -7,7 +7,7 @@ use sect_usage::is_keeper;
 use sect_words::same_bytes;
 
 /// A command.
-#[derive(Clone, Copy, Debug, PartialEq, Eq)]
+#[derive(Clone, Copy, PartialEq, Eq)]
 pub enum Verb {
     Check,
     Demand,
@@ -18,7 +18,7 @@ pub enum Verb {
 }
 
 /// What a text of help is about.
-#[derive(Clone, Copy, Debug, PartialEq, Eq)]
+#[derive(Clone, Copy, PartialEq, Eq)]
 pub enum Topic {
     /// The whole program.
     Clerk,

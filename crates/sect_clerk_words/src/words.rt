@@ -20,7 +20,7 @@ use sect_base::{SectionId, StudentId};
 use sect_usage::{Commands, alone, id, only, option_value};
 
 /// What the words ask for.
-#[derive(Clone, Copy, Debug, PartialEq, Eq)]
+#[derive(Clone, Copy, PartialEq, Eq)]
 pub enum Words {
     /// The lines of standard input that a run would refuse are named.
     Check,

@@ -5,7 +5,7 @@ use Rattle.sect_csv.proofs.ReadingLemmas.{read_so_far-append, read_so_far-end}
 use Rattle.sect_csv.specs.Inside.{IsImport, intake_of}
 use Rattle.sect_csv.specs.Intake.{Intake, after, answer_to, commands_of, fault_of, fed, finished, is_over, read_so_far, settled, with_end}
 use Rattle.sect_csv.specs.declared.import.Import.TheInside.{Inside}
-use Rattle.sect_records.specs.Rows.{all_rows, shown_rows}
+use Rattle.sect_csv.specs.Rows.{all_rows, shown_rows}
 use Rattle.sect_tables.specs.Progress.{Progress}
 use Rattle.sect_tables.specs.Rows.{behind, rows_read}
 

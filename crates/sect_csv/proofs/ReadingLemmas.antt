@@ -3,7 +3,7 @@ use Rattle.std.proofs.Common.{◌≡◌, ℕ, true, false, List, [], ◌∷◌, 
 use Rattle.sect_command.specs.declared.view.Table.{Table}
 use Rattle.sect_csv.specs.Intake.{read_so_far, with_end}
 use Rattle.csv.specs.Reading.{strip_bom}
-use Rattle.sect_records.specs.Rows.{all_rows, rows_within, shown_rows, through_last_feed}
+use Rattle.sect_csv.specs.Rows.{all_rows, rows_within, shown_rows, through_last_feed}
 use Rattle.sect_tables.specs.Progress.{Progress, opening}
 use Rattle.sect_tables.specs.Rows.{Step, at_end, behind, row_read, rows_read}
 use Rattle.sect_tables.specs.declared.given.Given.{Given}

@@ -1,7 +1,7 @@
 -- What is known of an import: what it has been fed, and what that gives.
 use Rattle.std.specs.Prelude.{◌≡◌, ℕ, Bool, true, false, ◌||◌, List, [], ◌++◌, Option, None, Some, Result, Ok, Err, if◌then◌else◌, is_some, option_map}
 use Rattle.sect_command.specs.declared.view.Table.{Table}
-use Rattle.sect_records.specs.Rows.{all_rows, shown_rows}
+use Rattle.sect_csv.specs.Rows.{all_rows, shown_rows}
 use Rattle.sect_tables.specs.Progress.{Progress, opening}
 use Rattle.sect_tables.specs.Rows.{Step, at_end, behind, rows_read}
 use Rattle.sect_tables.specs.declared.given.CsvFault.{CsvFault}

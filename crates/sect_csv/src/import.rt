@@ -3,10 +3,10 @@
 ghost use Rattle.std.specs.Prelude.{◌≡◌};
 ghost use Rattle.sect_csv.specs.Intake.{GivesTheNew, after, answer_to, beginning, fed, finished, reading_of};
 
+use crate::Records;
 use crate::rows::{take_last_rows, take_rows};
 use sect_base::Memory;
 use sect_command::Table;
-use sect_records::Records;
 use sect_tables::{CsvFault, Given, Reading};
 use sect_time::Day;
 use std::alloc::Global;

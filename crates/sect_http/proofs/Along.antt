@@ -14,8 +14,8 @@ use Rattle.sect_office.proofs.Calls.{adds_none, adds_then, shows_calls}
 use Rattle.sect_office.proofs.Running.{prefix_of_prefix}
 use Rattle.sect_once.specs.declared.entry.Entry.{Entry}
 use Rattle.std.specs.Io.KnownBytes.{Appends}
-use Rattle.sect_page.specs.Pages.{page_text}
-use Rattle.sect_page.specs.Said.{Said, no_memory}
+use Rattle.sect_talk.specs.Pages.{page_text}
+use Rattle.sect_talk.specs.Said.{Said, no_memory}
 use Rattle.sect_talk.specs.Asked.{Asked, Bytes, Head, Whole, Exchange}
 use Rattle.sect_talk.specs.Talk.{Exchanges, Talked, passes}
 use Rattle.sect_talk.specs.declared.end.End.{End}

@@ -21,11 +21,11 @@ use Rattle.sect_once.specs.declared.entry.Entry.{Entry}
 use Rattle.sect_once.specs.declared.entry.Note.{Note}
 use Rattle.sect_once.specs.declared.entry.Note.TheVariants.{Acted, Faulted}
 use Rattle.sect_once.specs.History.{history, IsFull, NeverFull}
-use Rattle.sect_page.specs.Pages.{allow_line, closing_line, code_text, page_end, page_front, page_text, phrase, shown_body}
-use Rattle.sect_page.specs.Said.{Said, error_body, json_page, no_memory}
-use Rattle.sect_page.specs.declared.page.Method.{Method}
-use Rattle.sect_page.specs.declared.page.Method.TheVariants.{Get, Post}
-use Rattle.sect_page.specs.declared.page.Page.{Page}
+use Rattle.sect_talk.specs.Pages.{allow_line, closing_line, code_text, page_end, page_front, page_text, phrase, shown_body}
+use Rattle.sect_talk.specs.Said.{Said, error_body, json_page, no_memory}
+use Rattle.sect_talk.specs.declared.page.Method.{Method}
+use Rattle.sect_talk.specs.declared.page.Method.TheVariants.{Get, Post}
+use Rattle.sect_talk.specs.declared.page.Page.{Page}
 use Rattle.sect_json.specs.Answers.{answer_body}
 use Rattle.sect_talk.specs.Asked.{Asked, Bytes, Head, Whole}
 use Rattle.sect_http.specs.Answers.{Answers}

@@ -1,8 +1,8 @@
 -- What is told of a page.
 use Rattle.std.proofs.Common.{◌≡◌, ◌⊎◌, ℕ, ◌+◌, ◌<◌, ◌≤◌, ◌||◌, Bool, true, false, List, [], ◌++◌, refl, sym, ap, ◌∙◌, ⊎_elim, arith, length}
 use Rattle.std.proofs.lemmas.Bool.{cases_lt}
-use Rattle.sect_page.specs.Pages.{page_text}
-use Rattle.sect_page.specs.declared.page.Page.{Page}
+use Rattle.sect_talk.specs.Pages.{page_text}
+use Rattle.sect_talk.specs.declared.page.Page.{Page}
 use Rattle.sect_http.specs.Telling.{ANSWER_ROOM, said_text}
 
 same_page : (page closed : Page) (closing headless : Bool) (text : List ℕ) → closed ≡ record page { closing = page.closing || closing }

@@ -3,8 +3,8 @@ use Rattle.std.proofs.Common.{◌≡◌, ◌≢◌, ◌⊎◌, ℕ, ◌+◌, ◌
 use Rattle.std.specs.Io.KnownBytes.{Appends}
 use Rattle.std.proofs.Math.Seq.{drop-append_seam}
 use Rattle.sect_edge.specs.declared.edge.Failed.{Failed}
-use Rattle.sect_page.specs.Said.{Said, no_memory}
-use Rattle.sect_page.specs.Pages.{page_text}
+use Rattle.sect_talk.specs.Said.{Said, no_memory}
+use Rattle.sect_talk.specs.Pages.{page_text}
 use Rattle.sect_talk.specs.Asked.{Asked, Bytes, Head, Whole, FitsAsked, LAST_REQUEST, answer_text, asks_close, closes, is_headless, raw_of}
 use Rattle.sect_talk.specs.Coming.{Takes}
 use Rattle.sect_talk.specs.Rest.{IsEnd}

@@ -13,7 +13,7 @@ use Rattle.sect_head.specs.declared.told.Framing.TheVariants.{HasBody, Refuses}
 use Rattle.sect_head.specs.declared.told.Refusal.{Refusal}
 use Rattle.sect_head.specs.declared.told.Refusal.TheVariants as refusals
 use Rattle.sect_once.specs.declared.entry.Entry.{Entry}
-use Rattle.sect_page.specs.Said.{Said, no_memory, refusal}
+use Rattle.sect_talk.specs.Said.{Said, no_memory, refusal}
 use Rattle.sect_talk.specs.Asked.{Asked, Bytes, Head, Whole}
 use Rattle.sect_talk.specs.Rest.{IsNoHead}
 

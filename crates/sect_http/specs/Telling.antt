@@ -2,8 +2,8 @@
 use Rattle.std.specs.Prelude.{◌≡◌, ◌<◌, ◌⊎◌, ℕ, Bool, ◌||◌, List, length, take, Option, Result, Ok, Err}
 use Rattle.std.specs.Io.KnownBytes.{Appends}
 use Rattle.sect_edge.specs.declared.edge.Failed.{Failed}
-use Rattle.sect_page.specs.Pages.{page_text}
-use Rattle.sect_page.specs.Said.{Said, no_memory}
+use Rattle.sect_talk.specs.Pages.{page_text}
+use Rattle.sect_talk.specs.Said.{Said, no_memory}
 
 -- how many bytes an answer has room for that isn't of a request that acted, nor a report
 abbrev pub ANSWER_ROOM : ℕ

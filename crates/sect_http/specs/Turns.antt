@@ -1,7 +1,7 @@
 -- What a request is answered, and what that does to the sink.
 use Rattle.std.specs.Prelude.{ℕ, Bool, true, List, Option, Result, ⊤}
 use Rattle.sect_edge.specs.declared.edge.Failed.{Failed}
-use Rattle.sect_page.specs.Said.{Said}
+use Rattle.sect_talk.specs.Said.{Said}
 use Rattle.sect_talk.specs.Asked.{Asked, answer_text, closes}
 use Rattle.sect_http.specs.Telling.{Writes}
 use Rattle.sect_http.specs.declared.heard.Wish.{Wish}

@@ -2,7 +2,7 @@
 
 ghost use Rattle.std.specs.Prelude.{[], Ok, true, ◌≡◌, ◌≤◌, vec_capacity};
 ghost use Rattle.sect_answer.specs.Answering.{said_of, sitting};
-ghost use Rattle.sect_object.specs.Objects.{TakesTexts};
+ghost use Rattle.sect_wire.specs.Objects.{TakesTexts};
 ghost use Rattle.sect_http.specs.Answers.{Answers, refused};
 ghost use Rattle.sect_http.specs.Hearing.{IsFramed, Wishes};
 ghost use Rattle.sect_http.specs.Telling.{ANSWER_ROOM};
@@ -20,7 +20,7 @@ use sect_edge::{Clock, Keeper};
 use sect_head::Refusal;
 use sect_office::Office;
 use sect_once::{Desk, Object};
-use sect_page::Page;
+use sect_talk::Page;
 use sect_turn::Pass;
 use std::sync::Wait;
 

@@ -4,12 +4,11 @@ ghost use Rattle.std.specs.Prelude.{[], Bool, Ok, true, ◌≡◌, ◌≤◌, �
 ghost use Rattle.sect_answer.specs.Answering.{said_of};
 ghost use Rattle.sect_edge.specs.Causes.{HasCause};
 ghost use Rattle.sect_http.specs.Telling.{ANSWER_ROOM, IsTold, Tells, said_text};
-ghost use Rattle.sect_page.specs.Said.{Said, no_memory as no_memory_said};
+ghost use Rattle.sect_talk.specs.Said.{Said, no_memory as no_memory_said};
 
 use sect_base::Memory;
 use sect_edge::{Failed, Sink};
-use sect_page::{Page, no_memory, print_page};
-use sect_talk::write_all;
+use sect_talk::{Page, no_memory, print_page, write_all};
 
 /// Makes a buffer empty, with room for so many bytes. False where memory is wanted for that.
 pub(crate) fn ready(buffer: &mut Vec<u8>, room: usize) -> bool

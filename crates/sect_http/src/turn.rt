@@ -2,7 +2,7 @@
 
 ghost use Rattle.std.specs.Prelude.{◌≡◌, ◌==◌, ◌||◌, ◌<◌, ◌≤◌, ◌+◌, ◌^◌, ◌-◌, ℕ, List, Option, None, Some};
 ghost use Rattle.sect_answer.specs.Answering.{sitting, Sitting};
-ghost use Rattle.sect_object.specs.Objects.{TakesTexts};
+ghost use Rattle.sect_wire.specs.Objects.{TakesTexts};
 ghost use Rattle.sect_edge.specs.Causes.{HasCause, Rose};
 ghost use Rattle.sect_http.specs.Answers.{Answers};
 ghost use Rattle.sect_http.specs.Hearing.{IsHeard};

@@ -5,3 +5,7 @@ pub mod Pieces
 pub mod Turns
 pub mod Growing
 pub mod Good
+pub mod Values
+pub mod Lines
+pub mod Groups
+pub mod Tables

@@ -3,7 +3,7 @@ use Rattle.std.proofs.Common.{◌≡◌, ℕ, Bool, true, false, List, [], ◌�
 use Rattle.std.specs.Prelude.{option_map}
 use Rattle.sect_command.specs.declared.view.Table.{Table}
 use Rattle.sect_csv.specs.Intake.{GivesTheNew, Intake, after, answer_to, commands_of, fault_of, fed, finished, read_so_far, reading_of}
-use Rattle.sect_fit.specs.Fitting.{FitGiven, TablesFit}
+use Rattle.sect_intake.specs.Fitting.{FitGiven, TablesFit}
 use Rattle.sect_tables.specs.declared.given.CsvFault.{CsvFault}
 use Rattle.sect_tables.specs.declared.given.CsvFault.TheVariants.{BadRow}
 use Rattle.sect_tables.specs.declared.given.Given.{Given}

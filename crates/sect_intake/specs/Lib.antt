@@ -4,3 +4,4 @@ pub mod Numbers
 pub mod Opened
 pub mod Table
 pub mod Underway
+pub mod Fitting

@@ -2,7 +2,7 @@
 ghost use Rattle.std.specs.Prelude.{◌≡◌, ◌≢◌, ◌≤◌, ◌+◌, ◌^◌, ℕ, Option, Some};
 ghost use Rattle.sect_edge.specs.Causes.{Rose};
 ghost use Rattle.sect_edge.specs.Clock.{GivesDay};
-ghost use Rattle.sect_fit.specs.Fitting.{FitGiven};
+ghost use Rattle.sect_intake.specs.Fitting.{FitGiven};
 ghost use Rattle.sect_once.specs.Desks.{Answers as AnswersAsk};
 ghost use Rattle.sect_script.specs.declared.script.RunEnd.TheVariants as ends;
 ghost use Rattle.sect_wire.specs.Fits.{FitsCommand};
@@ -14,10 +14,9 @@ use sect_base::{Caller, Id};
 use sect_command::{Command, Reply};
 use sect_csv::Given;
 use sect_edge::{Clock, Keeper, Sink};
-use sect_object::TextObject;
 use sect_once::Answer;
 use sect_script::{RunEnd, Unwritten, gather, write_out};
-use sect_wire::LineAsk;
+use sect_wire::{LineAsk, TextObject};
 
 /// Asks commands by the numbers from the next one on, and writes the lines of their answers. The end is there where one
 /// has no number, the sink fails or memory is wanted.

@@ -13,10 +13,10 @@ use crate::table::run_table;
 use sect_asking::{Asker, shut_status};
 use sect_command::Table;
 use sect_edge::{Clock, Keeper, Sink, Source};
-use sect_object::TextObject;
 use sect_once::Desk;
 use sect_script::{Status, status_of};
 use sect_time::Day;
+use sect_wire::TextObject;
 use std::alloc::Global;
 
 /// Asks the commands of a table over the history of the keeper's rows. The keeper comes back.

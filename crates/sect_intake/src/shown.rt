@@ -5,19 +5,19 @@ ghost use Rattle.sect_command.specs.declared.view.Table.{Table};
 ghost use Rattle.sect_command.specs.declared.command.Command.{Command};
 ghost use Rattle.sect_command.specs.declared.reply.Reply.{Reply};
 ghost use Rattle.sect_edge.specs.Causes.{Rose};
-ghost use Rattle.sect_fit.specs.Fitting.{FitGiven};
+ghost use Rattle.sect_intake.specs.Fitting.{FitGiven};
 ghost use Rattle.sect_script.specs.declared.script.RunEnd.TheVariants as ends;
 ghost use Rattle.sect_intake.specs.Asking.{AnswersNumbered};
 ghost use Rattle.sect_intake.specs.Underway.{AsksShown, Shows, TakesEnd, TakesPiece, TellsFault, Through, going, open_without};
 
 use crate::asking::ask_each;
+use crate::each_command_of_a_table_has_a_text;
 use sect_asking::Asker;
 use sect_base::Memory;
 use sect_csv::{CsvFault, Given, Import};
 use sect_edge::{Clock, Keeper, Sink};
-use sect_fit::each_command_of_a_table_has_a_text;
-use sect_object::TextObject;
 use sect_script::RunEnd;
+use sect_wire::TextObject;
 use std::alloc::Global;
 
 /// Feeds a piece to an import, and asks the commands that it shows. The end is there where the run ends.

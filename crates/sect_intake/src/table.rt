@@ -16,9 +16,9 @@ use sect_asking::Asker;
 use sect_command::Table;
 use sect_csv::Import;
 use sect_edge::{Clock, Failed, Keeper, Sink, Source};
-use sect_object::TextObject;
 use sect_script::RunEnd;
 use sect_time::Day;
+use sect_wire::TextObject;
 use std::alloc::Global;
 
 /// How many bytes a table may have.

@@ -9,10 +9,9 @@ ghost use Rattle.sect_text.specs.Replies.{reply_text};
 ghost use Rattle.sect_json.specs.Answers.{IsDone, answer_body, answer_data, answer_status};
 
 use itoa::Buffer;
-use sect_base::Memory;
+use sect_base::{Memory, append, append_all};
 use sect_command::Reply;
 use sect_once::Answer;
-use sect_pieces::{append, append_all};
 use sect_text::print_reply;
 use serde_json::{Value, json};
 use std::alloc::{AllocError, Global};

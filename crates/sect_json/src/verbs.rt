@@ -33,7 +33,7 @@ use serde_json::Value;
 use std::alloc::Global;
 
 /// What a body may ask for.
-#[derive(Clone, Copy, PartialEq, Eq, Debug)]
+#[derive(Clone, Copy, PartialEq, Eq)]
 pub(crate) enum Verb {
     Enrol,
     Drop,

@@ -20,7 +20,7 @@ use std::thread::Threads;
 
 /// The entries of a history at the place `from` and behind it, of these those that concern the student and the section, where
 /// they are named: each as its request on its day, with the reply and whom settling placed after it as comments.
-#[derive(Clone, Copy, Debug, PartialEq, Eq)]
+#[derive(Clone, Copy, PartialEq, Eq)]
 pub struct Log {
     pub student: Option<StudentId>,
     pub section: Option<SectionId>,

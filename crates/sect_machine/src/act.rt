@@ -11,10 +11,9 @@ ghost use Rattle.sect_machine.specs.Tracked.{Tracked};
 ghost use Rattle.sect_wait.specs.Undo.{Undoable as QueueUndoable};
 
 use crate::{limits, lines, moves, reserved, rows, waits};
-use sect_base::Memory;
+use sect_base::{Memory, Steps};
 use sect_command::{Command, Reply};
 use sect_space::{Undo, World};
-use sect_steps::Steps;
 use sect_wait::{Queue, QueueUndo};
 use std::alloc::Global;
 use std::sync::ledger::Ledger;

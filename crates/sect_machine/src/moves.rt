@@ -16,12 +16,11 @@ ghost use Rattle.sect_space.specs.Undo.{Since, Undoable};
 ghost use Rattle.sect_machine.specs.Acting.{moved_world, outcome_reply};
 
 use crate::change::make;
-use sect_base::{Budget, Choice, CourseId, Duplicate, Items, Memory, Move, StudentId, Want};
+use sect_base::{Budget, Choice, CourseId, Duplicate, Items, Memory, Move, Steps, StudentId, Want};
 use sect_command::Reply;
 use sect_model::{Change, Enrolment, Outcome};
 use sect_search::search;
 use sect_space::{Undo, World};
-use sect_steps::Steps;
 use std::alloc::Global;
 use std::sync::ledger::Ledger;
 

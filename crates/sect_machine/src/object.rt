@@ -13,12 +13,11 @@ use crate::state::State;
 use crate::undo::MachineUndo;
 use sect_base::{Caller, Duplicate, Memory, Same};
 use sect_command::{Command, Query, Reply, View};
-use sect_object::TextObject;
 use sect_once::{Entry, Object};
 use sect_space::World;
 use sect_time::Day;
 use sect_wait::{Marks, Queue};
-use sect_wire::{print_row, read_row};
+use sect_wire::{TextObject, print_row, read_row};
 use std::alloc::Global;
 
 impl TextObject for Machine {

@@ -40,7 +40,7 @@ pub(crate) struct Maker {
 }
 
 /// The kinds of the generated commands, in their order.
-#[derive(Clone, Copy, Debug, PartialEq, Eq)]
+#[derive(Clone, Copy, PartialEq, Eq)]
 pub(crate) enum Stage {
     Offerings,
     Students,

@@ -3,7 +3,7 @@ use Rattle.std.specs.Prelude.{◌≡◌, ℕ, zero, suc, Bool, true, false, ◌&
 use Rattle.std.specs.List.{list_any}
 use Rattle.std.specs.Option.{is_some, option_and_then}
 use Rattle.std.specs.Bool.{then_some}
-use Rattle.sect_table.specs.Table.{value_at}
+use Rattle.sect_base.specs.Table.{value_at}
 use Rattle.std.proofs.Common.{sym, ◌∙◌, ap}
 use Rattle.std.proofs.lemmas.Bool.{eqb-true}
 use Rattle.sect_base.specs.declared.ids.ReservationId.{ReservationId}

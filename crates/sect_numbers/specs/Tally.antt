@@ -3,7 +3,7 @@ use Rattle.std.specs.Prelude.{◌≡◌, ℕ, Bool, true, ◌+◌, ◌-◌, ◌=
 use Rattle.std.specs.List.{list_any}
 use Rattle.std.specs.Option.{is_some, option_map_or, option_and_then}
 use Rattle.std.specs.Bool.{then_some}
-use Rattle.sect_table.specs.Table.{value_at}
+use Rattle.sect_base.specs.Table.{value_at}
 use Rattle.sect_base.specs.declared.ids.SectionId.{SectionId}
 use Rattle.sect_numbers.specs.declared.tally.Counts.{Counts}
 use Rattle.sect_numbers.specs.declared.tally.Row.{Row}

@@ -5,3 +5,4 @@ pub mod Acting
 pub mod Openings
 pub mod TallyRows
 pub mod Reopening
+pub mod Fronts

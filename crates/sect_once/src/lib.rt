@@ -1,7 +1,9 @@
-//! One history of an object, in which each request number acts at most once.
+//! One history of an object, in which each request number acts at most once. A front of it is acted again on an object of its
+//! own.
 #![tactic(auto)]
 
 mod act;
+mod again;
 mod answer;
 mod ask;
 mod desk;
@@ -12,6 +14,7 @@ mod past;
 mod replay;
 mod tally;
 
+pub use again::replay;
 pub use answer::{Answer, OpenFault, Seen};
 pub use desk::Desk;
 pub use entry::{Entry, Note};

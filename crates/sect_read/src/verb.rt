@@ -6,7 +6,7 @@ ghost use Rattle.sect_read.specs.ReadingCommands.{verb_of as verb_named, verb_te
 use sect_words::same_bytes;
 
 /// The first word of a command.
-#[derive(Clone, Copy, PartialEq, Eq, Debug)]
+#[derive(Clone, Copy, PartialEq, Eq)]
 pub enum Verb {
     Offering,
     Student,

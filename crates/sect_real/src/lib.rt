@@ -8,5 +8,4 @@ mod window;
 
 pub use any::AnyKeeper;
 pub use database::SqliteKeeper;
-pub use sect_net::TcpLink;
-pub use sect_system::{FileDisk, RealClock, StdSink, StdSource, ToldKeeper, ToldSource};
+pub use sect_system::{FileDisk, RealClock, StdSink, StdSource, TcpLink, ToldKeeper, ToldSource};

@@ -15,7 +15,7 @@ use Rattle.sect_command.specs.declared.view.Table.TheVariants as tables
 use Rattle.sect_command.specs.declared.view.View.TheVariants as views
 use Rattle.sect_people.specs.Order.{all_differ}
 use Rattle.sect_read.specs.Fits.{Fits32, FitsConfigRow, FitsList, FitsOfferingRow}
-use Rattle.sect_sheet.specs.Tables.{config_text, offering_text, section_fields as section_texts, subpart_text}
+use Rattle.sect_csv.specs.Tables.{config_text, offering_text, section_fields as section_texts, subpart_text}
 use Rattle.sect_tables.specs.Rows.{given_of, same_offering}
 use Rattle.sect_tables.specs.declared.hand.AtHand.{AtHand}
 use Rattle.sect_return.specs.Asked.{asks_offering}

@@ -6,7 +6,7 @@ use Rattle.sect_command.specs.declared.view.Table.{Table}
 use Rattle.sect_command.specs.declared.view.Table.TheVariants.{Offerings, Requests, Reservations, Students}
 use Rattle.sect_command.specs.declared.view.View.{View}
 use Rattle.sect_csv.specs.Intake.{read_so_far, with_end}
-use Rattle.sect_sheet.specs.Tables.{header, table_text, view_text}
+use Rattle.sect_csv.specs.Tables.{header, table_text, view_text}
 use Rattle.sect_tables.specs.Progress.{Progress, opening}
 use Rattle.sect_tables.specs.Rows.{Step, at_end, behind, first_row, given_of, row_read, rows_read}
 use Rattle.sect_tables.specs.declared.given.Given.{Given}

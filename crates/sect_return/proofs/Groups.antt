@@ -12,7 +12,7 @@ use Rattle.sect_command.specs.declared.command.Command.{Command}
 use Rattle.sect_command.specs.declared.view.Table.TheVariants as tables
 use Rattle.sect_people.specs.Order.{all_differ}
 use Rattle.sect_read.specs.Fits.{FitsConfig, FitsConfigRow, FitsCourseRow, FitsLimit, FitsList, FitsOffering, FitsSectionRow, FitsSubpart, FitsSubpartRow}
-use Rattle.sect_sheet.specs.Tables.{section_fields as section_texts}
+use Rattle.sect_csv.specs.Tables.{section_fields as section_texts}
 use Rattle.sect_tables.specs.Offerings.{at_last, config_with}
 use Rattle.sect_return.specs.Back.{HasSections, HasSubparts}
 use Rattle.sect_return.proofs.Ends.{Ends, ends_with, standing}

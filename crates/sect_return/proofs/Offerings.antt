@@ -10,10 +10,10 @@ use Rattle.sect_catalog.specs.declared.row.OfferingRow.{OfferingRow}
 use Rattle.sect_catalog.specs.declared.row.SectionRow.{SectionRow}
 use Rattle.sect_catalog.specs.declared.row.SubpartRow.{SubpartRow}
 use Rattle.sect_command.specs.declared.view.Table.TheVariants as tables
-use Rattle.sect_lines.specs.Fields.{field_of}
-use Rattle.sect_lines.specs.declared.line.Before.{Before}
+use Rattle.sect_tables.specs.Fields.{field_of}
+use Rattle.sect_tables.specs.declared.line.Before.{Before}
 use Rattle.sect_read.specs.Fits.{FitsSectionRow}
-use Rattle.sect_sheet.specs.Tables.{section_fields as section_texts}
+use Rattle.sect_csv.specs.Tables.{section_fields as section_texts}
 use Rattle.sect_tables.proofs.Lists.{at_last_end}
 use Rattle.sect_tables.specs.Offerings.{OfferingSoFar, at_last, config_of, config_with, offering_begun, offering_with, subpart_of, subpart_with}
 use Rattle.sect_tables.specs.Rows.{given_of, offering_first, offering_next, offering_row, row_read, same_offering, table_row}

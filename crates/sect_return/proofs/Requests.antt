@@ -9,15 +9,15 @@ use Rattle.sect_command.specs.declared.command.Command.{Command}
 use Rattle.sect_command.specs.declared.view.AsksView.{AsksView}
 use Rattle.sect_command.specs.declared.view.Table.TheVariants as tables
 use Rattle.sect_command.specs.declared.view.View.TheVariants as views
-use Rattle.sect_lines.specs.Fields.{field_of}
-use Rattle.sect_lines.specs.Lines.{ask_fields, ask_line, course_fields, free_fields, rank_of}
+use Rattle.sect_tables.specs.Fields.{field_of}
+use Rattle.sect_tables.specs.Lines.{ask_fields, ask_line, course_fields, free_fields, rank_of}
 use Rattle.sect_people.specs.Order.{all_differ}
 use Rattle.sect_people.specs.declared.row.Ask.{Ask}
 use Rattle.sect_people.specs.declared.row.Ask.TheVariants.{Course, Free}
 use Rattle.sect_people.specs.declared.row.CourseAsk.{CourseAsk}
 use Rattle.sect_read.proofs.ValueLaws.{exact_courses, exact_meeting, exact_student}
 use Rattle.sect_read.specs.Fits.{Fits32, FitsAsk, FitsCourseAsk, FitsList, FitsStudent}
-use Rattle.sect_sheet.specs.Tables.{ask_fields as ask_texts, asks_text, written}
+use Rattle.sect_csv.specs.Tables.{ask_fields as ask_texts, asks_text, written}
 use Rattle.sect_tables.specs.Requests.{RequestsSoFar, requests_begun, requests_with}
 use Rattle.sect_tables.specs.Rows.{given_of, requests_first, requests_next, requests_row, row_read, same_student, table_row}
 use Rattle.sect_tables.specs.declared.hand.AtHand.{AtHand}

@@ -6,14 +6,14 @@ use Rattle.sect_base.specs.declared.ids.SectionId.{SectionId}
 use Rattle.sect_command.specs.declared.command.Command.TheVariants as commands
 use Rattle.sect_command.specs.declared.view.Table.TheVariants as tables
 use Rattle.sect_command.specs.declared.view.View.TheVariants as views
-use Rattle.sect_lines.specs.Fields.{field_of}
-use Rattle.sect_lines.specs.Lines.{reservation_fields, reservation_line}
+use Rattle.sect_tables.specs.Fields.{field_of}
+use Rattle.sect_tables.specs.Lines.{reservation_fields, reservation_line}
 use Rattle.sect_read.proofs.PartLaws.{exact_audience}
 use Rattle.sect_read.proofs.ValueLaws.{exact_limit, exact_offering, exact_optional_day, exact_reservation, exact_sections_of}
 use Rattle.sect_read.specs.Fits.{FitsList, FitsSection}
 use Rattle.sect_reserve.specs.declared.row.Place.{Place}
 use Rattle.sect_reserve.specs.declared.row.Reservation.{Reservation}
-use Rattle.sect_sheet.specs.Tables.{reservation_fields as reservation_texts}
+use Rattle.sect_csv.specs.Tables.{reservation_fields as reservation_texts}
 use Rattle.sect_tables.specs.Rows.{given_of, reservation_row, row_read, table_row}
 use Rattle.sect_tables.specs.declared.hand.AtHand.{AtHand}
 use Rattle.sect_tables.specs.declared.hand.Group.TheVariants as groups

@@ -10,17 +10,17 @@ use Rattle.sect_catalog.specs.declared.row.CourseRow.{CourseRow}
 use Rattle.sect_catalog.specs.declared.row.OfferingRow.{OfferingRow}
 use Rattle.sect_catalog.specs.declared.row.SectionRow.{SectionRow}
 use Rattle.sect_catalog.specs.declared.row.SubpartRow.{SubpartRow}
-use Rattle.sect_lines.specs.Fields.{field_of}
-use Rattle.sect_lines.specs.Lines.{config_limit_of, courses_of, has_courses_of, has_limit_of, section_fields, section_line}
-use Rattle.sect_lines.specs.declared.line.Before.{Before}
-use Rattle.sect_lines.specs.declared.line.SectionLine.{SectionLine}
+use Rattle.sect_tables.specs.Fields.{field_of}
+use Rattle.sect_tables.specs.Lines.{config_limit_of, courses_of, has_courses_of, has_limit_of, section_fields, section_line}
+use Rattle.sect_tables.specs.declared.line.Before.{Before}
+use Rattle.sect_tables.specs.declared.line.SectionLine.{SectionLine}
 use Rattle.sect_read.proofs.Bytes.{all_joined, lacks_low, meeting_all, no_dash_meeting}
 use Rattle.sect_read.proofs.PartLaws.{no_colon}
 use Rattle.sect_read.proofs.Steps.{word_back}
 use Rattle.sect_read.proofs.ValueLaws.{exact_config, exact_course, exact_limit, exact_meeting, exact_offering, exact_optional_section, exact_section, exact_subpart, plain_id}
 use Rattle.sect_read.proofs.WordLaws.{exact_between}
 use Rattle.sect_read.specs.Fits.{Fits32, FitsConfig, FitsCourseRow, FitsLimit, FitsList, FitsOffering, FitsSectionRow, FitsSubpart}
-use Rattle.sect_sheet.specs.Tables.{section_fields as section_texts}
+use Rattle.sect_csv.specs.Tables.{section_fields as section_texts}
 use Rattle.sect_time.specs.MeetingText.{meeting_text}
 use Rattle.sect_time.specs.Pattern.{IsPattern, Pattern}
 use Rattle.sect_words.proofs.Pieces.{Lacks, pieces_joined}

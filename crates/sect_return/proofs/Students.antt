@@ -5,13 +5,13 @@ use Rattle.sect_command.specs.declared.command.Command.TheVariants as commands
 use Rattle.sect_command.specs.declared.view.Table.TheVariants as tables
 use Rattle.sect_command.specs.declared.view.View.TheVariants as views
 use Rattle.csv.specs.Records.{field_at}
-use Rattle.sect_lines.specs.Fields.{field_of}
-use Rattle.sect_lines.specs.Lines.{student_fields, student_line}
+use Rattle.sect_tables.specs.Fields.{field_of}
+use Rattle.sect_tables.specs.Lines.{student_fields, student_line}
 use Rattle.sect_people.specs.declared.row.StudentRow.{StudentRow}
 use Rattle.sect_read.proofs.ValueLaws.{exact_student}
 use Rattle.sect_read.proofs.WordLaws.{exact_u16}
 use Rattle.sect_read.specs.Fits.{FitsList, FitsStudentRow}
-use Rattle.sect_sheet.specs.Tables.{student_fields as student_texts}
+use Rattle.sect_csv.specs.Tables.{student_fields as student_texts}
 use Rattle.sect_tables.specs.Rows.{given_of, row_read, student_row, table_row}
 use Rattle.sect_tables.specs.declared.hand.AtHand.{AtHand}
 use Rattle.sect_tables.specs.declared.hand.Group.TheVariants as groups

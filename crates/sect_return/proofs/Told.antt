@@ -1,6 +1,6 @@
 -- Steps of reading the fields of a row.
 use Rattle.std.proofs.Common.{◌≡◌, ℕ, Option, Some, Result, Ok, ap, ◌∙◌}
-use Rattle.sect_lines.specs.Told.{◌>>=◌, told}
+use Rattle.sect_tables.specs.Told.{◌>>=◌, told}
 
 -- the value of a field, and what it leads to
 pub told_back : {A B : Type 0} (number : ℕ) (o : Option A) (x : A) (leads : A → Result B ℕ) (y : Result B ℕ) → o ≡ Some x → leads x ≡ y → (told number o >>= leads) ≡ y

@@ -8,9 +8,9 @@ use Rattle.csv.specs.declared.parser.State.TheVariants as st
 use Rattle.sect_command.specs.declared.view.Table.{Table}
 use Rattle.sect_command.specs.declared.view.Table.TheVariants.{Offerings, Requests, Reservations, Students}
 use Rattle.sect_command.specs.declared.view.View.{View}
-use Rattle.sect_records.proofs.FoldLemmas.{ByNext, by-next, from-nil, rows_from}
-use Rattle.sect_records.specs.Rows.{all_rows, at_start}
-use Rattle.sect_sheet.specs.Tables.{header, table_text, view_text, written}
+use Rattle.sect_csv.proofs.FoldLemmas.{ByNext, by-next, from-nil, rows_from}
+use Rattle.sect_csv.specs.Rows.{all_rows, at_start}
+use Rattle.sect_csv.specs.Tables.{header, table_text, view_text, written}
 
 -- a text is read as these rows, whatever stands behind it
 abbrev pub Shows : List ℕ → List (List (List ℕ)) → Type 0

@@ -14,7 +14,7 @@ use Rattle.sect_people.specs.Order.{all_differ}
 use Rattle.sect_people.specs.declared.row.StudentRow.{StudentRow}
 use Rattle.sect_read.specs.Fits.{FitsAsk, FitsList, FitsOfferingRow, FitsReserveRow, FitsStudent, FitsStudentRow}
 use Rattle.sect_reserve.specs.declared.row.Reservation.{Reservation}
-use Rattle.sect_sheet.specs.Tables.{table_text}
+use Rattle.sect_csv.specs.Tables.{table_text}
 use Rattle.sect_tables.specs.Rows.{Step}
 use Rattle.sect_tables.specs.declared.given.Given.{Given}
 use Rattle.sect_return.specs.Asked.{asks_offering, asks_reservation, asks_student, asks_view, row_from}

@@ -12,3 +12,4 @@ pub mod SlotLemmas
 pub mod SortLemmas
 pub mod SpotLemmas
 pub mod UndoneLemmas
+pub mod OwnLemmas

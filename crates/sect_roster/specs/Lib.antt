@@ -3,3 +3,4 @@ pub mod Last
 pub mod Listed
 pub mod Slots
 pub mod Undone
+pub mod Rostered

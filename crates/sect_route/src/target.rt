@@ -4,7 +4,7 @@ use sect_base::Id;
 use sect_command::Query;
 
 /// What a path asks for.
-#[derive(Clone, Copy, PartialEq, Eq, Debug)]
+#[derive(Clone, Copy, PartialEq, Eq)]
 pub enum Target {
     /// A command is asked under this id.
     Ask(Id),
@@ -13,7 +13,7 @@ pub enum Target {
 }
 
 /// The forms that paths have.
-#[derive(Clone, Copy, PartialEq, Eq, Debug)]
+#[derive(Clone, Copy, PartialEq, Eq)]
 pub(crate) enum Route {
     StudentAsk,
     RegistrarAsk,

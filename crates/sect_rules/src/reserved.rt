@@ -25,7 +25,7 @@ pub fn limited(limit: Limit) -> Option<u64>
 }
 
 /// What closes a level to a choice.
-#[derive(Clone, Copy, PartialEq, Eq, Debug)]
+#[derive(Clone, Copy, PartialEq, Eq)]
 pub struct Closed {
     /// It has a limit, and no place is left.
     pub full: bool,

@@ -42,13 +42,13 @@ const MAX_LINE: usize = 65_536;
 const PIECE: usize = 65_536;
 
 /// What stands behind a line.
-#[derive(Clone, Copy, Debug, PartialEq, Eq)]
+#[derive(Clone, Copy, PartialEq, Eq)]
 pub enum LineEnd {
     LineFeed,
     EndOfInput,
 }
 
-#[derive(Clone, Copy, Debug, PartialEq, Eq)]
+#[derive(Clone, Copy, PartialEq, Eq)]
 pub enum LineError {
     TooLong,
     /// The source failed.

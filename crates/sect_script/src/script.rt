@@ -14,14 +14,14 @@ use std::alloc::Global;
 const MAX_LINES: u64 = 16_777_216;
 
 /// Why a line has no answer.
-#[derive(Clone, Copy, Debug, PartialEq, Eq)]
+#[derive(Clone, Copy, PartialEq, Eq)]
 pub enum LineFault {
     Bad,
     Memory,
 }
 
 /// How a run ended.
-#[derive(Clone, Copy, Debug, PartialEq, Eq)]
+#[derive(Clone, Copy, PartialEq, Eq)]
 pub enum RunEnd {
     Done,
     /// This line, counted from 1, can't be read; the field is 0 where none is named.

@@ -11,11 +11,10 @@ ghost use Rattle.sect_search.specs.Told.{OutcomeNumbers};
 
 use crate::walk::below;
 use crate::walked::Walked;
-use sect_base::{Block, Budget, Items, Memory, Move};
+use sect_base::{Block, Budget, Items, Memory, Move, Steps};
 use sect_model::Outcome;
 use sect_rules::{PathOf, Stage};
 use sect_space::World;
-use sect_steps::Steps;
 use std::alloc::Global;
 use std::sync::ledger::Ledger;
 

@@ -16,7 +16,7 @@ use Rattle.sect_once.specs.declared.entry.Note.{Note}
 use Rattle.sect_once.specs.declared.entry.Note.TheVariants.{Acted, Faulted}
 use Rattle.sect_once.specs.Desks.{IsSound, Standing}
 use Rattle.sect_once.specs.History.{faulted, history, TellsRows}
-use Rattle.sect_page.specs.Said.{Said}
+use Rattle.sect_talk.specs.Said.{Said}
 use Rattle.sect_talk.specs.Asked.{Asked}
 use Rattle.sect_turn.specs.Passes.{HasEachOnce}
 use Rattle.sect_turn.specs.Rule.{within}

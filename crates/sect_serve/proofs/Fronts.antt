@@ -15,7 +15,7 @@ use Rattle.sect_http.specs.Answers.{Answers}
 use Rattle.sect_office.proofs.Running.{prefix_of_prefix}
 use Rattle.sect_once.specs.declared.entry.Entry.{Entry}
 use Rattle.sect_once.specs.declared.entry.Note.{Note}
-use Rattle.sect_page.specs.Said.{Said}
+use Rattle.sect_talk.specs.Said.{Said}
 use Rattle.sect_talk.specs.Asked.{Asked, Bytes, Head, Whole, Exchange}
 use Rattle.sect_talk.specs.Talk.{Exchanges}
 use Rattle.sect_serve.specs.Talks.{Talk, Follow, FrontsBegin}

@@ -2,3 +2,4 @@ mod Attending
 mod Closing
 mod Fronts
 mod Workers
+mod PlaceLaws

@@ -12,7 +12,7 @@ use Rattle.sect_edge.specs.Link.{Connections}
 use Rattle.sect_office.proofs.Running.{prefix_of_prefix}
 use Rattle.sect_office.specs.Works.{AddsRuns, HaveRun, Run}
 use Rattle.sect_once.specs.declared.entry.Note.{Note}
-use Rattle.sect_page.specs.Said.{Said}
+use Rattle.sect_talk.specs.Said.{Said}
 use Rattle.sect_talk.specs.Asked.{Asked}
 use Rattle.sect_serve.specs.Talks.{Talk, FrontsBegin}
 use Rattle.sect_serve.specs.Working.{IsWorkerEnd, WorkerDid, at_first}

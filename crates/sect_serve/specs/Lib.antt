@@ -1,3 +1,4 @@
 pub mod Serving
 pub mod Talks
 pub mod Working
+pub mod Printed

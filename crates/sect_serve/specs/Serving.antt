@@ -12,7 +12,7 @@ use Rattle.sect_once.specs.declared.entry.Entry.{Entry}
 use Rattle.sect_once.specs.declared.entry.Note.{Note}
 use Rattle.sect_once.specs.Desks.{IsSound, Standing}
 use Rattle.sect_once.specs.History.{faulted}
-use Rattle.sect_page.specs.Said.{Said}
+use Rattle.sect_talk.specs.Said.{Said}
 use Rattle.sect_talk.specs.Asked.{Asked}
 use Rattle.sect_turn.specs.Passes.{HasEachOnce}
 use Rattle.sect_serve.specs.Talks.{FrontsBegin}

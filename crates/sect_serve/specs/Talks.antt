@@ -8,7 +8,7 @@ use Rattle.sect_edge.specs.Causes.{Rose}
 use Rattle.sect_edge.specs.Link.{Connections}
 use Rattle.sect_office.specs.Calls.{Rises}
 use Rattle.sect_once.specs.declared.entry.Note.{Note}
-use Rattle.sect_page.specs.Said.{Said}
+use Rattle.sect_talk.specs.Said.{Said}
 use Rattle.sect_talk.specs.Asked.{Asked}
 use Rattle.sect_talk.specs.Talk.{Talked}
 use Rattle.sect_talk.specs.declared.end.End.{End}

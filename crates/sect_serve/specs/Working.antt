@@ -7,7 +7,7 @@ use Rattle.sect_command.specs.declared.reply.Reply.{Reply}
 use Rattle.sect_edge.specs.Causes.{Rose}
 use Rattle.sect_edge.specs.Link.{Connections}
 use Rattle.sect_once.specs.declared.entry.Note.{Note}
-use Rattle.sect_page.specs.Said.{Said}
+use Rattle.sect_talk.specs.Said.{Said}
 use Rattle.sect_talk.specs.Asked.{Asked}
 use Rattle.sect_serve.specs.Talks.{Talk, Follow, HandsBack}
 use Rattle.sect_serve.specs.declared.server.WorkerEnd.{WorkerEnd}

@@ -10,10 +10,10 @@ ghost use Rattle.sect_serve.specs.Working.{Attends, Underway, WorkerDid, Works};
 use sect_command::{Query, View};
 use sect_edge::{Clock, Gate, Keeper, Link, LinkFault};
 use sect_http::{Bench, talk};
-use sect_object::TextObject;
 use sect_office::{Office, Work};
 use sect_once::Desk;
 use sect_turn::Pass;
+use sect_wire::TextObject;
 use std::alloc::Global;
 use std::sync::Wait;
 
@@ -30,7 +30,7 @@ pub struct Server<'a, L, C, G> {
 }
 
 /// How a worker ended.
-#[derive(Clone, Copy, Debug, PartialEq, Eq)]
+#[derive(Clone, Copy, PartialEq, Eq)]
 pub enum WorkerEnd {
     /// No connection was to come, or it has served as many as it may.
     Done,

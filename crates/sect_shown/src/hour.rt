@@ -4,7 +4,7 @@ use sect_base::{CourseId, SectionId};
 use sect_time::Meeting;
 
 /// A meeting of a section that a student attends, with the course by which it is held.
-#[derive(Clone, Copy, PartialEq, Eq, Debug)]
+#[derive(Clone, Copy, PartialEq, Eq)]
 pub struct Hour {
     pub course: CourseId,
     pub section: SectionId,

@@ -24,7 +24,7 @@ use Rattle.sect_model.specs.Fits.{Fits, is_known_cap}
 use Rattle.sect_model.proofs.Members
 use Rattle.sect_model.proofs.Members.{any-at, both-left, not_both}
 use Rattle.sect_space.specs.Back.{back_of, mark_of, concerned, of_student, of_offering, of_both, no_change, offering_id, reservation_offering, cap_offering}
-use Rattle.sect_slots.specs.Rostered.{of_student as own_of}
+use Rattle.sect_roster.specs.Rostered.{of_student as own_of}
 use Rattle.sect_space.specs.declared.back.Back.TheVariants.{StudentAdded, StudentReplaced, RequestsReplaced, ReservationRemoved, ExpiryReplaced, RestrictionRemoved, LimitReplaced, Left}
 use Rattle.sect_space.proofs.TakenBack.{known_limit}
 

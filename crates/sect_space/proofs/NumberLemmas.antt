@@ -22,7 +22,7 @@ use Rattle.sect_numbers.specs.Numbers.{Told, Grown, has_uses, counted_ids}
 use Rattle.sect_numbers.specs.OneMore.{with_roster, IsMore}
 use Rattle.sect_numbers.specs.Quiet.{is_quiet, has_new, has_old}
 use Rattle.sect_numbers.proofs.MoreLemmas.{inserted}
-use Rattle.sect_slots.specs.Rostered.{of_student, number_held, put_among}
+use Rattle.sect_roster.specs.Rostered.{of_student, number_held, put_among}
 use Rattle.sect_space.proofs.RoomLemmas.{among}
 use Rattle.sect_numbers.proofs.KnownLemmas.{told-grown, told-of-others}
 use Rattle.sect_numbers.proofs.BackLemmas.{told-before-others}

@@ -44,7 +44,7 @@ use Rattle.sect_space.specs.declared.back.Back.TheVariants.{StudentAdded, Studen
 use Rattle.sect_space.specs.Roomed.{Roomed}
 use Rattle.sect_roster.specs.Slots.{Room, capacity_of, number_of}
 use Rattle.sect_roster.proofs.AmongLemmas.{left-place as left-among}
-use Rattle.sect_slots.specs.Rostered.{of_student, number_held}
+use Rattle.sect_roster.specs.Rostered.{of_student, number_held}
 use Rattle.sect_model.proofs.ListLemmas.{found-passes}
 use Rattle.sect_space.specs.Room.{HasLists, free_for}
 use Rattle.sect_space.proofs.RoomLemmas.{left-place}

@@ -18,7 +18,7 @@ use Rattle.sect_numbers.specs.OneMore.{IsMore}
 use Rattle.sect_numbers.proofs.MoreLemmas.{put_back}
 use Rattle.sect_roster.specs.Slots.{Room, capacity_of, number_of, put_among as put_among_its_own}
 use Rattle.sect_roster.proofs.AmongLemmas.{number-insert, number-map, rank-within, left-place as left-among}
-use Rattle.sect_slots.specs.Rostered.{of_student, number_held, put_among}
+use Rattle.sect_roster.specs.Rostered.{of_student, number_held, put_among}
 use Rattle.sect_space.specs.Roomed.{Roomed}
 use Rattle.sect_space.specs.Room.{free_for, room_for, room_in}
 

@@ -15,7 +15,7 @@ use Rattle.sect_space.specs.declared.back.Back.{Back}
 use Rattle.sect_space.specs.Back.{back_of, taken_back}
 use Rattle.sect_space.specs.Roomed.{Roomed}
 use Rattle.sect_roster.specs.Slots.{capacity_of, number_of}
-use Rattle.sect_slots.specs.Rostered.{number_held}
+use Rattle.sect_roster.specs.Rostered.{number_held}
 use Rattle.sect_space.specs.Room.{HasRoom, KeepsRoom, free_for}
 use Rattle.sect_space.specs.Undo.{undone, all_changed, backs_of, AllFit, RoomFor, Undoable, Since}
 use Rattle.sect_space.specs.Undoing.{MadeBy}

@@ -36,8 +36,8 @@ use Rattle.sect_roster.proofs.AmongLemmas.{comes-back as own-back}
 use Rattle.sect_roster.proofs.InsertLemmas.{once}
 use Rattle.sect_roster.proofs.LastLemmas.{drop-put}
 use Rattle.sect_roster.proofs.UndoneLemmas.{taken-back as gone-again}
-use Rattle.sect_slots.specs.Rostered.{of_student}
-use Rattle.sect_slots.proofs.OwnLemmas.{own-student}
+use Rattle.sect_roster.specs.Rostered.{of_student}
+use Rattle.sect_roster.proofs.OwnLemmas.{own-student}
 use Rattle.sect_space.proofs.Bounds.{held-once}
 use Rattle.sect_space.proofs.Lists.{but-last, map-back}
 use Rattle.sect_space.proofs.StudentBack.{new-back, row-back, asks-back}

@@ -10,7 +10,7 @@ use Rattle.sect_model.specs.Fits.{Fits, changed}
 use Rattle.sect_model.proofs.ChangeLemmas.{changes-keep}
 use Rattle.sect_space.specs.declared.back.Back.{Back}
 use Rattle.sect_space.specs.Roomed.{Roomed}
-use Rattle.sect_slots.specs.Rostered.{number_held}
+use Rattle.sect_roster.specs.Rostered.{number_held}
 use Rattle.sect_numbers.proofs.MoreLemmas.{inserted}
 use Rattle.sect_model.proofs.Members.{count-part}
 use Rattle.sect_space.specs.Room.{KeepsLists, free_for}

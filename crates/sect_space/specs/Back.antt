@@ -25,7 +25,7 @@ use Rattle.sect_model.specs.Kept.{has_config}
 use Rattle.sect_model.specs.Change.{put_student, put_asks, put_limit, put_expiry, drop_reservation, drop_restriction, put_day}
 use Rattle.sect_roster.specs.Last.{drop_last_of}
 use Rattle.sect_roster.specs.Slots.{put_among as put_among_its_own}
-use Rattle.sect_slots.specs.Rostered.{of_student as own_of, put_among}
+use Rattle.sect_roster.specs.Rostered.{of_student as own_of, put_among}
 use Rattle.sect_space.specs.declared.back.Back.{Back}
 use Rattle.sect_space.specs.declared.back.Back.TheVariants.{OfferingAdded, StudentAdded, StudentReplaced, RequestsReplaced, ReservationAdded, ReservationRemoved, ExpiryReplaced, RestrictionAdded, RestrictionRemoved, LimitReplaced, SectionCancelled, DayReplaced, Enrolled, Left}
 use Rattle.sect_space.specs.declared.back.Mark.{Mark}

@@ -13,7 +13,7 @@ use Rattle.sect_space.specs.declared.back.Back.TheVariants.{OfferingAdded, Stude
 use Rattle.sect_space.specs.Back.{back_of, taken_back}
 use Rattle.sect_space.specs.Roomed.{Roomed}
 use Rattle.sect_roster.specs.Slots.{capacity_of, number_of}
-use Rattle.sect_slots.specs.Rostered.{number_held}
+use Rattle.sect_roster.specs.Rostered.{number_held}
 use Rattle.sect_space.specs.Room.{KeepsLists, free_for}
 
 -- the change was made, and this is kept of it

@@ -9,7 +9,7 @@ use Rattle.sect_model.specs.declared.change.Change.{Change}
 use Rattle.sect_model.specs.declared.change.Change.TheVariants.{Offering, Student as NewStudent, Requests, Reserve, Unreserve, Expiry, Restrict, Unrestrict, Cap as new_cap, Cancelled, Day, Enrol, Leave}
 use Rattle.sect_model.specs.declared.held.Enrolment.{Enrolment}
 use Rattle.sect_roster.specs.Slots.{Room, InSlots, capacity_of, number_of}
-use Rattle.sect_slots.specs.Rostered.{number_held}
+use Rattle.sect_roster.specs.Rostered.{number_held}
 use Rattle.sect_space.specs.Roomed.{Roomed}
 
 -- how many enrolments more of the student of a number fit without asking for memory

@@ -14,7 +14,7 @@ use crate::world::World;
 use sect_base::Memory;
 use sect_model::Change;
 use sect_people::Student;
-use sect_slots::Roster;
+use sect_roster::Roster;
 
 impl World {
     /// Makes a change that fits, and records it behind the others. Where memory runs out, the world and what is recorded

@@ -40,7 +40,7 @@ pub enum Back {
 }
 
 /// What a change concerns: a student, an offering, both, or the old day and the new one.
-#[derive(Clone, Copy, PartialEq, Eq, Debug)]
+#[derive(Clone, Copy, PartialEq, Eq)]
 pub struct Mark {
     pub student: Option<StudentId>,
     pub offering: Option<OfferingId>,

@@ -5,7 +5,7 @@ ghost use Rattle.sect_model.specs.Fits.{Fits};
 ghost use Rattle.sect_model.specs.Kept.{KeptWorld};
 ghost use Rattle.sect_model.specs.World.{insert_enrolment};
 ghost use Rattle.sect_space.specs.Made.{Made, Unchanged, Taken, Ready};
-ghost use Rattle.sect_slots.specs.Rostered.{number_held, put_among};
+ghost use Rattle.sect_roster.specs.Rostered.{number_held, put_among};
 ghost use Rattle.sect_space.specs.Parts.{roomed_of};
 ghost use Rattle.sect_space.specs.Room.{free_for};
 

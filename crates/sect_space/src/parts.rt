@@ -2,8 +2,7 @@
 
 use sect_catalog::Catalogue;
 use sect_people::People;
-use sect_roster::{Reservations, Restrictions};
-use sect_slots::Roster;
+use sect_roster::{Reservations, Restrictions, Roster};
 use sect_time::Day;
 
 /// The parts of a world.

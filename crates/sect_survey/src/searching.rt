@@ -8,11 +8,10 @@ ghost use Rattle.sect_survey.specs.Survey.{unmet_move as move_of, why_of as why_
 
 use crate::line::{SurveyLine, Why};
 use rayon::prelude::*;
-use sect_base::{Duplicate, Items, Memory, Move, Want};
+use sect_base::{Duplicate, Items, Memory, Move, Steps, Want};
 use sect_command::{Query, UnmetView, View};
 use sect_search::{Outcome, search, usual_budget};
 use sect_space::World;
-use sect_steps::Steps;
 use sect_view::view;
 use std::alloc::{AllocError, Global};
 use std::marker::Brand;

@@ -1,8 +1,8 @@
 -- A row that goes on with the command at hand, which was taken out before.
 use Rattle.std.proofs.Common.{◌≡◌, ℕ, List, [], Option, None, Some, Result, Ok, Err, OnOk, refl, sym, ap, ◌∙◌, append-nil, ◌++◌}
 use Rattle.sect_base.specs.declared.ids.StudentId.{StudentId}
-use Rattle.sect_lines.specs.Lines.{ask_line, section_line}
-use Rattle.sect_lines.specs.declared.line.SectionLine.{SectionLine}
+use Rattle.sect_tables.specs.Lines.{ask_line, section_line}
+use Rattle.sect_tables.specs.declared.line.SectionLine.{SectionLine}
 use Rattle.sect_people.specs.declared.row.Ask.{Ask}
 use Rattle.sect_tables.specs.Offerings.{OfferingSoFar}
 use Rattle.sect_tables.specs.Progress.{Progress}

@@ -3,10 +3,10 @@ use Rattle.std.specs.Prelude.{ℕ, ◌==◌, List, [], ◌∷◌, ◌++◌, if�
 use Rattle.sect_catalog.specs.declared.row.ConfigRow.{ConfigRow}
 use Rattle.sect_catalog.specs.declared.row.OfferingRow.{OfferingRow}
 use Rattle.sect_catalog.specs.declared.row.SubpartRow.{SubpartRow}
-use Rattle.sect_lines.specs.Fields.{field_of}
-use Rattle.sect_lines.specs.Lines.{before_of}
-use Rattle.sect_lines.specs.declared.line.Before.{Before}
-use Rattle.sect_lines.specs.declared.line.SectionLine.{SectionLine}
+use Rattle.sect_tables.specs.Fields.{field_of}
+use Rattle.sect_tables.specs.Lines.{before_of}
+use Rattle.sect_tables.specs.declared.line.Before.{Before}
+use Rattle.sect_tables.specs.declared.line.SectionLine.{SectionLine}
 
 -- an offering whose rows may go on: the text of its id, what its next row is compared with, and what its rows say
 pub record OfferingSoFar : Type 0 where

@@ -1,7 +1,7 @@
 -- A student's requests as far as their rows were read.
 use Rattle.std.specs.Prelude.{ℕ, ◌+◌, List, [], ◌∷◌, ◌++◌, length}
 use Rattle.sect_base.specs.declared.ids.StudentId.{StudentId}
-use Rattle.sect_lines.specs.Fields.{field_of}
+use Rattle.sect_tables.specs.Fields.{field_of}
 use Rattle.sect_people.specs.declared.row.Ask.{Ask}
 
 -- requests whose rows may go on: the text of the student's id, the student, and what the rows say

@@ -6,9 +6,9 @@ use Rattle.sect_command.specs.declared.command.Command.TheVariants as commands
 use Rattle.sect_command.specs.declared.command.ReserveRow.{ReserveRow}
 use Rattle.sect_command.specs.declared.view.Table.{Table}
 use Rattle.sect_command.specs.declared.view.Table.TheVariants.{Offerings, Students, Requests, Reservations}
-use Rattle.sect_lines.specs.Fields.{field_of}
-use Rattle.sect_lines.specs.Lines.{ask_line, reservation_line, section_line, student_line}
-use Rattle.sect_lines.specs.declared.line.SectionLine.{SectionLine}
+use Rattle.sect_tables.specs.Fields.{field_of}
+use Rattle.sect_tables.specs.Lines.{ask_line, reservation_line, section_line, student_line}
+use Rattle.sect_tables.specs.declared.line.SectionLine.{SectionLine}
 use Rattle.sect_people.specs.declared.row.Ask.{Ask}
 use Rattle.sect_people.specs.declared.row.StudentRow.{StudentRow}
 use Rattle.sect_tables.specs.Headers.{first_difference, names_of, old_reservation_names}

@@ -3,10 +3,10 @@
 ghost use Rattle.std.specs.Prelude.{◌≡◌, ◌==◌, ◌++◌, ◌∷◌, [], IfOk};
 ghost use Rattle.sect_tables.specs.Offerings.{at_last, subpart_with};
 
+use crate::SectionLine;
 use crate::subpart::OpenSubpart;
 use sect_base::{ConfigId, Items, Limit, Memory};
 use sect_catalog::{ConfigRow, SubpartRow};
-use sect_lines::SectionLine;
 use std::alloc::Global;
 use std::marker::Model;
 

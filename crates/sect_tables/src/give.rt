@@ -2,7 +2,7 @@
 
 ghost use Rattle.std.specs.Prelude.{◌≡◌, ◌++◌, IfOk, MatchResult, None, OnErr, OnOk, Some};
 ghost use Rattle.csv.specs.Records.{fields_of};
-ghost use Rattle.sect_lines.specs.Fields.{field_of};
+ghost use Rattle.sect_tables.specs.Fields.{field_of};
 ghost use Rattle.sect_tables.specs.Rows.{command_of, given_of, same_offering, same_student};
 
 use crate::given::Given;

@@ -5,7 +5,7 @@ use crate::requests::OpenRequests;
 use sect_command::Command;
 
 /// Which header a table has.
-#[derive(Clone, Copy, PartialEq, Eq, Debug)]
+#[derive(Clone, Copy, PartialEq, Eq)]
 pub enum Header {
     /// The table's own.
     Whole,

@@ -2,16 +2,16 @@
 
 ghost use Rattle.std.specs.Prelude.{◌≡◌, ◌++◌, ◌∷◌, [], IfOk};
 ghost use Rattle.csv.specs.Records.{fields_of};
-ghost use Rattle.sect_lines.specs.Fields.{field_of};
+ghost use Rattle.sect_tables.specs.Fields.{field_of};
 ghost use Rattle.sect_tables.specs.Offerings.{at_last, config_with, offering_begun, offering_with};
 ghost use Rattle.std.specs.Str.{bytes_eq};
 
 use crate::config::OpenConfig;
 use crate::subpart::OpenSubpart;
+use crate::{Before, SectionLine, before_next, field};
 use csv::ByteRecord;
 use sect_base::{Items, Memory, OfferingId};
 use sect_catalog::{ConfigRow, CourseRow, OfferingRow};
-use sect_lines::{Before, SectionLine, before_next, field};
 use sect_words::same_bytes;
 use std::alloc::Global;
 use std::marker::Model;

@@ -2,8 +2,8 @@
 
 ghost use Rattle.std.specs.Prelude.{◌≡◌, [], ◌++◌, None, OnErr, OnOk, Some, option_map};
 ghost use Rattle.csv.specs.Records.{fields_of};
-ghost use Rattle.sect_lines.specs.Fields.{field_of};
-ghost use Rattle.sect_lines.specs.Lines.{reservation_line, student_line};
+ghost use Rattle.sect_tables.specs.Fields.{field_of};
+ghost use Rattle.sect_tables.specs.Lines.{reservation_line, student_line};
 ghost use Rattle.sect_tables.specs.Progress.{opening};
 ghost use Rattle.sect_tables.specs.Rows.{
   at_end,
@@ -29,10 +29,10 @@ use crate::hand::{AtHand, Group, Header};
 use crate::header::{has_first, header_difference, is_old};
 use crate::offering::OpenOffering;
 use crate::requests::OpenRequests;
+use crate::{LineFault, read_ask, read_reservation, read_section, read_student};
 use csv::ByteRecord;
 use sect_base::Memory;
 use sect_command::{Command, Table};
-use sect_lines::{LineFault, read_ask, read_reservation, read_section, read_student};
 use sect_time::Day;
 use std::alloc::Global;
 use std::marker::Model;

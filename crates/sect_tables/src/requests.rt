@@ -3,14 +3,14 @@
 ghost use Rattle.std.specs.Prelude.{◌≡◌, IfOk};
 ghost use Rattle.csv.specs.Records.{fields_of};
 ghost use Rattle.sect_command.specs.declared.command.Command.TheVariants.{Requests};
-ghost use Rattle.sect_lines.specs.Fields.{field_of};
+ghost use Rattle.sect_tables.specs.Fields.{field_of};
 ghost use Rattle.sect_tables.specs.Requests.{next_rank, requests_begun, requests_with};
 ghost use Rattle.std.specs.Str.{bytes_eq};
 
+use crate::field;
 use csv::ByteRecord;
 use sect_base::{Items, Memory, StudentId};
 use sect_command::Command;
-use sect_lines::field;
 use sect_people::Ask;
 use sect_words::same_bytes;
 use std::alloc::Global;

@@ -4,7 +4,7 @@ use Rattle.std.specs.Prelude.{◌≢◌, Bool, true, false, ◌||◌, Option, �
 use Rattle.std.specs.Io.KnownBytes.{Appends, Consumes}
 use Rattle.std.proofs.KnownBytes.{Appends-nil, Appends-trans, Consumes-nil, Consumes-trans}
 use Rattle.std.proofs.Math.Seq.{take-append-add}
-use Rattle.sect_page.specs.Said.{Said}
+use Rattle.sect_talk.specs.Said.{Said}
 use Rattle.sect_talk.specs.Asked.{LAST_REQUEST, Asked, Bytes, FitsAsked, Exchange, asks_close, closes, closes_behind, raws, raw_of, texts, answer_text}
 use Rattle.sect_talk.specs.Rest.{IsEnd}
 use Rattle.sect_talk.specs.Talk.{Exchanges, HasAllBytes, Writes, passes, Talked, Progress}

@@ -3,8 +3,8 @@ use Rattle.std.specs.Prelude.{◌≤◌, ℕ, ◌+◌, Bool, true, false, ◌||�
 use Rattle.std.specs.Str.{bytes_eq}
 use Rattle.httparse.specs.Grammar.{RequestHead, IsRequestHead, print_request}
 use Rattle.sect_head.specs.Closing.{closes_by}
-use Rattle.sect_page.specs.Pages.{page_text}
-use Rattle.sect_page.specs.Said.{Said}
+use Rattle.sect_talk.specs.Pages.{page_text}
+use Rattle.sect_talk.specs.Said.{Said}
 
 -- how many bytes a head may have, the empty lines before it included
 abbrev pub HEAD_LIMIT : ℕ

@@ -2,3 +2,5 @@ pub mod Asked
 pub mod Coming
 pub mod Rest
 pub mod Talk
+pub mod Pages
+pub mod Said

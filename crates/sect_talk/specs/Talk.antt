@@ -1,7 +1,7 @@
 -- The transcript of one connection, over any state and any relation that says what answers a request in one state and leads to another.
 use Rattle.std.specs.Prelude.{◌≡◌, ◌≢◌, ℕ, ◌+◌, ◌-◌, ◌*◌, false, List, [], ◌∷◌, ◌++◌, length, take, Option, Some, None}
 use Rattle.std.specs.Io.KnownBytes.{Appends, Consumes}
-use Rattle.sect_page.specs.Said.{Said}
+use Rattle.sect_talk.specs.Said.{Said}
 use Rattle.sect_talk.specs.Asked.{Asked, Bytes, FitsAsked, Exchange, closes, closes_behind, raws, texts}
 use Rattle.sect_talk.specs.Rest.{IsEnd}
 use Rattle.sect_talk.specs.declared.end.End.{End}

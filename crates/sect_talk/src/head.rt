@@ -13,7 +13,7 @@ use std::alloc::Global;
 const LONGEST: usize = 16_384;
 
 /// What came while a head was awaited.
-#[derive(Clone, Copy, Debug, PartialEq, Eq)]
+#[derive(Clone, Copy, PartialEq, Eq)]
 pub enum Came {
     /// A head of at most 64 fields.
     Whole(RequestSpans),

@@ -12,7 +12,7 @@ use Rattle.sect_history.specs.Step.{state_of}
 use Rattle.sect_model.specs.Look.{look}
 use Rattle.sect_once.specs.declared.entry.Entry.{Entry}
 use Rattle.sect_report.specs.Answer.{report_text}
-use Rattle.sect_sheet.specs.Tables.{table_text}
+use Rattle.sect_csv.specs.Tables.{table_text}
 use Rattle.sect_survey.specs.Survey.{survey_of}
 use Rattle.sect_survey.specs.Text.{survey_text}
 

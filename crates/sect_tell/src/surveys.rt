@@ -19,7 +19,7 @@ use std::alloc::Global;
 use std::thread::Threads;
 
 /// The survey of unmet requests, whose searches run in threads.
-#[derive(Clone, Copy, Debug, PartialEq, Eq)]
+#[derive(Clone, Copy, PartialEq, Eq)]
 pub struct Survey;
 
 impl Teller for Survey {

@@ -5,26 +5,26 @@ ghost use Rattle.sect_history.specs.Step.{state_of};
 ghost use Rattle.sect_model.specs.Look.{look};
 ghost use Rattle.sect_once.specs.History.{history};
 ghost use Rattle.sect_report.specs.Answer.{report_text};
-ghost use Rattle.sect_sheet.specs.Tables.{table_text};
+ghost use Rattle.sect_csv.specs.Tables.{table_text};
 ghost use Rattle.sect_tell.specs.Views.{IsExport, IsReport};
 
 use crate::teller::Teller;
 use sect_base::Memory;
 use sect_command::{Query, Table};
+use sect_csv::export;
 use sect_edge::Keeper;
 use sect_machine::Machine;
 use sect_once::Desk;
 use sect_report::report;
-use sect_sheet::export;
 use std::alloc::Global;
 use std::thread::Threads;
 
 /// The report of a query.
-#[derive(Clone, Copy, Debug, PartialEq, Eq)]
+#[derive(Clone, Copy, PartialEq, Eq)]
 pub struct Report(pub Query);
 
 /// The rows of a table.
-#[derive(Clone, Copy, Debug, PartialEq, Eq)]
+#[derive(Clone, Copy, PartialEq, Eq)]
 pub struct Export(pub Table);
 
 impl Teller for Report {

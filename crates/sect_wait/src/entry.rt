@@ -8,11 +8,10 @@ ghost use Rattle.sect_model.specs.Settle.{move_of as move_of_entry, placement_of
 ghost use Rattle.sect_wait.specs.Placing.{KeepsLeft, RestNeedNone};
 ghost use Rattle.sect_wait.specs.Touched.{AddsOnly};
 
-use sect_base::{Choice, CourseId, Duplicate, Items, Memory, Move, StudentId};
+use sect_base::{Choice, CourseId, Duplicate, Items, Memory, Move, Steps, StudentId};
 use sect_model::{Outcome, Waiting};
 use sect_search::{search, usual_budget};
 use sect_space::World;
-use sect_steps::Steps;
 use std::alloc::Global;
 use std::sync::ledger::Ledger;
 

@@ -15,16 +15,15 @@ use crate::marks::{Marks, Turn};
 use crate::opened::Opened;
 use crate::queue::Queue;
 use crate::sought::{seeks, sought};
-use sect_base::{Choice, CourseId, Memory, StudentId};
+use sect_base::{Choice, CourseId, Memory, Steps, StudentId};
 use sect_model::Waiting;
 use sect_space::World;
-use sect_steps::Steps;
 use std::alloc::Global;
 use std::collections::BTreeSet;
 use std::sync::ledger::Ledger;
 
 /// An entry that can be placed, and the choice that its search found.
-#[derive(Clone, Copy, PartialEq, Eq, Debug)]
+#[derive(Clone, Copy, PartialEq, Eq)]
 pub struct Candidate {
     pub ticket: u64,
     pub class: u8,

@@ -18,10 +18,9 @@ use crate::opened::{Opened, shut};
 use crate::place::place;
 use crate::queue::Queue;
 use crate::undo::QueueUndo;
-use sect_base::{Items, Memory};
+use sect_base::{Items, Memory, Steps};
 use sect_model::Placed;
 use sect_space::{Undo, World};
-use sect_steps::Steps;
 use std::alloc::Global;
 use std::sync::ledger::Ledger;
 

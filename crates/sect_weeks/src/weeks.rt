@@ -6,8 +6,7 @@ ghost use Rattle.sect_model.specs.Allowed.{credits_held};
 ghost use Rattle.sect_weeks.specs.Busy.{ToldWeeks};
 ghost use Rattle.sect_weeks.specs.Rows.{calendar_of, credits_at, row_of, place_of, has_row, Puts, Keeps};
 
-use sect_base::{Memory, StudentId};
-use sect_table::Table;
+use sect_base::{Memory, StudentId, Table};
 use sect_time::Calendar;
 use std::alloc::Global;
 

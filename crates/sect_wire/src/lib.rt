@@ -1,6 +1,9 @@
-//! Lines, commands, replies, entry rows, bodies and answers as texts, both ways.
+//! Lines, commands, replies, entry rows, bodies and answers as texts, both ways, and objects that are asked what texts say.
 #![tactic(auto)]
 
+mod object;
+
+pub use object::TextObject;
 pub use sect_json::{
     a_read_command_has_a_text, a_reply_stands_as_it_is, an_answer_is_read_again, print_answer,
     read_body,

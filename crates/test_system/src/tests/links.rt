@@ -1,7 +1,7 @@
 // Links over sockets of this machine.
 
 use sect_edge::{Failed, Link, Sink, Source};
-use sect_net::{TcpLink, TcpSink, TcpSource, links};
+use sect_system::{TcpLink, TcpSink, TcpSource, links};
 use std::io::{self, Read, Write};
 use std::net::{Shutdown, TcpListener, TcpStream};
 use std::process::Abort;

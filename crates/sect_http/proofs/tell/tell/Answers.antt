@@ -1,6 +1,6 @@
 -- Nothing was said, so that memory was wanted.
 use Rattle.std.proofs.Common.{refl, inl}
-use Rattle.sect_page.specs.Said.{no_memory}
+use Rattle.sect_talk.specs.Said.{no_memory}
 use Rattle.sect_http.proofs.tell.tell.Goals as goal
 
 pub returns-in-Err-clause-told : goal.returns-in-Err-clause-told

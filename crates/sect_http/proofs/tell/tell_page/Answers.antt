@@ -1,7 +1,7 @@
 -- The page is told, or that memory was wanted for it.
 use Rattle.std.proofs.Common.{refl, sym, ap, ◌∙◌, inl, inr}
-use Rattle.sect_page.specs.Said.{no_memory}
-use Rattle.sect_page.specs.declared.page.Page.{Page}
+use Rattle.sect_talk.specs.Said.{no_memory}
+use Rattle.sect_talk.specs.declared.page.Page.{Page}
 use Rattle.sect_http.proofs.Telling.{page_long, page_told}
 use Rattle.sect_http.proofs.tell.tell_page.Goals as goal
 

@@ -1,7 +1,7 @@
 use Rattle.std.proofs.Common.{◌≡◌, ◌∷◌, ◌∙◌, length, sym, ap, subst, arith}
 use Rattle.std.proofs.lemmas.List.{nil_from_length}
 use Rattle.std.specs.Vec.Iter.{into_iter_items}
-use Rattle.sect_fit.specs.Fitting.{FitGiven}
+use Rattle.sect_intake.specs.Fitting.{FitGiven}
 use Rattle.sect_intake.specs.Asking.{AnswersNumbered}
 use Rattle.sect_intake.proofs.Each.{each_all, each_fault, each_one, each_without}
 use Rattle.sect_intake.proofs.asking.ask_each.Goals as goal

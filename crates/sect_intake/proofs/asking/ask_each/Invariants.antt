@@ -1,7 +1,7 @@
 -- some were asked, the rest stands ahead
 use Rattle.std.proofs.Common.{◌≡◌, ◌≤◌, ◌^◌, ℕ, length}
 use Rattle.std.specs.Vec.Iter.{into_iter_items, into_iter_len}
-use Rattle.sect_fit.specs.Fitting.{FitGiven}
+use Rattle.sect_intake.specs.Fitting.{FitGiven}
 use Rattle.sect_intake.specs.Asking.{AnswersNumbered}
 use Rattle.sect_intake.specs.Numbers.{number_at}
 use Rattle.sect_intake.proofs.Each.{DoneSoFar}

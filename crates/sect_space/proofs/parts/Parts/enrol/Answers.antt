@@ -3,7 +3,7 @@ use Rattle.std.proofs.Common.{◌≤◌, ◌∙◌, ap, sym, subst, arith}
 use Rattle.sect_model.specs.World.{insert_enrolment}
 use Rattle.sect_numbers.proofs.MoreLemmas.{inserted}
 use Rattle.sect_roster.specs.Slots.{capacity_of}
-use Rattle.sect_slots.specs.Rostered.{number_held}
+use Rattle.sect_roster.specs.Rostered.{number_held}
 use Rattle.sect_space.specs.declared.back.Back.TheVariants.{Enrolled}
 use Rattle.sect_space.specs.Parts.{roomed_of}
 use Rattle.sect_space.proofs.RoomLemmas.{room-more, at-least}

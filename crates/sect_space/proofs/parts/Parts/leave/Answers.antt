@@ -9,7 +9,7 @@ use Rattle.sect_model.proofs.ListLemmas.{found-passes}
 use Rattle.sect_numbers.specs.OneMore.{IsMore}
 use Rattle.sect_numbers.proofs.MoreLemmas.{left}
 use Rattle.sect_roster.specs.Slots.{capacity_of}
-use Rattle.sect_slots.specs.Rostered.{number_held, of_student}
+use Rattle.sect_roster.specs.Rostered.{number_held, of_student}
 use Rattle.sect_space.specs.declared.back.Back.TheVariants.{Left}
 use Rattle.sect_space.specs.Back.{no_change, offering_id}
 use Rattle.sect_space.specs.Parts.{roomed_of}

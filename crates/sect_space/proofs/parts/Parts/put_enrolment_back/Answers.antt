@@ -1,7 +1,7 @@
 -- One enrolment more, at its place.
 use Rattle.std.proofs.Common.{◌≤◌, ap, sym, subst, arith}
 use Rattle.sect_roster.specs.Slots.{capacity_of}
-use Rattle.sect_slots.specs.Rostered.{number_held, put_among}
+use Rattle.sect_roster.specs.Rostered.{number_held, put_among}
 use Rattle.sect_space.specs.Parts.{roomed_of}
 use Rattle.sect_space.proofs.RoomLemmas.{among, at-least, room-more}
 use Rattle.sect_space.proofs.parts.Parts.put_enrolment_back.Goals as goal

@@ -3,7 +3,7 @@ use Rattle.std.proofs.Common.{◌≤◌, sym, subst, arith}
 use Rattle.sect_numbers.specs.OneMore.{IsMore}
 use Rattle.sect_numbers.proofs.MoreLemmas.{inserted}
 use Rattle.sect_roster.specs.Slots.{capacity_of}
-use Rattle.sect_slots.specs.Rostered.{number_held}
+use Rattle.sect_roster.specs.Rostered.{number_held}
 use Rattle.sect_space.specs.Parts.{roomed_of}
 use Rattle.sect_space.proofs.RoomLemmas.{room-less}
 use Rattle.sect_space.proofs.parts.Parts.remove_enrolment.Goals as goal

@@ -1,7 +1,7 @@
 -- a new row is empty, and found
 use Rattle.std.proofs.Common.{◌∙◌, sym, ap, refl, ◌≡◌, None}
 use Rattle.std.specs.Option.{is_some}
-use Rattle.sect_table.specs.Table.{value_at}
+use Rattle.sect_base.specs.Table.{value_at}
 use Rattle.sect_weeks.specs.Rows.{place_of, row_of}
 use Rattle.sect_weeks.proofs.RowLemmas.{none-of, none-row, row-added, keeps-added, known-added}
 use Rattle.sect_weeks.proofs.weeks.Weeks.add_row.Goals as goal

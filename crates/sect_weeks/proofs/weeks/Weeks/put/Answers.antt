@@ -1,7 +1,7 @@
 -- the row at the place is the student's
 use Rattle.std.proofs.Common.{◌∙◌, sym, refl}
 use Rattle.std.specs.Vec.{with_item}
-use Rattle.sect_table.specs.Table.{value_at}
+use Rattle.sect_base.specs.Table.{value_at}
 use Rattle.sect_weeks.proofs.RowLemmas.{row-put, puts-from}
 use Rattle.sect_weeks.proofs.weeks.Weeks.put.Goals as goal
 

@@ -1,4 +1,0 @@
-pub mod FoldLemmas
-pub mod KeptLemmas
-pub mod LineLemmas
-pub mod RowLemmas

@@ -1,8 +1,0 @@
-use Rattle.std.proofs.Common.{refl}
-use Rattle.csv.specs.Reading.{strip_bom}
-use Rattle.sect_records.specs.Rows.{rows_within, shown_rows, through_last_feed}
-use Rattle.sect_records.proofs.kept.Kept.new.Goals as goal
-
-pub invariant_of-result : goal.invariant_of-result
-unfolding shown_rows rows_within strip_bom through_last_feed
-invariant_of-result c = rw c.new.ensures.items refl

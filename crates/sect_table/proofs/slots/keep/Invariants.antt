@@ -1,6 +1,0 @@
--- the places so far are kept, and the others stay
-use Rattle.sect_table.proofs.KeepLemmas.{KeepsBelow}
-use Rattle.sect_table.proofs.slots.keep.Given as goal
-
-abbrev pub invariant-slots : goal.invariant-slots
-invariant-slots g l = KeepsBelow (g.T.Test.passes l.test) l.place l.initial.slots l.slots

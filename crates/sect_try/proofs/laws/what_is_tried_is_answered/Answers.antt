@@ -1,5 +1,0 @@
-use Rattle.sect_try.proofs.Agreed.{tried_is_answered}
-use Rattle.sect_try.proofs.laws.what_is_tried_is_answered.Goals as goal
-
-pub returns : goal.returns
-returns g c = tried_is_answered g.O.Object.start g.O.Object.stepped g.O.Object.is_row g.K.Keeper.rows g.K.Keeper.faults

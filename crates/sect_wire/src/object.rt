@@ -1,0 +1,12 @@
+// Objects that are asked what texts say.
+
+ghost use Rattle.sect_wire.specs.Objects.{TakesTexts};
+
+use sect_command::{Command, Reply};
+use sect_once::Object;
+
+/// An object of which each request whose id, day and command have texts may be asked.
+pub trait TextObject: Object<Command = Command, Reply = Reply> {
+    /// A request that was read may be asked.
+    ghost takes_texts: { TakesTexts Self.may_ask };
+}
