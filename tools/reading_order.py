@@ -128,10 +128,10 @@ CHAPTERS = [
      'What the containers of enrolments, reservations and restrictions show, and what undoing a change of them gives '
      'back.',
      ['sect_roster/specs/' + n + '.antt' for n in ('Slots', 'Listed', 'Last', 'Undone')]
-     + ['sect_slots/specs/Rostered.antt']),
+     + ['sect_roster/specs/Rostered.antt']),
     ('Numbers beside the enrolments',
      'Counts by id, the numbers of a world, and what one enrolment more, one less and each other change do to them.',
-     ['sect_table/specs/' + n + '.antt' for n in ('Slots', 'Table')]
+     ['sect_base/specs/' + n + '.antt' for n in ('Slots', 'Table')]
      + ['sect_numbers/specs/' + n + '.antt' for n in ('Tally', 'Numbers', 'OneMore', 'Laws', 'Quiet', 'Own', 'Held')]),
     ('Calendars of students',
      'When a student is in class, the calendars that tell it, and what one enrolment more, one less and each other change do to them.',
@@ -169,13 +169,13 @@ CHAPTERS = [
      ['sect_words/specs/' + n + '.antt' for n in ('Reading', 'ReadingWords', 'Times')]),
     ('Tables as CSV',
      'The header of each table, and its rows as they are written.',
-     ['sect_sheet/specs/' + n + '.antt' for n in ('Fields', 'Tables')]),
+     ['sect_csv/specs/' + n + '.antt' for n in ('Fields', 'Tables')]),
     ('Rows of a text in pieces',
      'What the bytes so far show of a text, and all of its rows.',
-     ['sect_records/specs/Rows.antt']),
+     ['sect_csv/specs/Rows.antt']),
     ('Rows of tables',
      'The values of a row, or its first field that is not in its form.',
-     ['sect_lines/specs/' + n + '.antt' for n in ('Fields', 'Told', 'Lines')]),
+     ['sect_tables/specs/' + n + '.antt' for n in ('Fields', 'Told', 'Lines')]),
     ('Tables read',
      'The command that each row shows to be complete, and the first bad row.',
      ['sect_tables/specs/' + n + '.antt' for n in ('Headers', 'Offerings', 'Requests', 'Progress', 'Rows')]),
@@ -219,23 +219,23 @@ CHAPTERS = [
      + ['sect_clerk_words/specs/' + n + '.antt' for n in ('Grammar', 'Help', 'Laws')]),
     ('The program',
      'The lines of an input, how the desk answers them, the audit, and the import of a table.',
-     ['sect_object/specs/Objects.antt']
+     ['sect_wire/specs/Objects.antt']
      + ['sect_script/specs/' + n + '.antt' for n in ('Lines', 'Reading', 'Run', 'Gathering', 'Statuses')]
      + ['sect_asking/specs/' + n + '.antt' for n in ('AnswerLines', 'Asks', 'Desk')]
      + ['sect_tell/specs/' + n + '.antt' for n in ('Told', 'Audit', 'Views')]
-     + ['sect_fit/specs/Fitting.antt']
+     + ['sect_intake/specs/Fitting.antt']
      + ['sect_return/specs/' + n + '.antt' for n in ('Asked', 'Back', 'Checked', 'States', 'Again')]
      + ['sect_intake/specs/' + n + '.antt' for n in ('Numbers', 'Asking', 'Table', 'Opened', 'Machine')]
      + ['sect_making/specs/' + n + '.antt' for n in ('Generated', 'Made', 'Stages')]),
     ('Lines that are tried',
      'What a desk would answer a line now, and what it is that lines were tried.',
-     ['sect_try/specs/' + n + '.antt' for n in ('Answered', 'Tried')]),
+     ['sect_clerk/specs/' + n + '.antt' for n in ('Answered', 'Tried')]),
     ('A history as lines',
      'What names a student or a section, the log of a history, and what a run over the whole log does.',
      ['sect_log/specs/' + n + '.antt' for n in ('Naming', 'Log', 'Laws')]),
     ('A place of a history, in words',
      'What is said of the entry at a place, in the world in which its command acted.',
-     ['sect_explaining/specs/Explaining.antt']),
+     ['sect_clerk/specs/Explaining.antt']),
     ('What the clerk does',
      'How lines are checked, what is shown of a history, and what is done for the words of the command line.',
      ['sect_clerk/specs/' + n + '.antt' for n in ('Shows', 'Checked', 'Clerk')]),
@@ -245,7 +245,7 @@ CHAPTERS = [
      ['sect_head/specs/' + n + '.antt' for n in ('Blank', 'Framing', 'Closing', 'Outcome')]
      + ['sect_route/specs/Targets.antt']
      + ['sect_json/specs/' + n + '.antt' for n in ('Values', 'Bodies', 'Answers')]
-     + ['sect_page/specs/' + n + '.antt' for n in ('Pages', 'Said')]),
+     + ['sect_talk/specs/' + n + '.antt' for n in ('Pages', 'Said')]),
     ('One connection',
      'What a connection asks and is answered, over any state; and what comes of waiting for a head or a body.',
      ['sect_talk/specs/' + n + '.antt' for n in ('Asked', 'Rest', 'Talk', 'Coming')]),
@@ -259,7 +259,7 @@ CHAPTERS = [
      + ['sect_http/specs/' + n + '.antt' for n in ('Answers', 'Hearing', 'Telling', 'Turns')]),
     ('Many connections',
      'What a worker does with its link, what it is to serve many links at one desk, and whose rows their answers name.',
-     ['sect_serve/specs/' + n + '.antt' for n in ('Talks', 'Working', 'Serving')] + ['sect_places/specs/Printed.antt']),
+     ['sect_serve/specs/' + n + '.antt' for n in ('Talks', 'Working', 'Serving')] + ['sect_serve/specs/Printed.antt']),
     ('What the desk does',
      'What is done for the words of the command line; what valid input is, and how many answers tell a fault of the keeper.',
      ['sect_app/specs/' + n + '.antt' for n in ('Top', 'Returns', 'Machine', 'Serving', 'Valid', 'Faulted', 'Status')]),

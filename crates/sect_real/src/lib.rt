@@ -1,5 +1,5 @@
 //! The keepers of the program: in a database of SQLite, in a journal, or none, by which no row is kept. With them come the
-//! real objects of `sect_system`, and the links of `sect_net`.
+//! real objects of `sect_system`, its links over TCP among them.
 #![tactic(auto)]
 
 mod any;
