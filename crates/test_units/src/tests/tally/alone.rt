@@ -1,24 +1,12 @@
 // It is asked, over a keeper in memory that may fail, and its rows are replayed.
-ghost use Rattle.std.specs.Prelude.{◌<◌, ◌^◌};
-ghost use Rattle.sect_once.specs.Tallies.{caller_number};
 
-use super::first_day;
-use sect_base::{Caller, Chronicle, Id};
+use super::{first_day, id};
+use sect_base::Chronicle;
 use sect_edge::MemKeeper;
 use sect_once::{Answer, Desk, OpenFault, Seen, Tally};
 use sect_time::Day;
 use std::alloc::Global;
 use std::test::Fail;
-
-/// The id with this number.
-fn id(number: u64) -> Id
-    ensures { (caller_number result.caller < 2 ^ 32) × (result.number < 2 ^ 64) }
-{
-    Id {
-        caller: Caller::Registrar(7),
-        number,
-    }
-}
 
 /// The desk of these rows, of which the appends with these numbers fail.
 fn desk_of(

@@ -5,7 +5,6 @@ ghost use Rattle.sect_once.specs.Tallies.{caller_number};
 ghost use Rattle.sect_turn.specs.Passes.{front, own_calls, share, opening, IsIdle, IsPassOf};
 
 use super::first_day;
-use super::meeting::Meeting;
 use sect_base::{Caller, Chronicle, Id, Memory};
 use sect_edge::{Gate, Keeper, Link, MemKeeper, MemLink, MemSink, MemSource, OpenGate};
 use sect_office::{Office, Work, run_all};
@@ -13,8 +12,9 @@ use sect_once::{Answer, Desk, Tally};
 use sect_turn::Pass;
 use std::alloc::{AllocError, Global};
 use std::sync::Wait;
+use std::sync::atomic::{AtomicU64, Ordering};
 use std::test::Fail;
-use std::thread::Threads;
+use std::thread::{self, Threads};
 
 /// A worker with a link: at its connection it asks the numbers from 0 as commands of 1, each when the gate lets it.
 #[derive(Drop)]
@@ -108,18 +108,20 @@ fn place_of<K: Keeper, R: Wait>(
     }
 }
 
-/// Both ends of a connection that sends these bytes.
-fn ends(alloc: Global, sent: &[u8]) -> Result<(MemSource, MemSink), AllocError> {
-    let bytes = sent.to_vec(alloc)?;
+/// Both ends of a connection that sends nothing.
+fn ends(alloc: Global) -> Result<(MemSource, MemSink), AllocError> {
     match MemSink::new(alloc, 1_000, 1_000, Vec::new(alloc)) {
-        Ok(sink) => Ok((MemSource::new(bytes, 1_000, Vec::new(alloc)), sink)),
+        Ok(sink) => Ok((
+            MemSource::new(Vec::new(alloc), 1_000, Vec::new(alloc)),
+            sink,
+        )),
         Err(_) => Err(AllocError),
     }
 }
 
-/// A link with one connection to come, which sends these bytes.
-pub(super) fn a_link(alloc: Global, sent: &[u8]) -> Result<MemLink, AllocError> {
-    let talks = vec![in alloc; ends(alloc, sent)?]?;
+/// A link with one connection to come.
+fn a_link(alloc: Global) -> Result<MemLink, AllocError> {
+    let talks = vec![in alloc; ends(alloc)?]?;
     Ok(MemLink::new(talks, Vec::new(alloc)))
 }
 
@@ -131,7 +133,7 @@ fn a_teller<'a, G>(
     count: u64,
 ) -> Result<Teller<'a, G>, AllocError> {
     Ok(Teller {
-        link: a_link(alloc, b"")?,
+        link: a_link(alloc)?,
         alloc,
         gate,
         caller,
@@ -256,9 +258,51 @@ fn many_threads_share_one_history(rt: HostRuntime) -> Result<(), Fail> {
     Ok(())
 }
 
+/// A gate that holds each of two workers at its first step until the other one came.
+#[derive(Drop)]
+struct Both {
+    came: AtomicU64,
+    late: AtomicU64,
+}
+
+impl Both {
+    /// A gate to which nobody came yet.
+    fn new() -> Both {
+        Both {
+            came: AtomicU64::new(0),
+            late: AtomicU64::new(0),
+        }
+    }
+
+    /// Whether a worker was let pass before the other one came.
+    fn was_late(&self) -> bool {
+        self.late.load(Ordering::SeqCst) != 0
+    }
+
+    /// Comes, and waits a while until two came.
+    fn meet(&self) {
+        self.came.fetch_add(1, Ordering::SeqCst);
+        for _ in 0..1_000_000u64 {
+            if self.came.load(Ordering::SeqCst) >= 2 {
+                return;
+            }
+            thread::yield_now();
+        }
+        self.late.fetch_add(1, Ordering::SeqCst);
+    }
+}
+
+impl Gate for Both {
+    fn pass<R: Wait>(&self, _rt: &R, _worker: u32, step: u64) {
+        if step == 0 {
+            self.meet();
+        }
+    }
+}
+
 #[test]
 fn two_workers_run_at_once(rt: HostRuntime) -> Result<(), Fail> {
-    let gate = Meeting::new();
+    let gate = Both::new();
     let (first, _, _) = run_twice(&rt, rt.alloc(), &gate, 2, 100)?;
     assert!(rt; are_each_once(&first, 200));
     assert!(rt; !gate.was_late());

@@ -1,0 +1,5 @@
+// The real objects, the desk of a tally, and texts.
+
+mod system;
+mod tally;
+mod texts;

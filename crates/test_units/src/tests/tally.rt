@@ -1,0 +1,29 @@
+// The desk of a tally.
+
+ghost use Rattle.std.specs.Prelude.{◌<◌, ◌^◌};
+ghost use Rattle.sect_once.specs.Tallies.{caller_number};
+
+mod alone;
+mod full;
+mod shared;
+
+use sect_base::{Caller, Id};
+use sect_time::Day;
+
+/// The id with this number.
+fn id(number: u64) -> Id
+    ensures { (caller_number result.caller < 2 ^ 32) × (result.number < 2 ^ 64) }
+{
+    Id {
+        caller: Caller::Registrar(7),
+        number,
+    }
+}
+
+/// The first day.
+fn first_day() -> Day {
+    match Day::new(0) {
+        Some(day) => day,
+        None => unreachable!(),
+    }
+}
