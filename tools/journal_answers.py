@@ -1,12 +1,6 @@
-"""Compares or writes the wanted output of crates/test_journal by a second computation of journals and disks.
-
-python3 tools/journal_answers.py          compares; the status is 1 where a line differs
-python3 tools/journal_answers.py --write  writes it
+"""What a second computation of journals and disks answers to the part `disks` of the input of test_commands, whose form its main.rt
+tells. It needs nothing of the second computation of the desk.
 """
-import os
-import sys
-
-CRATE = os.path.join(os.path.dirname(os.path.abspath(__file__)), '..', 'crates', 'test_journal')
 WINDOW = 65536
 
 
@@ -202,30 +196,14 @@ def asked(stand, word, rest, out):
     return stand
 
 
-def answers():
+def answers(lines, _):
     out, stand = [], None
-    with open(os.path.join(CRATE, 'stdin')) as file:
-        for line in file.read().split('\n')[:-1]:
-            word, _, rest = line.partition(' ')
-            if word in ('open', 'start'):
-                stand = opened(word, rest, out)
-            elif stand is None:
-                out.append(line)
-            else:
-                stand = asked(stand, word, rest, out)
-    return '\n'.join(out) + '\n'
-
-
-def main():
-    path = os.path.join(CRATE, 'stdout')
-    if sys.argv[1:] == ['--write']:
-        with open(path, 'w') as file:
-            file.write(answers())
-        return
-    with open(path) as file:
-        wrong = file.read() != answers()
-    print('they differ' if wrong else 'the same')
-    sys.exit(wrong)
-
-
-main()
+    for line in lines:
+        word, _, rest = line.partition(' ')
+        if word in ('open', 'start'):
+            stand = opened(word, rest, out)
+        elif stand is None:
+            out.append(line)
+        else:
+            stand = asked(stand, word, rest, out)
+    return (line + '\n' for line in out)

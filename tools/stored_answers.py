@@ -6,9 +6,9 @@
   stored_answers.py --oracle FOLDER --add KIND A..B    adds inputs of the oracle's fuzzer with these seeds, and writes the answers;
                                                        the kind is requests, tables or usage
 
-The parts of test_commands are answered by fault_answers.py, command_answers.py and http_answers.py, and the words of test_usage
-by usage_answers.py. What the clerk answers, and the parts journal, workers and calling, are as they are stored. The status is 1
-where a line differs.
+The parts of test_commands are answered by fault_answers.py, command_answers.py, http_answers.py and journal_answers.py, and the
+words of test_usage by usage_answers.py. What the clerk answers, and the parts journal, workers and calling, are as they are
+stored. The status is 1 where a line differs.
 """
 import argparse
 import os
@@ -43,8 +43,10 @@ def command_lines(lines, stored):
     import command_answers
     import fault_answers
     import http_answers
+    import journal_answers
     known = {"desk": fault_answers.answers, "commands": command_answers.commands, "machine": command_answers.machine,
-             "connections": http_answers.connections, "bodies": http_answers.bodies}
+             "connections": http_answers.connections, "bodies": http_answers.bodies,
+             "disks": journal_answers.answers}
     kept = ("journal", "workers", "calling")
     stored_parts = dict(parts_of(stored.split("\n")[:-1], (*known, *kept))) if stored else {}
     for name, held in parts_of(lines, (*known, *kept)):

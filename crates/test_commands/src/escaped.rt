@@ -1,8 +1,9 @@
 // Lines of the input as texts: as they are, and with what can't stand in a line.
 
+use crate::digits::byte_of;
+use crate::lines::unfolded;
 use sect_base::Memory;
 use sect_words::print_text;
-use test_told::{byte_of, unfolded};
 
 /// Where a reading stands: at a byte, behind a backslash, at the first digit of a byte, or behind that one.
 #[derive(Clone, Copy)]

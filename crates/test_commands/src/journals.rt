@@ -27,7 +27,7 @@ const FIFTH: &str = "s12 1 enrol 12 1\n";
 const CALLS: u64 = 4;
 
 /// What a crash leaves: what is durable, what a read gives, and marks in the place of what was written, 1 and another.
-const PICKS: [u64; 4] = [0, 1, 257, 2];
+pub const PICKS: [u64; 4] = [0, 1, 257, 2];
 
 /// A journal, and what the last run over it left.
 type JournalStand = Stand<Journal<MemDisk>>;
@@ -73,7 +73,7 @@ fn started(alloc: Global, failing_call: u64) -> Result<Journal<MemDisk>, Memory>
 }
 
 /// The journal of a disk with these bytes.
-fn opened(alloc: Global, bytes: Vec<u8>) -> Result<Journal<MemDisk>, Memory> {
+pub fn opened(alloc: Global, bytes: Vec<u8>) -> Result<Journal<MemDisk>, Memory> {
     let disk = MemDisk::new(bytes, Vec::new(alloc));
     Journal::open(alloc, disk).ok().ok_or(Memory)
 }

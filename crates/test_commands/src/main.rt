@@ -43,11 +43,19 @@
 //! `body` reads the bytes as a body, `head` as what a connection begins with. `done P REPLY`, `reused P`, `full`, `fault` and
 //! `memory` print an answer. A line that begins with `#` is printed.
 //!
+//! `== disks`: journals on a disk in memory. A line `open BYTES FAIL` opens the journal with these bytes, on a disk whose calls
+//! with the numbers FAIL fail; `start BYTES FAIL` makes one where there are no bytes; `-` is none. `append ROW ..` appends the
+//! rows as one group, by `append` where there is one. `fill COUNT SIZE` appends so many rows of so many bytes, and `same COUNT
+//! SIZE` reads in order how many rows are these. `rows` reads all in order, `row AT` reads one. `bytes` ends with what a read of
+//! the disk gives, `calls` with the number of its calls. `crash FROM` ends with a crash after each call from number FROM on: the
+//! output has what the images then open to, the rows of each before a bar. Other lines are printed.
+//!
 //! `== journal`, `== workers` and `== calling` have no lines. The first tells what the desk answers over a journal of which each
 //! call of the fourth append fails, the next call, and a call with a crash behind it: for each opening the status and what was
 //! written, and then how many rows the journal has. The second tells what comes of two workers of which the link of the
-//! second one fails: the status, how many rows the keeper has, and what each link's connection was told. The third tells what a
-//! program is answered that calls the library.
+//! second one fails, and of two that meet at a gate, where the first one's request waits until the second one's answer is
+//! written: the status, how many rows the keeper has, what each link's connection was told, and whether one of those that meet
+//! was late. The third tells what a program is answered that calls the library.
 #![tactic(auto)]
 
 mod bodies;
@@ -55,11 +63,16 @@ mod calling;
 mod commands;
 mod connections;
 mod desk;
+mod digits;
+mod disks;
 mod escaped;
 mod journals;
 mod keepers;
+mod lines;
 mod machine;
+mod meeting;
 mod parts;
+mod printing;
 mod ranges;
 mod runs;
 mod sent;
@@ -70,11 +83,11 @@ mod told;
 mod workers;
 
 use parts::{Part, Parts, part_of, told_at_first};
+use printing::print_told;
 use std::alloc::AllocGlobal;
 use std::io;
 use std::sync::Wait;
 use std::thread::Threads;
-use test_told::print_told;
 
 fn main(rt: HostRuntime) -> io::Result<()> {
     let mut parts = Parts::new(rt.alloc());

@@ -5,6 +5,7 @@ use crate::calling::called;
 use crate::commands::Commands;
 use crate::connections::Connections;
 use crate::desk::DeskCommands;
+use crate::disks::Disks;
 use crate::journals::told_of_journals;
 use crate::machine::OverMachine;
 use crate::workers::told_of_workers;
@@ -21,6 +22,7 @@ pub enum Part {
     Connections,
     Machine,
     Bodies,
+    Disks,
     Journal,
     Workers,
     Calling,
@@ -34,6 +36,7 @@ pub fn part_of(line: &str) -> Option<Part> {
         "== connections" => Some(Part::Connections),
         "== machine" => Some(Part::Machine),
         "== bodies" => Some(Part::Bodies),
+        "== disks" => Some(Part::Disks),
         "== journal" => Some(Part::Journal),
         "== workers" => Some(Part::Workers),
         "== calling" => Some(Part::Calling),
@@ -49,6 +52,7 @@ pub struct Parts {
     connections: Connections,
     machine: OverMachine,
     bodies: Bodies,
+    disks: Disks,
 }
 
 impl Parts {
@@ -60,6 +64,7 @@ impl Parts {
             connections: Connections::new(alloc),
             machine: OverMachine::new(alloc),
             bodies: Bodies::new(alloc),
+            disks: Disks::new(),
         }
     }
 
@@ -77,6 +82,7 @@ impl Parts {
             Part::Connections => self.connections.put(rt, line, &mut into)?,
             Part::Machine => self.machine.put(rt.alloc(), line, &mut into)?,
             Part::Bodies => self.bodies.put(line, &mut into)?,
+            Part::Disks => self.disks.put(rt.alloc(), line, &mut into)?,
             Part::Journal | Part::Workers | Part::Calling => {}
         }
         Ok(into)

@@ -1,9 +1,9 @@
 // Lines with many numbers.
 
+use crate::lines::numbered;
 use sect_base::Memory;
 use sect_words::print_text;
 use std::ops::Range;
-use test_told::numbered;
 
 /// The numbers and the lines of `FIRST..END LINES`. None where they aren't there.
 fn range_of(words: &str) -> Option<(Range<u64>, &str)> {

@@ -6,7 +6,7 @@ use crate::stand::Stand;
 use crate::streams::{clock, sink_of, source_of};
 use sect_app::desk;
 use sect_base::Memory;
-use sect_edge::{Keeper, MemClock, MemLink, MemSink, MemSource, OpenGate};
+use sect_edge::{Gate, Keeper, MemClock, MemLink, MemSink, MemSource, OpenGate};
 use std::alloc::{AllocGlobal, Global};
 use std::sync::Wait;
 use std::thread::Threads;
@@ -106,17 +106,22 @@ pub fn run_over<R: AllocGlobal + Threads + Wait + Sync, K: Keeper + Send + Drop>
 ) -> Result<(), Memory> {
     let alloc = rt.alloc();
     let links = link_alone(alloc, MemLink::new(Vec::new(alloc), Vec::new(alloc)))?;
-    let _ = run_on_links(rt, setting, input, stand, links)?;
+    let _ = run_on_links(rt, setting, input, stand, links, &OpenGate)?;
     Ok(())
 }
 
-/// The same over these links, one or two, which come back.
-pub fn run_on_links<R: AllocGlobal + Threads + Wait + Sync, K: Keeper + Send + Drop>(
+/// The same over these links, one or two, which come back. Their workers pass the gate.
+pub fn run_on_links<
+    R: AllocGlobal + Threads + Wait + Sync,
+    K: Keeper + Send + Drop,
+    G: Gate + Sync,
+>(
     rt: &R,
     setting: &Setting<'_>,
     input: &[u8],
     stand: &mut Stand<K>,
     links: Vec<MemLink>,
+    gate: &G,
 ) -> Result<Vec<MemLink>, Memory>
     requires some { 0 < length links.items }
     requires most { length links.items ≤ 2 }
@@ -136,7 +141,7 @@ pub fn run_on_links<R: AllocGlobal + Threads + Wait + Sync, K: Keeper + Send + D
         links,
         keeper,
         clocks,
-        &OpenGate,
+        gate,
     );
     *stand = Stand::left(keeper, status, sink);
     Ok(links)

@@ -1,7 +1,7 @@
 // The bytes that lines say.
 
+use crate::digits::byte_of;
 use sect_base::Memory;
-use test_told::byte_of;
 
 /// Bytes of two digits each.
 fn put_numbers(digits: &[u8], into: &mut Vec<u8>) -> Result<(), Memory> {

@@ -5,7 +5,7 @@ use crate::sent::{FIRST, SECOND, link_of};
 use crate::stand::Stand;
 use crate::told::{put_end, put_talk};
 use sect_base::Memory;
-use sect_edge::MemLink;
+use sect_edge::{MemLink, OpenGate};
 use std::alloc::AllocGlobal;
 use std::sync::Wait;
 use std::thread::Threads;
@@ -20,7 +20,7 @@ pub fn put_served<R: AllocGlobal + Threads + Wait + Sync>(
 ) -> Result<(), Memory> {
     let alloc = rt.alloc();
     let links = link_alone(alloc, link_of(alloc, &[FIRST, SECOND], failing_accept)?)?;
-    let links = run_on_links(rt, setting, &[], stand, links)?;
+    let links = run_on_links(rt, setting, &[], stand, links, &OpenGate)?;
     put_end(alloc, stand, into)?;
     put_talks(&links, into)
 }

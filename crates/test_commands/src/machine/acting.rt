@@ -1,5 +1,6 @@
 // A line acts.
 
+use crate::lines::unfolded;
 use sect_base::Memory;
 use sect_command::Reply;
 use sect_machine::Machine;
@@ -9,7 +10,6 @@ use sect_time::{Day, read_day};
 use sect_wire::{LineAsk, read_line};
 use sect_words::print_text;
 use std::alloc::Global;
-use test_told::unfolded;
 
 /// The day of a line; 2025-09-01 where it names none.
 pub fn day_of(ask: &LineAsk) -> Option<Day> {

@@ -13,6 +13,7 @@ struct Folded<'a> {
     end: &'a str,
 }
 
+/// The parts of a line that has `{ITEM*COUNT}`.
 fn fold_of(line: &str) -> Option<Folded<'_>> {
     let (front, rest) = line.split_once('{')?;
     let (part, end) = rest.split_once('}')?;
@@ -26,7 +27,8 @@ fn fold_of(line: &str) -> Option<Folded<'_>> {
     })
 }
 
-fn print_times(item: &str, count: u64, into: &mut Vec<u8>) -> Result<(), Memory> {
+/// Puts the item so many times behind the text.
+fn put_times(item: &str, count: u64, into: &mut Vec<u8>) -> Result<(), Memory> {
     for _ in 0..count {
         print_text(item, into)?;
     }
@@ -39,7 +41,7 @@ pub fn unfolded(alloc: Global, line: &str) -> Result<Vec<u8>, Memory> {
     match fold_of(line) {
         Some(folded) => {
             print_text(folded.front, &mut text)?;
-            print_times(folded.item, folded.count, &mut text)?;
+            put_times(folded.item, folded.count, &mut text)?;
             print_text(folded.end, &mut text)?;
         }
         None => print_text(line, &mut text)?,

@@ -1,15 +1,13 @@
 // What a crash leaves.
 
-use crate::stand::{Ended, disk_of, opened, print_all};
+use crate::disks::on_disk::{Ended, disk_of, put_all};
+use crate::journals::{PICKS, opened};
 use sect_base::Memory;
 use sect_journal::{Disk, DiskCall, MemDisk};
 use std::alloc::Global;
 
-/// What is durable, what a read gives, and marks in the place of what was written: 1 and another.
-const PICKS: [u64; 4] = [0, 1, 257, 2];
-
-/// Prints what each image opens to that a crash leaves after each call from a number on.
-pub fn print_crashes(
+/// Puts what each image opens to that a crash leaves after each call from a number on behind the text.
+pub fn put_crashes(
     alloc: Global,
     ended: &Ended,
     line: &str,
@@ -19,14 +17,14 @@ pub fn print_crashes(
     write!(into, "{} calls", calls.len())?;
     let first = line.parse::<usize>().unwrap_or(0);
     for count in first..calls.len() {
-        print_crash(alloc, ended, &calls[..count], into)?;
+        put_crash(alloc, ended, &calls[..count], into)?;
     }
     into.push_str("\nend:")?;
-    print_images(alloc, &ended.disk, into)
+    put_images(alloc, &ended.disk, into)
 }
 
 /// The same of a crash after these calls.
-fn print_crash(
+fn put_crash(
     alloc: Global,
     ended: &Ended,
     calls: &[DiskCall],
@@ -34,18 +32,18 @@ fn print_crash(
 ) -> Result<(), Memory> {
     write!(into, "\n{}:", calls.len())?;
     let mut disk = disk_of(alloc, &ended.bytes, &ended.fail)?;
-    print_stopped(alloc, calls, &mut disk, into)
+    put_stopped(alloc, calls, &mut disk, into)
 }
 
 /// The same on a disk that had no calls yet.
-fn print_stopped(
+fn put_stopped(
     alloc: Global,
     calls: &[DiskCall],
     disk: &mut MemDisk,
     into: &mut String,
 ) -> Result<(), Memory> {
     repeat(alloc, calls, disk)?;
-    print_images(alloc, disk, into)
+    put_images(alloc, disk, into)
 }
 
 /// Makes these calls again.
@@ -75,6 +73,7 @@ fn write(at: u64, piece: &[u8], disk: &mut MemDisk) {
     }
 }
 
+/// So many zeros, at most 1,000.
 fn zeros(alloc: Global, size: u64) -> Result<Vec<u8>, Memory> {
     let mut piece = Vec::new(alloc);
     for _ in 0..size.min(1_000) {
@@ -84,22 +83,18 @@ fn zeros(alloc: Global, size: u64) -> Result<Vec<u8>, Memory> {
 }
 
 /// The rows of each image, a bar behind each.
-fn print_images(alloc: Global, disk: &MemDisk, into: &mut String) -> Result<(), Memory> {
+fn put_images(alloc: Global, disk: &MemDisk, into: &mut String) -> Result<(), Memory> {
     for pick in PICKS {
-        print_image(
-            alloc,
-            MemDisk::new(disk.image(pick)?, Vec::new(alloc)),
-            into,
-        )?;
+        put_image(alloc, disk.image(pick)?, into)?;
         into.push_str(" |")?;
     }
     Ok(())
 }
 
-/// The rows of the journal of a disk.
-fn print_image(alloc: Global, disk: MemDisk, into: &mut String) -> Result<(), Memory> {
-    match opened(alloc, disk, false) {
-        Ok(mut journal) => print_all(alloc, &mut journal, into),
+/// The rows of the journal of a disk with these bytes.
+fn put_image(alloc: Global, bytes: Vec<u8>, into: &mut String) -> Result<(), Memory> {
+    match opened(alloc, bytes) {
+        Ok(mut journal) => put_all(alloc, &mut journal, into),
         Err(_) => Ok(into.push_str(" fault")?),
     }
 }

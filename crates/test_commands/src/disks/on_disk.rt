@@ -1,6 +1,7 @@
 // A journal with what its disk was at first.
 
-use crate::words::{bytes_of, numbers_of};
+use crate::disks::words::{bytes_of, numbers_of};
+use crate::told::put_bytes;
 use sect_base::Memory;
 use sect_edge::{KeepFault, Keeper};
 use sect_journal::{Journal, JournalFault, MemDisk};
@@ -8,7 +9,7 @@ use std::alloc::Global;
 
 /// A journal, and the bytes and the calls that fail with which its disk began.
 #[derive(Drop)]
-pub struct Stand {
+pub struct OnDisk {
     pub bytes: Vec<u8>,
     pub fail: Vec<u64>,
     pub journal: Journal<MemDisk>,
@@ -33,23 +34,27 @@ pub fn open(
     alloc: Global,
     line: &str,
     makes: bool,
-    place: &mut Option<Stand>,
+    place: &mut Option<OnDisk>,
     into: &mut String,
 ) -> Result<(), Memory> {
-    let begun = stand_of(alloc, line, makes)?;
-    let printed = print_begun(&begun, into);
+    let begun = begun_of(alloc, line, makes)?;
+    let told = put_begun(&begun, into);
     *place = begun.ok();
-    printed
+    told
 }
 
 /// The journal of a line.
-fn stand_of(alloc: Global, line: &str, makes: bool) -> Result<Result<Stand, JournalFault>, Memory> {
+fn begun_of(
+    alloc: Global,
+    line: &str,
+    makes: bool,
+) -> Result<Result<OnDisk, JournalFault>, Memory> {
     let (bytes, fail) = line.split_once(' ').unwrap_or((line, ""));
     let bytes = bytes_of(alloc, bytes)?;
     let fail = numbers_of(alloc, fail)?;
     let disk = disk_of(alloc, &bytes, &fail)?;
-    Ok(match opened(alloc, disk, makes) {
-        Ok(journal) => Ok(Stand {
+    Ok(match journal_of(alloc, disk, makes) {
+        Ok(journal) => Ok(OnDisk {
             bytes,
             fail,
             journal,
@@ -58,8 +63,8 @@ fn stand_of(alloc: Global, line: &str, makes: bool) -> Result<Result<Stand, Jour
     })
 }
 
-/// Opens a journal, or makes one first.
-pub fn opened(alloc: Global, disk: MemDisk, makes: bool) -> Result<Journal<MemDisk>, JournalFault> {
+/// Opens the journal of a disk, or makes one first.
+fn journal_of(alloc: Global, disk: MemDisk, makes: bool) -> Result<Journal<MemDisk>, JournalFault> {
     let opened = if makes {
         Journal::start(alloc, disk)
     } else {
@@ -71,8 +76,8 @@ pub fn opened(alloc: Global, disk: MemDisk, makes: bool) -> Result<Journal<MemDi
     }
 }
 
-/// Prints whether a journal opened, and why it didn't.
-fn print_begun(begun: &Result<Stand, JournalFault>, into: &mut String) -> Result<(), Memory> {
+/// Puts whether a journal opened, and why it didn't.
+fn put_begun(begun: &Result<OnDisk, JournalFault>, into: &mut String) -> Result<(), Memory> {
     match begun {
         Ok(_) => into.push_str("ok")?,
         Err(JournalFault::Failed) => into.push_str("failed")?,
@@ -82,8 +87,8 @@ fn print_begun(begun: &Result<Stand, JournalFault>, into: &mut String) -> Result
     Ok(())
 }
 
-/// Prints how an append ended.
-pub fn print_kept(kept: Result<(), KeepFault>, into: &mut String) -> Result<(), Memory> {
+/// Puts how an append ended.
+pub fn put_kept(kept: Result<(), KeepFault>, into: &mut String) -> Result<(), Memory> {
     into.push_str(match kept {
         Ok(()) => "ok",
         Err(KeepFault::Failed) => "failed",
@@ -92,29 +97,28 @@ pub fn print_kept(kept: Result<(), KeepFault>, into: &mut String) -> Result<(), 
     Ok(())
 }
 
-/// Prints a row behind a space.
-fn print_text(row: &[u8], into: &mut String) -> Result<(), Memory> {
-    into.push_str(" ")?;
-    into.push_str(str::from_utf8(row).unwrap_or("?"))?;
-    Ok(())
+/// Puts a row behind a space.
+fn put_text(row: &[u8], into: &mut String) -> Result<(), Memory> {
+    into.push(' ')?;
+    put_bytes(row, into)
 }
 
-/// Prints the row of a number, which is read into a list.
-fn print_read(
+/// Puts the row of a number, which is read into a list.
+fn put_read(
     journal: &mut Journal<MemDisk>,
     at: u64,
     row: &mut Vec<u8>,
     into: &mut String,
 ) -> Result<(), Memory> {
     match journal.row(at, row) {
-        Ok(true) => print_text(row, into),
+        Ok(true) => put_text(row, into),
         Ok(false) => Ok(into.push_str(" none")?),
         Err(_) => Ok(into.push_str(" failed")?),
     }
 }
 
-/// Prints the rows of a journal in order, each behind a space.
-pub fn print_all(
+/// Puts the rows of a journal in order, each behind a space.
+pub fn put_all(
     alloc: Global,
     journal: &mut Journal<MemDisk>,
     into: &mut String,
@@ -122,12 +126,12 @@ pub fn print_all(
     let count = journal.len().unwrap_or(0);
     let mut row = Vec::new(alloc);
     for at in 0..count {
-        print_read(journal, at, &mut row, into)?;
+        put_read(journal, at, &mut row, into)?;
     }
     Ok(())
 }
 
-impl Stand {
+impl OnDisk {
     /// Appends the words of a line: one by itself, others as a group.
     pub fn append(&mut self, alloc: Global, line: &str) -> Result<Result<(), KeepFault>, Memory> {
         let mut rows = Vec::new(alloc);
@@ -145,29 +149,24 @@ impl Stand {
         }
     }
 
-    /// Prints how many rows there are, and each of them.
-    pub fn print_rows(&mut self, alloc: Global, into: &mut String) -> Result<(), Memory> {
+    /// Puts how many rows there are, and each of them.
+    pub fn put_rows(&mut self, alloc: Global, into: &mut String) -> Result<(), Memory> {
         let count = self.journal.len().unwrap_or(0);
         write!(into, "{count}:")?;
-        print_all(alloc, &mut self.journal, into)
+        put_all(alloc, &mut self.journal, into)
     }
 
-    /// Prints the row of this number.
-    pub fn print_row(
-        &mut self,
-        alloc: Global,
-        line: &str,
-        into: &mut String,
-    ) -> Result<(), Memory> {
+    /// Puts the row of this number.
+    pub fn put_row(&mut self, alloc: Global, line: &str, into: &mut String) -> Result<(), Memory> {
         let at = line.parse::<u64>().unwrap_or(u64::MAX);
         write!(into, "{at}:")?;
         let mut row = Vec::new(alloc);
-        print_read(&mut self.journal, at, &mut row, into)
+        put_read(&mut self.journal, at, &mut row, into)
     }
 
     /// Closes the journal.
     pub fn close(self) -> Ended {
-        let Stand {
+        let OnDisk {
             bytes,
             fail,
             journal,
@@ -181,16 +180,16 @@ impl Stand {
 }
 
 impl Ended {
-    /// Prints what a read of the disk gives.
-    pub fn print_bytes(&self, into: &mut String) -> Result<(), Memory> {
+    /// Puts what a read of the disk gives.
+    pub fn put_seen(&self, into: &mut String) -> Result<(), Memory> {
         for byte in self.disk.seen() {
             write!(into, "{byte} ")?;
         }
         Ok(())
     }
 
-    /// Prints how many calls the disk had.
-    pub fn print_calls(&self, into: &mut String) -> Result<(), Memory> {
+    /// Puts how many calls the disk had.
+    pub fn put_calls(&self, into: &mut String) -> Result<(), Memory> {
         write!(into, "{} calls", self.disk.calls().len())?;
         Ok(())
     }

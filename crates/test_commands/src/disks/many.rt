@@ -1,6 +1,6 @@
 // Many rows of one size.
 
-use crate::stand::Stand;
+use crate::disks::on_disk::OnDisk;
 use sect_base::Memory;
 use sect_edge::{KeepFault, Keeper};
 use std::alloc::Global;
@@ -22,25 +22,25 @@ pub fn many_of(line: &str) -> Many {
 }
 
 /// The row of a number: its digits, then dots up to the size.
-fn row_of(alloc: Global, at: u64, size: usize) -> Result<Vec<u8>, Memory> {
+fn filled_row(alloc: Global, at: u64, size: usize) -> Result<Vec<u8>, Memory> {
     let mut row = format!(in alloc; "{at}")?.into_bytes();
     row.resize(size, b'.')?;
     Ok(row)
 }
 
 /// These rows.
-fn rows_of(alloc: Global, many: &Many) -> Result<Vec<Vec<u8>>, Memory> {
+fn filled_rows(alloc: Global, many: &Many) -> Result<Vec<Vec<u8>>, Memory> {
     let mut rows = Vec::new(alloc);
     for at in 0..many.count {
-        rows.push(row_of(alloc, at, many.size)?)?;
+        rows.push(filled_row(alloc, at, many.size)?)?;
     }
     Ok(rows)
 }
 
-impl Stand {
+impl OnDisk {
     /// Appends these rows as a group.
     pub fn fill(&mut self, alloc: Global, many: &Many) -> Result<Result<(), KeepFault>, Memory> {
-        let rows = rows_of(alloc, many)?;
+        let rows = filled_rows(alloc, many)?;
         self.append_group(alloc, &rows)
     }
 
@@ -57,8 +57,8 @@ impl Stand {
         Ok(self.journal.append_all(&slices))
     }
 
-    /// Reads as many rows in order, and prints how many are these.
-    pub fn print_same(
+    /// Reads as many rows in order, and puts how many are these behind the text.
+    pub fn put_same(
         &mut self,
         alloc: Global,
         many: &Many,
@@ -67,7 +67,7 @@ impl Stand {
         let mut same = 0_u64;
         let mut row = Vec::new(alloc);
         for at in 0..many.count {
-            if self.has(at, &row_of(alloc, at, many.size)?, &mut row) {
+            if self.has(at, &filled_row(alloc, at, many.size)?, &mut row) {
                 same = same.saturating_add(1);
             }
         }
