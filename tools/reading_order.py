@@ -243,8 +243,8 @@ CHAPTERS = [
      'What a head says of its body and its connection, what a path asks for, the commands of bodies, and the texts of '
      'answers.',
      ['sect_head/specs/' + n + '.antt' for n in ('Blank', 'Framing', 'Closing', 'Outcome')]
-     + ['sect_route/specs/Targets.antt']
-     + ['sect_json/specs/' + n + '.antt' for n in ('Values', 'Bodies', 'Answers')]
+     + ['sect_answer/specs/Targets.antt']
+     + ['sect_wire/specs/' + n + '.antt' for n in ('Values', 'Bodies', 'Answers')]
      + ['sect_talk/specs/' + n + '.antt' for n in ('Pages', 'Said')]),
     ('One connection',
      'What a connection asks and is answered, over any state; and what comes of waiting for a head or a body.',

@@ -1,1 +1,5 @@
 pub mod Targets
+pub mod RoutePaths
+pub mod Routed
+pub mod Seek
+pub mod Utf8

@@ -3,10 +3,10 @@ use Rattle.std.proofs.Common.{◌≡◌, ℕ, List, Option, None, Some, refl, sy
 use Rattle.std.specs.Prelude.{Result}
 use Rattle.sect_command.specs.declared.command.Command.{Command}
 use Rattle.sect_command.specs.declared.view.Query.{Query}
-use Rattle.sect_route.specs.Targets.{IsTarget}
-use Rattle.sect_route.specs.declared.target.Target.{Target}
-use Rattle.sect_route.specs.declared.target.Target.TheVariants.{Look}
-use Rattle.sect_json.specs.Bodies.{command_of}
+use Rattle.sect_answer.specs.Targets.{IsTarget}
+use Rattle.sect_answer.specs.declared.target.Target.{Target}
+use Rattle.sect_answer.specs.declared.target.Target.TheVariants.{Look}
+use Rattle.sect_wire.specs.Bodies.{command_of}
 use Rattle.sect_answer.specs.Errands.{HasTarget, IsErrand, errand_for, path_of}
 use Rattle.sect_answer.specs.declared.errand.Errand.{Errand}
 

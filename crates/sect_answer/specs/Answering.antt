@@ -9,7 +9,7 @@ use Rattle.sect_command.specs.declared.reply.Reply.{Reply}
 use Rattle.sect_command.specs.declared.view.Query.{Query}
 use Rattle.sect_command.specs.declared.view.View.{View}
 use Rattle.sect_edge.specs.Clock.{GivesDay}
-use Rattle.sect_json.specs.Answers.{answer_body, answer_status}
+use Rattle.sect_wire.specs.Answers.{answer_body, answer_status}
 use Rattle.sect_office.specs.Offices.{Shows}
 use Rattle.sect_once.specs.declared.answer.Answer.{Answer}
 use Rattle.sect_once.specs.declared.answer.Answer.TheVariants as answers

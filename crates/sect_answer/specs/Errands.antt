@@ -3,13 +3,13 @@ use Rattle.std.specs.Prelude.{◌≡◌, ℕ, List, [], if◌then◌else◌, Opt
 use Rattle.std.specs.Str.{bytes_eq}
 use Rattle.sect_base.specs.declared.limit.Id.{Id}
 use Rattle.sect_command.specs.declared.command.Command.{Command}
-use Rattle.sect_json.specs.Bodies.{command_of}
+use Rattle.sect_wire.specs.Bodies.{command_of}
 use Rattle.sect_talk.specs.Pages.{method_text}
 use Rattle.sect_talk.specs.declared.page.Method.TheVariants.{Get, Post}
 use Rattle.sect_read.specs.Fits.{FitsCommand, FitsDay, FitsId}
-use Rattle.sect_route.specs.Targets.{IsTarget}
-use Rattle.sect_route.specs.declared.target.Target.{Target}
-use Rattle.sect_route.specs.declared.target.Target.TheVariants.{Ask, Look}
+use Rattle.sect_answer.specs.Targets.{IsTarget}
+use Rattle.sect_answer.specs.declared.target.Target.{Target}
+use Rattle.sect_answer.specs.declared.target.Target.TheVariants.{Ask, Look}
 use Rattle.sect_words.specs.Parts.{pieces}
 use Rattle.sect_words.specs.Reading.{first_part}
 use Rattle.sect_answer.specs.declared.errand.Errand.{Errand}

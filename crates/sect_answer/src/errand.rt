@@ -2,18 +2,18 @@
 
 ghost use Rattle.std.specs.Prelude.{◌≡◌, IfOk, IfSome, IfNone, Result, Ok, Err, Some, ℕ};
 ghost use Rattle.sect_command.specs.declared.command.Command.{Command};
-ghost use Rattle.sect_json.specs.Bodies.{command_of};
+ghost use Rattle.sect_wire.specs.Bodies.{command_of};
 ghost use Rattle.sect_talk.specs.Pages.{method_text};
 ghost use Rattle.sect_read.specs.Fits.{FitsId};
-ghost use Rattle.sect_route.specs.declared.target.Target.TheVariants.{Ask, Look};
+ghost use Rattle.sect_answer.specs.declared.target.Target.TheVariants.{Ask, Look};
 ghost use Rattle.sect_answer.specs.Errands.{FitsErrand, IsErrand, errand_for, path_of};
 
+use crate::{Routes, Target};
 use sect_base::{Id, Memory};
 use sect_command::{Command, Query};
-use sect_json::{a_read_command_has_a_text, read_body};
 use sect_read::WireFault;
-use sect_route::{Routes, Target};
 use sect_talk::Method;
+use sect_wire::{a_read_command_has_a_text, read_body};
 use sect_words::{Parts, same_bytes};
 use std::alloc::Global;
 

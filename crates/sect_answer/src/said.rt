@@ -7,9 +7,9 @@ ghost use Rattle.sect_talk.specs.Said.{no_command, no_route, other_method, json_
 use http::StatusCode;
 use sect_base::{Memory, append};
 use sect_command::Reply;
-use sect_json::print_answer;
 use sect_once::Answer;
 use sect_talk::{Kind, Method, Page};
+use sect_wire::print_answer;
 
 /// A page of JSON, and whether the connection closes behind it.
 pub fn json_page(status: StatusCode, allow: Option<Method>, closing: bool) -> Page

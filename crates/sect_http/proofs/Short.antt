@@ -26,7 +26,7 @@ use Rattle.sect_talk.specs.Said.{Said, error_body, json_page, no_memory}
 use Rattle.sect_talk.specs.declared.page.Method.{Method}
 use Rattle.sect_talk.specs.declared.page.Method.TheVariants.{Get, Post}
 use Rattle.sect_talk.specs.declared.page.Page.{Page}
-use Rattle.sect_json.specs.Answers.{answer_body}
+use Rattle.sect_wire.specs.Answers.{answer_body}
 use Rattle.sect_talk.specs.Asked.{Asked, Bytes, Head, Whole}
 use Rattle.sect_http.specs.Answers.{Answers}
 use Rattle.sect_http.specs.Hearing.{IsFramed}

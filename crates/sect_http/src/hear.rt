@@ -17,11 +17,10 @@ ghost use Rattle.sect_talk.specs.declared.end.End.TheVariants.{ReadFault, WriteF
 
 use crate::heard::{Heard, Marks, Wish};
 use httparse::spans::{EMPTY_HEADER_SPAN, HeaderSpan, RequestSpans};
-use sect_answer::{Errand, read_errand};
+use sect_answer::{Errand, Routes, read_errand};
 use sect_base::Memory;
 use sect_edge::Source;
 use sect_head::{Framing, Refusal, blank_lines, closes_by, framing};
-use sect_route::Routes;
 use sect_talk::{Came, End, Room, await_body, await_head};
 use sect_words::same_bytes;
 use std::alloc::Global;

@@ -11,12 +11,12 @@ ghost use Rattle.sect_talk.specs.Talk.{Talked};
 ghost use Rattle.sect_turn.specs.Passes.{front, opening, own_calls, share, IsIdle, IsPassOf};
 
 use crate::turn::{pass_gate, turn};
+use sect_answer::Routes;
 use sect_base::Memory;
 use sect_command::{Command, Query, Reply, View};
 use sect_edge::{Clock, Gate, Keeper, Sink, Source};
 use sect_office::Office;
 use sect_once::{Desk, Object};
-use sect_route::Routes;
 use sect_talk::{End, Room, no_memory, write_all};
 use sect_turn::Pass;
 use std::alloc::Global;

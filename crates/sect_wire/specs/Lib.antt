@@ -3,3 +3,6 @@ pub use Rattle.sect_read.specs.Laws
 pub use Rattle.sect_read.specs.Lines
 pub use Rattle.sect_read.specs.ReadingLines
 pub mod Objects
+pub mod Answers
+pub mod Bodies
+pub mod Values

@@ -1,13 +1,19 @@
-//! Lines, commands, replies, entry rows, bodies and answers as texts, both ways, and objects that are asked what texts say.
+//! Lines, commands, replies, entry rows, bodies of JSON and answers as texts, both ways, and objects that are asked what texts
+//! say.
 #![tactic(auto)]
 
+mod answer;
+mod body;
+mod field;
+mod from_json;
+mod law;
 mod object;
+mod verbs;
 
+pub use answer::print_answer;
+pub use body::read_body;
+pub use law::{a_read_command_has_a_text, a_reply_stands_as_it_is, an_answer_is_read_again};
 pub use object::TextObject;
-pub use sect_json::{
-    a_read_command_has_a_text, a_reply_stands_as_it_is, an_answer_is_read_again, print_answer,
-    read_body,
-};
 pub use sect_read::{
     LineAsk, WireFault, a_line_asks_one_request, a_printed_request_is_a_line_that_asks_it,
     a_printed_text_is_of_one_command, a_row_is_of_one_entry, a_text_is_of_one_reply,

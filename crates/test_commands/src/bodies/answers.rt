@@ -2,9 +2,9 @@
 
 use sect_base::Memory;
 use sect_command::Reply;
-use sect_json::print_answer;
 use sect_once::Answer;
 use sect_read::read_reply;
+use sect_wire::print_answer;
 use sect_words::{print_bytes, print_number, print_text};
 use std::alloc::Global;
 

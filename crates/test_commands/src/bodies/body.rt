@@ -1,9 +1,9 @@
 // Bodies are read.
 
 use sect_base::Memory;
-use sect_json::read_body;
 use sect_read::WireFault;
 use sect_text::print_command;
+use sect_wire::read_body;
 use sect_words::{print_number, print_text};
 
 /// Puts the command that a body says, or why it says none, behind the text.

@@ -3,10 +3,10 @@
 ghost use Rattle.std.specs.Prelude.{◌≤◌, length};
 
 use httparse::spans::EMPTY_HEADER_SPAN;
+use sect_answer::{Routes, Target};
 use sect_base::Memory;
 use sect_command::Query;
 use sect_head::{Framing, HeadRead, Refusal, closes_by, framing, read_head};
-use sect_route::{Routes, Target};
 use sect_words::{print_number, print_whole};
 
 fn refusal_word(refusal: Refusal) -> &'static [u8] {

@@ -1,6 +1,6 @@
 -- A path of a report.
-use Rattle.sect_json.specs.Bodies.{command_of}
-use Rattle.sect_route.specs.declared.target.Target.TheVariants.{Look}
+use Rattle.sect_wire.specs.Bodies.{command_of}
+use Rattle.sect_answer.specs.declared.target.Target.TheVariants.{Look}
 use Rattle.sect_answer.proofs.Targets.{errand_found, errand_only}
 use Rattle.sect_answer.proofs.errand.read_errand.Goals as goal
 

@@ -1,4 +1,0 @@
-pub mod Paths
-pub mod Routed
-pub mod Seek
-pub mod Utf8
