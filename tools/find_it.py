@@ -364,7 +364,7 @@ GROUPS = [
          ['sect_shown/src/shown.rt: print_timetable'], 'sect_shown/src/examples.rt: shown'),
         ('`make`', '`make`', ['sect_making/specs/Generated.antt: generated'], ['sect_making/src/maker.rt: make'],
          ROWS + '# the sink of what is told: make 1'),
-        ('Opening a history', 'A term that lasts', ['sect_once/specs/History.antt: IsReplay'], ['sect_once/src/replay.rt: open'],
+        ('Opening a history', 'A term that lasts', ['sect_once/specs/History.antt: IsReplay'], ['sect_once/src/opening.rt: open'],
          'test_units/src/tests/tally/alone.rt: rows_are_replayed'),
         ('The journal, and a crash', 'A term that lasts', ['sect_journal/specs/Disk.antt: IsImage',
          'sect_journal/specs/Runs.antt: acknowledged', 'sect_lasting/specs/Lasting.antt: ComesBack'],

@@ -10,8 +10,8 @@ mod desk;
 mod entry;
 mod key;
 mod object;
+mod opening;
 mod past;
-mod replay;
 mod tally;
 
 pub use again::replay;
