@@ -1,3 +1,3 @@
-pub mod Fields
+pub mod FieldLemmas
 pub mod Lists
 pub mod Steps

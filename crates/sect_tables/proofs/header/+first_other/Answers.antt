@@ -1,7 +1,7 @@
 use Rattle.std.proofs.Common.{List, ℕ, Bor, ap, sym, ◌∙◌}
 use Rattle.std.specs.Prelude.{option_map}
 use Rattle.csv.specs.Records.{fields_of}
-use Rattle.sect_tables.proofs.Fields.{field_left, name_left, none_left, other_here, same_here}
+use Rattle.sect_tables.proofs.FieldLemmas.{field_left, name_left, none_left, other_here, same_here}
 use Rattle.sect_tables.proofs.header.+first_other.Goals as goal
 
 pub returns-in-empty-None : goal.returns-in-empty-None

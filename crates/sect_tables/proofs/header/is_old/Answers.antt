@@ -2,7 +2,7 @@ use Rattle.std.proofs.Common.{ap, sym, ◌∙◌}
 use Rattle.std.specs.Prelude.{is_none}
 use Rattle.csv.specs.Records.{fields_of}
 use Rattle.sect_tables.specs.Rows.{is_old_header}
-use Rattle.sect_tables.proofs.Fields.{by_not}
+use Rattle.sect_tables.proofs.FieldLemmas.{by_not}
 use Rattle.sect_tables.proofs.header.is_old.Goals as goal
 
 pub returns-in-Reservations : goal.returns-in-Reservations
