@@ -17,10 +17,3 @@ pub(super) fn read_second<K: Keeper>(rt: &impl Abort, alloc: Global, keeper: &mu
     assert!(rt; keeper.row(1, &mut row) == Ok(true));
     assert!(rt; row.as_slice() == b"cd".as_slice());
 }
-
-/// Reads none behind them.
-pub(super) fn read_none_behind<K: Keeper>(rt: &impl Abort, alloc: Global, keeper: &mut K) {
-    let mut row = Vec::new(alloc);
-    assert!(rt; keeper.row(2, &mut row) == Ok(false));
-    assert!(rt; keeper.row(u64::MAX, &mut row) == Ok(false));
-}
