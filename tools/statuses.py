@@ -107,7 +107,7 @@ def keeper(option, fresh):
 
 
 def many(option, path):
-    """More rows than are read at once, the longest of some two thousand bytes."""
+    """More rows than are read at once, the longest of some seven hundred bytes."""
     lines = [b'@2025-08-01 r1 %d student %d max 18' % (number, number) for number in range(1, 601)]
     lines += [b'@2025-08-01 r1 %d batch %s' % (601 + count, b'+'.join(b'%d' % number for number in range(1, count)))
               for count in range(2, 201)]
