@@ -127,8 +127,7 @@ CHAPTERS = [
     ('The lists of the world',
      'What the containers of enrolments, reservations and restrictions show, and what undoing a change of them gives '
      'back.',
-     ['sect_roster/specs/' + n + '.antt' for n in ('Slots', 'Listed', 'Last', 'Undone')]
-     + ['sect_roster/specs/Rostered.antt']),
+     ['sect_roster/specs/' + n + '.antt' for n in ('Slots', 'Listed', 'Last', 'Undone', 'Rostered')]),
     ('Numbers beside the enrolments',
      'Counts by id, the numbers of a world, and what one enrolment more, one less and each other change do to them.',
      ['sect_base/specs/' + n + '.antt' for n in ('Slots', 'Table')]
@@ -259,7 +258,7 @@ CHAPTERS = [
      + ['sect_http/specs/' + n + '.antt' for n in ('Answers', 'Hearing', 'Telling', 'Turns')]),
     ('Many connections',
      'What a worker does with its link, what it is to serve many links at one desk, and whose rows their answers name.',
-     ['sect_serve/specs/' + n + '.antt' for n in ('Talks', 'Working', 'Serving')] + ['sect_serve/specs/Printed.antt']),
+     ['sect_serve/specs/' + n + '.antt' for n in ('Talks', 'Working', 'Serving', 'Printed')]),
     ('What the desk does',
      'What is done for the words of the command line; what valid input is, and how many answers tell a fault of the keeper.',
      ['sect_app/specs/' + n + '.antt' for n in ('Top', 'Returns', 'Machine', 'Serving', 'Valid', 'Faulted', 'Status')]),
