@@ -14,17 +14,21 @@ use std::marker::Model;
 pub struct Parts<'a> {
     text: &'a [u8],
     mark: u8,
+    // The place of the first mark. It is found once a part, and asked for as often as the part is.
+    end: Option<usize>,
     // Whether the last part was taken.
     done: bool,
 }
 
 impl<'a> Model for Parts<'a> {
-    ghost use Rattle.std.specs.Prelude.{ℕ, List};
+    ghost use Rattle.std.specs.Prelude.{◌≡◌, ◌==◌, ℕ, List, position};
     ghost use Rattle.sect_words.specs.Parts.{parts_left};
 
     ghost Value = { List (List ℕ) };
 
     ghost view = { λ p. parts_left p.done p.mark p.text.now };
+
+    ghost invariant = { λ p. p.end ≡ position (λ byte. byte == p.mark) p.text.now };
 }
 
 /// The place of the first mark.
@@ -50,6 +54,7 @@ impl<'a> Parts<'a> {
         Parts {
             text,
             mark,
+            end: mark_in(text, mark),
             done: false,
         }
     }
@@ -61,7 +66,7 @@ impl<'a> Parts<'a> {
         if self.done {
             return None;
         }
-        match mark_in(self.text, self.mark) {
+        match self.end {
             Some(at) => Some(&self.text[..at]),
             None => Some(self.text),
         }
@@ -74,8 +79,11 @@ impl<'a> Parts<'a> {
         if self.done {
             return;
         }
-        match mark_in(self.text, self.mark) {
-            Some(at) => self.text = behind(self.text, at),
+        match self.end {
+            Some(at) => {
+                self.text = behind(self.text, at);
+                self.end = mark_in(self.text, self.mark);
+            }
             None => self.done = true,
         }
     }
@@ -89,9 +97,10 @@ impl<'a> Parts<'a> {
             return None;
         }
         let text = self.text;
-        match mark_in(text, self.mark) {
+        match self.end {
             Some(at) => {
                 self.text = behind(text, at);
+                self.end = mark_in(self.text, self.mark);
                 Some(&text[..at])
             }
             None => {
