@@ -25,7 +25,6 @@ REGISTRARS = 'What registrars send'
 STUDENTS = 'What students send'
 TABLES = 'Tables: `import` and `export`'
 OVER_HTTP = 'Answers over HTTP'
-STATUS = 'sect_app/specs/Status.antt: '
 ENDS = 'sect_script/specs/Statuses.antt: '
 
 # each group: its heading, and its rows
@@ -372,25 +371,25 @@ GROUPS = [
          ROWS + '# a crash after each call of an append'),
     ]),
     ('Statuses of the program', [
-        ('0', 'Statuses', [STATUS + 'status_number'], ['sect_app/src/status.rt: number_of'],
+        ('0', 'Statuses', [ENDS + 'status_number'], ['sect_script/src/status.rt: number_of'],
          ROWS + '# no lines, and a second line that is none'),
         ('2, other words', 'Statuses', ['sect_usage/specs/Grammar.antt: words_of'], ['sect_usage/src/words.rt: read_words'],
          ROWS + '# words that are none'),
-        ('3, a line', 'Statuses', [ENDS + 'status_of'], ['sect_script/src/status.rt: status_of', 'sect_app/src/status.rt: print_bad_line'],
+        ('3, a line', 'Statuses', [ENDS + 'status_of'], ['sect_script/src/status.rt: status_of', 'sect_script/src/status.rt: print_bad_line'],
          ROWS + '# no lines, and a second line that is none'),
         ('3, a row of a table', 'Statuses', ['sect_intake/specs/Table.antt: EndsTable'], ['sect_intake/src/shown.rt: bad_row',
-         'sect_app/src/status.rt: print_bad_line'],
+         'sect_script/src/status.rt: print_bad_line'],
          ROWS + '# a bad row ends an import; the commands that were complete before it are answered and kept'),
         ('4, the source', 'Statuses', [ENDS + 'status_of'], ['sect_script/src/status.rt: status_of'], ROWS + '# the source of a script'),
         ('5, the sink', 'Statuses', [ENDS + 'status_of'], ['sect_script/src/status.rt: status_of'], ROWS + '# the sink of a script'),
-        ('6, the keeper', 'Statuses', [STATUS + 'status_number'], ['sect_main/src/keepers.rt: keeper_of', 'sect_asking/src/runs.rt: shut_status'],
+        ('6, the keeper', 'Statuses', [ENDS + 'status_number'], ['sect_main/src/keepers.rt: keeper_of', 'sect_asking/src/runs.rt: shut_status'],
          ROWS + '# the opening of a keeper with three rows: run'),
-        ('7, a bad row', 'Statuses', [STATUS + 'status_text'], ['sect_app/src/status.rt: print_bad_entry'],
+        ('7, a bad row', 'Statuses', [ENDS + 'status_text'], ['sect_script/src/status.rt: print_bad_entry'],
          ROWS + '# a keeper with a row that can not be read'),
         ('7, a bad journal', 'Statuses', ['sect_journal/specs/Opening.antt: IsBadAt'], ['sect_main/src/keepers.rt: open_journal',
          'sect_journal/src/open.rt: open'], ROWS + '# a text that ends too early, and none'),
         ('8, the links', 'Statuses', ['sect_app/specs/Serving.antt: serve_status'], ['sect_app/src/serving.rt: serve_status'],
          ROWS + '# the link of a worker'),
-        ('9, memory', 'Statuses', [STATUS + 'status_number'], ['sect_app/src/status.rt: number_of'], '../tools/refusals.py: --fail-alloc'),
+        ('9, memory', 'Statuses', [ENDS + 'status_number'], ['sect_script/src/status.rt: number_of'], '../tools/refusals.py: --fail-alloc'),
     ]),
 ]

@@ -261,7 +261,7 @@ CHAPTERS = [
      ['sect_serve/specs/' + n + '.antt' for n in ('Talks', 'Working', 'Serving', 'Printed')]),
     ('What the desk does',
      'What is done for the words of the command line; what valid input is, and how many answers tell a fault of the keeper.',
-     ['sect_app/specs/' + n + '.antt' for n in ('Top', 'Returns', 'Machine', 'Serving', 'Valid', 'Faulted', 'Status')]),
+     ['sect_app/specs/' + n + '.antt' for n in ('Top', 'Returns', 'Machine', 'Serving', 'Valid', 'Faulted')]),
     ('The journal',
      'What a crash may leave of a disk, the text of a journal and its rows.',
      ['sect_journal/specs/' + n + '.antt' for n in ('Disk', 'Text', 'Standing', 'Opening', 'Runs')]),

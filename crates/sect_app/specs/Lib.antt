@@ -2,6 +2,5 @@ pub mod Faulted
 pub mod Returns
 pub mod Machine
 pub mod Serving
-pub mod Status
 pub mod Top
 pub mod Valid

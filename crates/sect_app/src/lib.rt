@@ -4,12 +4,11 @@
 pub mod laws;
 mod over;
 mod serving;
-mod status;
 mod top;
 
 pub use sect_script::{
-    Handler, LineEnd, LineError, LineFault, LineReader, RunEnd, Status, run_lines, write_all,
+    Handler, LineEnd, LineError, LineFault, LineReader, RunEnd, Status, number_of, print_status,
+    run_lines, write_all,
 };
 pub use sect_usage::{Needs, Paths, WordFault, Words, needs, read_words};
-pub use status::{number_of, print_status};
 pub use top::desk;

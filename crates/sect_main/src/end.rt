@@ -1,6 +1,6 @@
 // How a program ends.
 
-use sect_app::{Status, number_of, print_status};
+use sect_script::{Status, number_of, print_status};
 use std::io;
 use std::io::Write;
 use std::process::ExitCode;

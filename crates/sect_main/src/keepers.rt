@@ -1,10 +1,10 @@
 // The keeper that the words name.
 
 use crate::end::End;
-use sect_app::Status;
 use sect_edge::KeepFault;
 use sect_journal::{Journal, JournalFault};
 use sect_real::{AnyKeeper, FileDisk, SqliteKeeper};
+use sect_script::Status;
 use sect_usage::Paths;
 use std::alloc::{AllocFailed, AllocGlobal};
 use std::io;

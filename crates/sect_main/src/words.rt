@@ -1,6 +1,6 @@
 // The words of the command line.
 
-use sect_app::Status;
+use sect_script::Status;
 use std::{env, io};
 
 /// The words behind the program's name. One that is no text is a bad word.

@@ -8,5 +8,5 @@ mod write;
 
 pub use reader::{LineEnd, LineError, LineReader};
 pub use script::{Handler, LineFault, RunEnd, run_lines};
-pub use status::{Status, status_of};
+pub use status::{Status, number_of, print_status, status_of};
 pub use write::{Unwritten, gather, say, write_all, write_out};
