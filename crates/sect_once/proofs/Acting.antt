@@ -117,12 +117,9 @@ module _ {O C R K : Type 0} (stepped : O → ℕ → Caller → C → O × R) (i
   pub repeat_answer : (d : Standing O C R K) (id : Id) (day : ℕ) (command : C) (place : ℕ) (a : Answer R) (e : Entry C R) → ActsOnce (history d.log) → slice_get (history d.log) place ≡ Some e → e.id ≡ id → e.command ≡ command
       → ((a ≡ Memory) ⊎ ((f : Entry C R) × (slice_get (history d.log) place ≡ Some f) × (a ≡ Done place f.reply))) → KeepsRows (rows d.keeper) (rows d.keeper) → Answers stepped is_row rows faults id day command d d a
   repeat_answer d id day command place a e once at id_is command_is said stays = ⊎_elim
-      (λ (m : a ≡ Memory). subst (Answers stepped is_row rows faults id day command d d) (sym m) record { roomy = λ new full. new place e at id_is; other = λ q o. none_other q o (once place q e o.entry at o.at (id_is ∙ sym o.id_is)); object = refl; log = refl; base = refl; rows_stay = stays; faults_grow = omega arith })
+      (λ (m : a ≡ Memory). subst (Answers stepped is_row rows faults id day command d d) (sym m) record { roomy = λ new full. new place e at id_is; object = refl; log = refl; base = refl; rows_stay = stays; faults_grow = omega arith })
       (λ (t : (f : Entry C R) × (slice_get (history d.log) place ≡ Some f) × (a ≡ Done place f.reply)). let same : e ≡ t.0 = cc in
       subst (Answers stepped is_row rows faults id day command d d) (sym t.2) (record { entry = e; at = at; id_is = id_is; command_is = command_is; reply_is = ap (λ (x : Entry C R). x.reply) same }, inl refl)) said
-    where
-      none_other : (q : ℕ) (o : HasOther d.log q id command) → place ≡ q → ⊥
-      none_other q o p = let same : e ≡ o.entry = cc in o.command_differs (sym (ap (λ (x : Entry C R). x.command) same) ∙ command_is)
 
   pub follows_answer : (id : Id) (day : ℕ) (command : C) (d n : Standing O C R K) (a : Answer R) → Answers stepped is_row rows faults id day command d n a
       → (n.log ≡ d.log) ⊎ ((note : Note C R) × (n.log ≡ d.log ++ note ∷ []))

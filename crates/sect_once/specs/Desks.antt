@@ -120,10 +120,9 @@ module _ {O C R K : Type 0} (stepped : O → ℕ → Caller → C → O × R) (i
     pub base : n.base ≡ d.base
     pub rows_stay : KeepsRows (rows d.keeper) (rows n.keeper)
 
-  -- memory was wanted for a repeat or in a log with room, and no other command has the id: the log, the object and the rows are as before
+  -- memory was wanted for a repeat or in a log with room: the log, the object and the rows are as before
   pub record IsSame (id : Id) (command : C) (d n : Standing O C R K) : Type 0 where
     pub roomy : IsNew id (history d.log) → IsFull is_row d.log → ⊥
-    pub other : (place : ℕ) → HasOther d.log place id command → ⊥
     pub object : n.object ≡ d.object
     pub log : n.log ≡ d.log
     pub base : n.base ≡ d.base
