@@ -14,7 +14,7 @@ use Rattle.sect_once.specs.declared.answer.Answer.{Answer}
 use Rattle.sect_once.specs.declared.answer.Answer.TheVariants.{Done, NumberReused, LogFull, KeeperFault, Memory}
 use Rattle.sect_once.specs.declared.answer.Seen.{Seen}
 use Rattle.sect_once.specs.declared.answer.Seen.TheVariants.{New, Place, Reused}
-use Rattle.sect_once.specs.History.{IsLegal, faulted, history, log_of, acting, faulting, ActsOnce, HasRow, HaveBytes, IsFull, IsIndex, IsNew, IsReplay, NeverFull, TellsRows, state_after}
+use Rattle.sect_once.specs.History.{IsLegal, faulted, history, log_of, acting, faulting, ActsOnce, HasRow, IsFull, IsIndex, IsNew, IsReplay, NeverFull, TellsRows, state_after}
 use Rattle.sect_once.specs.Faults.{AtMostFaults}
 
 -- an object and the entries that brought it where it is
@@ -44,11 +44,11 @@ module _ {O C R : Type 0} (start : O) (stepped : O → ℕ → Caller → C → 
     pub short : length trail.entries ≤ 2 ^ 20
 
   -- what the fields of a past keep
-  pub record IsPast {S : Type 0} (is_row : Entry C R → List ℕ → Type 0) (object : O) (entries : List (Entry C R)) (places : HashMap ℕ ℕ S) (row_bytes : ℕ) : Type 0 where
+  pub record IsPast {S : Type 0} (is_row : Entry C R → List ℕ → Type 0) (object : O) (entries : List (Entry C R)) (places : HashMap ℕ ℕ S) (rows : List (List ℕ)) : Type 0 where
     pub replayed : object ≡ state_after stepped start entries
     pub replies : IsReplay stepped start entries
     pub index : IsIndex places entries
-    pub bytes : HaveBytes is_row entries row_bytes
+    pub are_rows : AllZip is_row entries rows
     pub short : length entries ≤ 2 ^ 20
 
 module _ {C R : Type 0} where
