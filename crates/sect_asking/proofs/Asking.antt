@@ -29,7 +29,7 @@ is_told stepped is_row rows faults d n id day command (answers.Done place reply)
 is_told stepped is_row rows faults d n id day command (answers.NumberReused place) h room quiet = h.0
 is_told stepped is_row rows faults d n id day command answers.LogFull h room quiet = room h.1
 is_told stepped is_row rows faults d n id day command answers.KeeperFault h room quiet = quiet h.rose
-is_told stepped is_row rows faults d n id day command answers.Memory h room quiet = h.other
+is_told stepped is_row rows faults d n id day command answers.Memory h room quiet = tt
 
 -- the command of a line has a text
 command_fits : (command : Command) (words : List (List ℕ)) → IsCommand true command words → FitsCommand command

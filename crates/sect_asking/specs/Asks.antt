@@ -35,14 +35,13 @@ IsAsking false line = (ask : LineAsk) × IsLine line ask
 abbrev pub IsKnown : List ℕ → Type 0
 IsKnown line = IsAsking (is_passed_over line) line
 
--- a request that finds room and meets no fault is Done, or told the place of an entry with its id and another command, or where
--- there is no such entry told that memory was wanted
+-- a request that finds room and meets no fault is Done, told the place of an entry with its id and another command, or told that memory was wanted
 abbrev pub IsTold : List (Note Command Reply) → Id → Command → Answer Reply → Type 0
 IsTold log id command (answers.Done place reply) = ⊤
 IsTold log id command (answers.NumberReused place) = HasOther log place id command
 IsTold log id command answers.LogFull = ⊥
 IsTold log id command answers.KeeperFault = ⊥
-IsTold log id command answers.Memory = (place : ℕ) → HasOther log place id command → ⊥
+IsTold log id command answers.Memory = ⊤
 
 -- the day that the line names, or else the clock's next
 abbrev pub IsAskedOn : Option ℕ → Option (List ℕ) → Option (List ℕ) → ℕ → Type 0

@@ -23,7 +23,7 @@ module _ {O C R K : Type 0} (stepped : O → ℕ → Caller → C → O × R) (i
   WouldAnswer id day command d (NumberReused place) = HasOther d.log place id command
   WouldAnswer id day command d LogFull = IsNew id (history d.log) × IsFull is_row d.log
   WouldAnswer id day command d KeeperFault = ⊥
-  WouldAnswer id day command d Memory = (IsNew id (history d.log) → IsFull is_row d.log → ⊥) × ((place : ℕ) → HasOther d.log place id command → ⊥)
+  WouldAnswer id day command d Memory = IsNew id (history d.log) → IsFull is_row d.log → ⊥
 
 module _ {R : Type 0} where
   -- the answer tells of no fault of the keeper and no want of memory

@@ -50,7 +50,8 @@ fn print_explanation<K: Keeper>(
 {
     if place < desk.acted() {
         let machine: Machine = replay(alloc, desk, place)?;
-        print_entry(alloc, &machine, desk.entry(place), into)?;
+        let entry = desk.entry(place)?;
+        print_entry(alloc, &machine, &entry, into)?;
     } else {
         print_unknown("place", place, into)?;
     }

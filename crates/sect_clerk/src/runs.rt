@@ -67,7 +67,7 @@ where
 {
     match replay(alloc, &desk, desk.acted()) {
         Ok(object) => {
-            let mut trier = Trier::new(alloc, desk, object, clock);
+            let mut trier = Trier::new(desk, object, clock);
             let end = run_lines(alloc, source, sink, &mut trier);
             (status_of(end), trier.close())
         }

@@ -21,13 +21,11 @@ use sect_read::LineAsk;
 use sect_script::{Handler, LineFault};
 use sect_time::Day;
 use sect_wire::TextObject;
-use std::alloc::Global;
 use std::marker::Model;
 
 /// A desk, an object in the desk's state on which requests act to be taken back, and the clock that gives the day of
 /// those that name none.
 pub struct Trier<O: Object, K: Keeper, C: Clock> {
-    alloc: Global,
     desk: Desk<O, K>,
     object: O,
     clock: C,
@@ -37,7 +35,6 @@ pub struct Trier<O: Object, K: Keeper, C: Clock> {
 impl<O: Object + Drop, K: Keeper + Drop, C: Clock + Drop> Drop for Trier<O, K, C> {
     fn drop(self) {
         let Trier {
-            alloc: _,
             desk: _,
             object: _,
             clock: _,
@@ -59,13 +56,12 @@ impl<O: Object, K: Keeper, C: Clock> Model for Trier<O, K, C> {
 
 impl<O: Object, K: Keeper, C: Clock> Trier<O, K, C> {
     /// The desk, with an object in the same state.
-    pub fn new(alloc: Global, desk: Desk<O, K>, object: O, clock: C) -> Self
+    pub fn new(desk: Desk<O, K>, object: O, clock: C) -> Self
         requires sound { IsSound O.stepped O.is_row K.rows K.faults O.start desk }
         requires same { O.state object ≡ desk.object }
         ensures { result ≡ record { desk = desk; days = C.days clock } }
     {
         Trier {
-            alloc,
             desk,
             object,
             clock,
@@ -80,7 +76,6 @@ impl<O: Object, K: Keeper, C: Clock> Trier<O, K, C> {
         ensures { result ≡ self.desk.keeper }
     {
         let Trier {
-            alloc: _,
             desk,
             object: _,
             clock: _,
@@ -96,15 +91,16 @@ impl<O: TextObject, K: Keeper, C: Clock> Trier<O, K, C> {
         ensures same { self.new ≡ self.old }
     {
         match self.desk.find(id, command) {
-            Seen::Place(place) => self.repeat(place),
-            Seen::Reused(place) => Answer::NumberReused(place),
-            Seen::New => {
+            Ok(Seen::Place(place)) => self.repeat(place),
+            Ok(Seen::Reused(place)) => Answer::NumberReused(place),
+            Ok(Seen::New) => {
                 if self.desk.is_full() {
                     Answer::LogFull
                 } else {
                     self.act(id, day, command)
                 }
             }
+            Err(_) => Answer::Memory,
         }
     }
 
@@ -113,8 +109,11 @@ impl<O: TextObject, K: Keeper, C: Clock> Trier<O, K, C> {
         requires { place < length (history self.now.desk.log) }
         ensures { (result ≡ NoMemory) ⊎ ((e : Entry Command Reply) × (slice_get (history self.now.desk.log) place ≡ Some e) × (result ≡ Done place e.reply)) }
     {
-        match O::copy_reply(self.alloc, &self.desk.entry(place).reply) {
-            Ok(reply) => Answer::Done { place, reply },
+        match self.desk.entry(place) {
+            Ok(entry) => Answer::Done {
+                place,
+                reply: entry.reply,
+            },
             Err(_) => Answer::Memory,
         }
     }

@@ -53,8 +53,8 @@ fn print_log<K: Keeper>(
 {
     let mut machine = Machine::empty(alloc);
     for place in 0..desk.acted() {
-        let entry = desk.entry(place);
-        print_next(&mut machine, log, place, entry, into)?;
+        let entry = desk.entry(place)?;
+        print_next(&mut machine, log, place, &entry, into)?;
     }
     Ok(())
 }

@@ -5,13 +5,14 @@ ghost use Rattle.sect_model.specs.World.{empty_state};
 ghost use Rattle.sect_model.specs.Look.{look as looked_at};
 ghost use Rattle.sect_model.specs.Step.{step as step_of};
 ghost use Rattle.sect_rows.specs.Laws.{MayAsk};
+ghost use Rattle.sect_read.specs.ReadingLines.{row_of};
 ghost use Rattle.sect_wire.specs.Laws.{IsRow};
 ghost use Rattle.sect_machine.specs.Standing.{state_in, Restores};
 
 use crate::machine::Machine;
 use crate::state::State;
 use crate::undo::MachineUndo;
-use sect_base::{Caller, Duplicate, Memory, Same};
+use sect_base::{Caller, Memory, Same};
 use sect_command::{Command, Query, Reply, View};
 use sect_once::{Entry, Object};
 use sect_space::World;
@@ -49,6 +50,8 @@ impl Object for Machine {
 
     ghost is_row = { IsRow };
 
+    ghost entry_of = { row_of };
+
     ghost may_ask = { MayAsk };
 
     fn empty(alloc: Global) -> Self {
@@ -85,10 +88,6 @@ impl Object for Machine {
         a.same(b)
     }
 
-    fn copy_reply(alloc: Global, reply: &Reply) -> Result<Reply, Memory> {
-        reply.copy(alloc)
-    }
-
     fn print_entry(entry: &Entry<Command, Reply>, into: &mut Vec<u8>) -> Result<(), Memory> {
         print_row(entry, into)
     }
@@ -97,11 +96,13 @@ impl Object for Machine {
         read_row(alloc, row)
     }
 
-    ghost use Rattle.sect_read.proofs.TextLaws.{one_row as row_is_one, one_entry as entry_is_one};
+    ghost use Rattle.sect_read.proofs.TextLaws.{one_row as row_is_one, one_entry as entry_is_one, row_again};
 
     ghost one_row = { row_is_one };
 
     ghost one_entry = { entry_is_one };
+
+    ghost reads_row = { row_again };
 
     ghost use Rattle.sect_rows.proofs.Histories.{entry-has-row as entry_has_row};
 

@@ -1,5 +1,5 @@
 -- What the fields of a desk keep when a request acts or is faulted, and what is answered then.
-use Rattle.std.proofs.Common.{◌≡◌, ℕ, ◌+◌, ◌^◌, ◌≤◌, ◌<◌, List, [], ◌∷◌, ◌++◌, length, refl, sym, ap, ◌∙◌, subst, inl, inr, ◌⊎◌, ⊎_elim, arith, Option, Some, None, length-append, slice_get}
+use Rattle.std.proofs.Common.{◌≡◌, ◌≢◌, ℕ, ◌+◌, ◌^◌, ◌≤◌, ◌<◌, List, [], ◌∷◌, ◌++◌, length, refl, sym, ap, ◌∙◌, subst, inl, inr, ◌⊎◌, ⊎_elim, arith, Option, Some, None, length-append, slice_get}
 use Rattle.std.proofs.Math.Nat.{lt_of_not-le}
 use Rattle.sect_base.specs.declared.limit.Id.{Id}
 use Rattle.sect_base.specs.declared.limit.Caller.{Caller}
@@ -13,7 +13,7 @@ use Rattle.sect_once.specs.declared.entry.Mark.TheVariants.{Acts as Acting, Faul
 use Rattle.sect_once.specs.declared.answer.Answer.{Answer}
 use Rattle.sect_once.specs.declared.answer.Answer.TheVariants.{Done, NumberReused, LogFull, KeeperFault, Memory}
 use Rattle.sect_once.specs.Faults.{AtMostFaults}
-use Rattle.sect_once.specs.History.{ActsOnce, history, log_of, acting, faulting, AreHeavy, IsFull, IsNew, IsReplay, state_after}
+use Rattle.sect_once.specs.History.{ActsOnce, history, log_of, acting, faulting, IsFull, IsNew, IsReplay, state_after}
 use Rattle.sect_once.specs.Desks.{IsDesk, IsSound, IsTrail, Trail, Standing, Adds, Acts, IsFaulted, HasEntry, HasOther, Answers}
 use Rattle.sect_once.proofs.Logs.{history-log_of, length-log_of, acting-le, log_of-acts, log_of-faults, acting-append, faulting-append, faulted-log_of, get-last}
 use Rattle.sect_once.proofs.Rows.{never_full-append, tells-adds, tells-keeps}
@@ -45,12 +45,11 @@ module _ {C R : Type 0} (is_row : Entry C R → List ℕ → Type 0) where
     counted = subst (λ n. AtMostFaults n base count') (let a = faulting-append marks (Faulting id) in omega arith) (one_fault (faulting marks) base count count' d.counted rose);
   }
 
-  -- the entries of a log with room are few enough and not too heavy
-  pub has_room : (marks : List Mark) (entries : List (Entry C R)) → acting marks ≡ length entries → (IsFull is_row (log_of marks entries) → ⊥) → (length entries < 2 ^ 20) × (AreHeavy is_row entries → ⊥)
-  has_room marks entries marked room = (
-    let few : length (log_of marks entries) < 2 ^ 20 = lt_of_not-le (λ (big : 2 ^ 20 ≤ length (log_of marks entries)). room (inl big)) in omega (arith, few, marked, length-log_of marks entries marked, acting-le marks),
-    λ (heavy : AreHeavy is_row entries). room (inr (subst (AreHeavy is_row) (sym (history-log_of marks entries marked)) heavy)),
-  )
+  -- the entries of a log with room are few enough
+  pub has_room : (marks : List Mark) (entries : List (Entry C R)) → acting marks ≡ length entries → (IsFull is_row (log_of marks entries) → ⊥) → length entries < 2 ^ 20
+  has_room marks entries marked room =
+      let few : length (log_of marks entries) < 2 ^ 20 = lt_of_not-le (λ (big : 2 ^ 20 ≤ length (log_of marks entries)). room (inl big)) in
+      omega (arith, few, marked, length-log_of marks entries marked, acting-le marks)
 
   pub desk_same : (marks : List Mark) (entries : List (Entry C R)) (told told' : Option (List (List ℕ))) (base count count' : ℕ)
       → IsDesk is_row marks entries told base count → KeepsRows told told' → count ≤ count' → IsDesk is_row marks entries told' base count'
@@ -113,16 +112,12 @@ module _ {O C R K : Type 0} (stepped : O → ℕ → Caller → C → O × R) (i
         counted = subst (λ n. AtMostFaults n base (faults keeper)) (sym (faulted-log_of marks past.entries k.marked)) k.counted;
       }
 
-  -- the answer to a repeat
-  pub repeat_answer : (d : Standing O C R K) (id : Id) (day : ℕ) (command : C) (place : ℕ) (a : Answer R) (e : Entry C R) → ActsOnce (history d.log) → slice_get (history d.log) place ≡ Some e → e.id ≡ id → e.command ≡ command
-      → ((a ≡ Memory) ⊎ ((f : Entry C R) × (slice_get (history d.log) place ≡ Some f) × (a ≡ Done place f.reply))) → KeepsRows (rows d.keeper) (rows d.keeper) → Answers stepped is_row rows faults id day command d d a
-  repeat_answer d id day command place a e once at id_is command_is said stays = ⊎_elim
-      (λ (m : a ≡ Memory). subst (Answers stepped is_row rows faults id day command d d) (sym m) record { roomy = λ new full. new place e at id_is; other = λ q o. none_other q o (once place q e o.entry at o.at (id_is ∙ sym o.id_is)); object = refl; log = refl; base = refl; rows_stay = stays; faults_grow = omega arith })
-      (λ (t : (f : Entry C R) × (slice_get (history d.log) place ≡ Some f) × (a ≡ Done place f.reply)). let same : e ≡ t.0 = cc in
-      subst (Answers stepped is_row rows faults id day command d d) (sym t.2) (record { entry = e; at = at; id_is = id_is; command_is = command_is; reply_is = ap (λ (x : Entry C R). x.reply) same }, inl refl)) said
-    where
-      none_other : (q : ℕ) (o : HasOther d.log q id command) → place ≡ q → ⊥
-      none_other q o p = let same : e ≡ o.entry = cc in o.command_differs (sym (ap (λ (x : Entry C R). x.command) same) ∙ command_is)
+  -- the answer to an id that an entry has
+  pub repeat_answer : (d : Standing O C R K) (id : Id) (day : ℕ) (command : C) (place : ℕ) (a : Answer R) (e : Entry C R) → slice_get (history d.log) place ≡ Some e → e.id ≡ id
+      → ((e.command ≡ command) × (a ≡ Done place e.reply)) ⊎ ((e.command ≢ command) × (a ≡ NumberReused place)) → Answers stepped is_row rows faults id day command d d a
+  repeat_answer d id day command place a e at id_is said = ⊎_elim
+      (λ (t : (e.command ≡ command) × (a ≡ Done place e.reply)). subst (Answers stepped is_row rows faults id day command d d) (sym t.1) (record { entry = e; at = at; id_is = id_is; command_is = t.0; reply_is = refl }, inl refl))
+      (λ (t : (e.command ≢ command) × (a ≡ NumberReused place)). subst (Answers stepped is_row rows faults id day command d d) (sym t.1) (record { entry = e; at = at; id_is = id_is; command_differs = t.0 }, refl)) said
 
   pub follows_answer : (id : Id) (day : ℕ) (command : C) (d n : Standing O C R K) (a : Answer R) → Answers stepped is_row rows faults id day command d n a
       → (n.log ≡ d.log) ⊎ ((note : Note C R) × (n.log ≡ d.log ++ note ∷ []))

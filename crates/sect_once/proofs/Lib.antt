@@ -1,3 +1,4 @@
+pub mod Cuts
 pub mod Logs
 pub mod Rows
 pub mod Pasts

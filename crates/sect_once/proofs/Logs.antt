@@ -1,6 +1,6 @@
 -- Logs and indexes with one more note.
-use Rattle.std.proofs.Common.{◌≡◌, ℕ, zero, suc, ◌+◌, ◌≤◌, ◌<◌, List, [], ◌∷◌, ◌++◌, length, refl, sym, ap, ◌∙◌, subst, inl, inr, ◌⊎◌, ⊎_elim, arith, Some, slice_get, cond, eqb, Bool, false, ◌^◌}
-use Rattle.std.proofs.lemmas.Bool.{eq-eqb, ne_eqb}
+use Rattle.std.proofs.Common.{◌≡◌, ℕ, zero, suc, ◌+◌, ◌≤◌, ◌<◌, List, [], ◌∷◌, ◌++◌, length, refl, sym, ap, ◌∙◌, subst, inl, inr, ◌⊎◌, ⊎_elim, arith, Option, None, Some, slice_get, cond, eqb, Bool, true, false, ◌^◌}
+use Rattle.std.proofs.lemmas.Bool.{eq-eqb, eqb-true, ne_eqb}
 use Rattle.std.specs.Prelude.{nat_eq}
 use Rattle.std.specs.HashMap.{HashMap, get}
 use Rattle.sect_base.specs.declared.limit.Id.{Id}
@@ -127,13 +127,30 @@ module _ {C R : Type 0} where
       → (place : ℕ) (e : Entry C R) → slice_get es place ≡ Some e → eqb (key_of id) (key_of e.id) ≡ false
   other_key m es id x new small place e at = ne_eqb (key_of id) (key_of e.id) (λ (k : key_of id ≡ key_of e.id). new place e at (sym (own_key id e.id small (x.small place e at) k)))
 
-  -- a map with the same places at other keys than that of a new id
-  pub index-same : {S : Type 0} (m n : HashMap ℕ ℕ S) (es : List (Entry C R)) (id : Id) → IsNew id es → id.number < 2 ^ 64
-      → ((q : ℕ) → eqb (key_of id) q ≡ false → get nat_eq n q ≡ get nat_eq m q) → IsIndex m es → IsIndex n es
-  index-same m n es id new small stays x = record {
-    all = λ place e at. stays (key_of e.id) (other_key m es id x new small place e at) ∙ x.all place e at;
+  -- a map with the same places
+  pub index-same : {S : Type 0} (m n : HashMap ℕ ℕ S) (es : List (Entry C R)) → ((q : ℕ) → get nat_eq n q ≡ get nat_eq m q) → IsIndex m es → IsIndex n es
+  index-same m n es stays x = record {
+    all = λ place e at. stays (key_of e.id) ∙ x.all place e at;
     small = x.small;
+    only = λ key place h. x.only key place (sym (stays key) ∙ h);
   }
+
+  -- a new id has no place
+  pub index-free : {S : Type 0} (m : HashMap ℕ ℕ S) (es : List (Entry C R)) (id : Id) → IsIndex m es → IsNew id es → id.number < 2 ^ 64 → get nat_eq m (key_of id) ≡ None
+  index-free m es id x new small = none_of (get nat_eq m (key_of id)) refl
+    where
+      none_of : (o : Option ℕ) → get nat_eq m (key_of id) ≡ o → o ≡ None
+      none_of None h = refl
+      none_of (Some place) h = let t = x.only (key_of id) place h in absurd (new place t.0 t.1 (own_key t.0.id id (x.small place t.0 t.1) small t.2))
+
+  -- the place of a key is that of the entry with the id
+  pub index-finds : {S : Type 0} (m : HashMap ℕ ℕ S) (es : List (Entry C R)) (id : Id) (place : ℕ) → IsIndex m es → id.number < 2 ^ 64 → get nat_eq m (key_of id) ≡ Some place
+      → (e : Entry C R) × (slice_get es place ≡ Some e) × (e.id ≡ id)
+  index-finds m es id place x small h = let t = x.only (key_of id) place h in (t.0, t.1, own_key t.0.id id (x.small place t.0 t.1) small t.2)
+
+  -- an id without a place is new
+  pub index-misses : {S : Type 0} (m : HashMap ℕ ℕ S) (es : List (Entry C R)) (id : Id) → IsIndex m es → get nat_eq m (key_of id) ≡ None → IsNew id es
+  index-misses m es id x none place e at same = let here = x.all place e at in let there : get nat_eq m (key_of e.id) ≡ get nat_eq m (key_of id) = ap (λ (i : Id). get nat_eq m (key_of i)) same in absurd cc
 
   -- the map with one more place
   pub index-append : {S : Type 0} (m n : HashMap ℕ ℕ S) (es : List (Entry C R)) (e : Entry C R) → IsIndex m es → IsNew e.id es → e.id.number < 2 ^ 64
@@ -145,6 +162,16 @@ module _ {C R : Type 0} where
     small = λ place f at. ⊎_elim
         (λ (t : slice_get es place ≡ Some f). x.small place f t)
         (λ (t : (place ≡ length es) × (e ≡ f)). subst (λ (z : Entry C R). z.id.number < 2 ^ 64) t.1 small) (get-snoc es e place f at);
+    only = λ key place h. only_at key place (eqb (key_of e.id) key) refl h;
   } where
     last : get nat_eq n (key_of e.id) ≡ Some (length es)
     last = puts (key_of e.id) ∙ ap (λ (b : Bool). cond b (Some (length es)) (get nat_eq m (key_of e.id))) (eq-eqb (key_of e.id) (key_of e.id) refl)
+
+    only_at : (key place : ℕ) (b : Bool) → eqb (key_of e.id) key ≡ b → get nat_eq n key ≡ Some place → (f : Entry C R) × (slice_get (es ++ e ∷ []) place ≡ Some f) × (key_of f.id ≡ key)
+    only_at key place true is h =
+        let here : Some (length es) ≡ Some place = sym (puts key ∙ ap (λ (b : Bool). cond b (Some (length es)) (get nat_eq m key)) is) ∙ h in
+        let at : length es ≡ place = cc in
+        (e, subst (λ (k : ℕ). slice_get (es ++ e ∷ []) k ≡ Some e) at (get-last es e), eqb-true (key_of e.id) key is)
+    only_at key place false is h =
+        let t = x.only key place (sym (puts key ∙ ap (λ (b : Bool). cond b (Some (length es)) (get nat_eq m key)) is) ∙ h) in
+        (t.0, get-longer es e place t.0 t.1, t.2)

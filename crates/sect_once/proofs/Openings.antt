@@ -7,7 +7,7 @@ use Rattle.std.proofs.Math.Nat.{lt_of_not-le}
 use Rattle.sect_base.specs.declared.limit.Caller.{Caller}
 use Rattle.sect_edge.specs.Keeper.{CountsRows, FindsRow, KeepsRows}
 use Rattle.sect_once.specs.declared.entry.Entry.{Entry}
-use Rattle.sect_once.specs.History.{acted_log, acting, faulting, history, log_of, state_after, ActsOnce, AreHeavy, HaveBytes, IsFull, IsNew, IsReplay, NeverFull, TellsRows}
+use Rattle.sect_once.specs.History.{acted_log, acting, faulting, history, log_of, state_after, ActsOnce, AreHeavy, IsFull, IsNew, IsReplay, NeverFull, TellsRows}
 use Rattle.sect_once.specs.Desks.{IsDesk, IsSound, Standing, Trail}
 use Rattle.sect_once.specs.declared.answer.OpenFault.{OpenFault}
 use Rattle.sect_once.specs.declared.answer.OpenFault.TheVariants as shut
@@ -76,9 +76,6 @@ module _ {C R : Type 0} (is_row : Entry C R → List ℕ → Type 0) where
 
   pub few : (es : List (Entry C R)) → (IsFull is_row (acted_log es) → ⊥) → length es < 2 ^ 20
   few es room = lt_of_not-le (λ (big : 2 ^ 20 ≤ length es). room (full_log es (inl big)))
-
-  pub light : (es : List (Entry C R)) (n : ℕ) → HaveBytes is_row es n → (IsFull is_row (acted_log es) → ⊥) → n < 2 ^ 28
-  light es n h room = lt_of_not-le (λ (big : 2 ^ 28 ≤ n). room (full_log es (inr record { size = n; bytes = h; heavy = big })))
 
 module _ {O C R : Type 0} (start : O) (stepped : O → ℕ → Caller → C → O × R) (is_row : Entry C R → List ℕ → Type 0) where
   pub takes_from : (old new : Trail O C R) (row : List ℕ) (e : Entry C R) → (IsFull is_row (acted_log old.entries) → ⊥) → is_row e row → Rattle.sect_once.specs.History.IsNew e.id old.entries

@@ -1,70 +1,135 @@
 -- A past with one more entry.
-use Rattle.std.proofs.Common.{◌≡◌, ℕ, ◌+◌, ◌^◌, ◌<◌, false, eqb, List, [], ◌∷◌, ◌++◌, length, sym, ap, ◌∙◌, subst, arith, Some, cond, length-append}
+use Rattle.std.proofs.Common.{◌≡◌, ℕ, ◌+◌, ◌^◌, ◌<◌, true, eqb, List, [], ◌∷◌, ◌++◌, length, sum_by, refl, sym, ap, ◌∙◌, subst, arith, Option, None, Some, cond, length-append, slice_get}
 use Rattle.std.specs.Prelude.{nat_eq}
 use Rattle.std.specs.HashMap.{HashMap, get}
+use Rattle.std.specs.List.{AllZip}
 use Rattle.sect_base.specs.declared.limit.Id.{Id}
 use Rattle.sect_base.specs.declared.limit.Caller.{Caller}
 use Rattle.sect_once.specs.declared.entry.Entry.{Entry}
-use Rattle.sect_once.specs.Desks.{IsPast, IsTrail, NextHasRow, Trail}
-use Rattle.sect_once.specs.History.{HasRow, IsNew, key_of}
-use Rattle.sect_once.proofs.Logs.{state_after-append, IsReplay-append, index-append, index-same, index-once}
-use Rattle.sect_once.proofs.Rows.{bytes-append}
+use Rattle.sect_edge.specs.Keeper.{AddsRow}
+use Rattle.sect_once.specs.Desks.{Adds, IsPast, IsTrail, NextHasRow, Trail}
+use Rattle.sect_once.specs.Opening.{HasActed, Resumes}
+use Rattle.sect_once.specs.History.{entries_of, state_after, HasRow, HaveBytes, IsNew, key_of}
+use Rattle.sect_once.proofs.Logs.{state_after-append, IsReplay-append, get-lt, index-append, index-finds, index-free, index-same, index-once}
+use Rattle.sect_once.proofs.Rows.{entries-append, rows-append, zip-get, zip-length}
 
 module _ {O C R S : Type 0} (start : O) (stepped : O → ℕ → Caller → C → O × R) (is_row : Entry C R → List ℕ → Type 0) where
-  past_longer : (object : O) (entries : List (Entry C R)) (places places' : HashMap ℕ ℕ S) (bytes : ℕ) (e : Entry C R) (row : List ℕ)
-      → IsPast start stepped is_row object entries places bytes
+  past_longer : (object : O) (entries : List (Entry C R)) (places places' : HashMap ℕ ℕ S) (rows : List (List ℕ)) (e : Entry C R) (row : List ℕ)
+      → IsPast start stepped is_row object entries places rows
       → (stepped object e.day e.id.caller e.command).1 ≡ e.reply → length entries < 2 ^ 20 → IsNew e.id entries → e.id.number < 2 ^ 64
       → ((q : ℕ) → get nat_eq places' q ≡ cond (eqb (key_of e.id) q) (Some (length entries)) (get nat_eq places q)) → is_row e row
-      → IsPast start stepped is_row (stepped object e.day e.id.caller e.command).0 (entries ++ e ∷ []) places' (bytes + length row)
-  past_longer object entries places places' bytes e row p reply room new small puts written = record {
+      → IsPast start stepped is_row (stepped object e.day e.id.caller e.command).0 (entries ++ e ∷ []) places' (rows ++ row ∷ [])
+  past_longer object entries places places' rows e row p reply room new small puts written = record {
     replayed = ap (λ (s : O). (stepped s e.day e.id.caller e.command).0) p.replayed ∙ sym (state_after-append stepped start entries e);
     replies = IsReplay-append stepped start entries e p.replies (ap (λ (s : O). (stepped s e.day e.id.caller e.command).1) (sym p.replayed) ∙ reply);
     index = index-append places places' entries e p.index new small puts;
-    bytes = bytes-append is_row entries bytes e row p.bytes written;
+    are_rows = rows-append is_row entries rows e row p.are_rows written;
     short = omega (arith, length-append entries (e ∷ []));
   }
 
-  -- the same, as the code finds the parts
-  pub past_added : (object object' : O) (entries entries' : List (Entry C R)) (places places' : HashMap ℕ ℕ S) (bytes bytes' : ℕ)
-      (id : Id) (day : ℕ) (command : C) (reply : R) (e : Entry C R) (row : List ℕ) (place : ℕ) (trail : Trail O C R)
-      → IsPast start stepped is_row object entries places bytes → record { object = object; entries = entries } ≡ trail
-      → e ≡ record { id = id; day = day; command = command; reply = reply } → entries' ≡ entries ++ e ∷ []
-      → object' ≡ (stepped object day id.caller command).0 → reply ≡ (stepped object day id.caller command).1 → length trail.entries < 2 ^ 20 → IsNew id trail.entries → id.number < 2 ^ 64
-      → place ≡ length entries
-      → ((q : ℕ) → get nat_eq places' q ≡ cond (eqb (key_of id) q) (Some place) (get nat_eq places q)) → is_row e row → bytes' ≡ bytes + length row
-      → IsPast start stepped is_row object' entries' places' bytes'
-  past_added object object' entries entries' places places' bytes bytes' id day command reply e row place trail p is e_is entries_are state replied room new small place_is puts written longer =
-      let made : Entry C R = record { id = id; day = day; command = command; reply = reply } in
-      subst (λ (z : O × List (Entry C R) × ℕ). IsPast start stepped is_row z.0 z.1 places' z.2) (λ i. (sym state i, sym (entries_are ∙ ap (λ (x : Entry C R). entries ++ x ∷ []) e_is) i, sym longer i))
-      (past_longer object entries places places' bytes made row p (sym replied)
-      (subst (λ (t : Trail O C R). length t.entries < 2 ^ 20) (sym is) room) (subst (λ (t : Trail O C R). IsNew id t.entries) (sym is) new) small
-      (λ q. puts q ∙ ap (λ (n : ℕ). cond (eqb (key_of id) q) (Some n) (get nat_eq places q)) place_is) (subst (λ (x : Entry C R). is_row x row) e_is written))
+  -- the rows are as many as the entries, of which there are at most 2^20
+  pub as_many : (object : O) (entries : List (Entry C R)) (places : HashMap ℕ ℕ S) (rows : List (List ℕ)) (trail : Trail O C R) → IsPast start stepped is_row object entries places rows
+      → record { object = object; entries = entries } ≡ trail → (length rows ≡ length trail.entries) × (length rows < 2 ^ 32)
+  as_many object entries places rows trail p is =
+      let same = zip-length is_row entries rows p.are_rows in
+      let short = p.short in
+      (sym same ∙ ap (λ (t : Trail O C R). length t.entries) is, omega (arith, same, short))
 
-  pub past_same : (object object' : O) (entries : List (Entry C R)) (places places' : HashMap ℕ ℕ S) (bytes : ℕ) (id : Id) (trail : Trail O C R)
-      → IsPast start stepped is_row object entries places bytes → record { object = object; entries = entries } ≡ trail → object' ≡ object → IsNew id trail.entries → id.number < 2 ^ 64
-      → ((q : ℕ) → eqb (key_of id) q ≡ false → get nat_eq places' q ≡ get nat_eq places q)
-      → IsPast start stepped is_row object' entries places' bytes
-  past_same object object' entries places places' bytes id trail p is state new small stays = record {
-    replayed = state ∙ p.replayed;
-    replies = p.replies;
-    index = index-same places places' entries id (subst (λ (t : Trail O C R). IsNew id t.entries) (sym is) new) small stays p.index;
-    bytes = p.bytes;
-    short = p.short;
-  }
+  module _ (entry_of : List ℕ → Option (Entry C R)) (reads : (e : Entry C R) (row : List ℕ) → is_row e row → entry_of row ≡ Some e) where
+    -- one entry more, as the code finds the parts
+    pub past_added : (object object' : O) (rows rows' : List (List ℕ)) (places places' : HashMap ℕ ℕ S)
+        (id : Id) (day : ℕ) (command : C) (reply : R) (row : List ℕ) (trail : Trail O C R)
+        → IsPast start stepped is_row object (entries_of entry_of rows) places rows → record { object = object; entries = entries_of entry_of rows } ≡ trail
+        → rows' ≡ rows ++ row ∷ [] → object' ≡ (stepped object day id.caller command).0 → reply ≡ (stepped object day id.caller command).1
+        → length trail.entries < 2 ^ 20 → IsNew id trail.entries → id.number < 2 ^ 64
+        → ((q : ℕ) → get nat_eq places' q ≡ cond (eqb (key_of id) q) (Some (length rows)) (get nat_eq places q)) → is_row (record { id = id; day = day; command = command; reply = reply }) row
+        → IsPast start stepped is_row object' (entries_of entry_of rows') places' rows'
+    past_added object object' rows rows' places places' id day command reply row trail p is rows_are state replied room new small puts written =
+        let made : Entry C R = record { id = id; day = day; command = command; reply = reply } in
+        let es : List (Entry C R) = entries_of entry_of rows in
+        let entries_are : entries_of entry_of rows' ≡ es ++ made ∷ [] = ap (entries_of entry_of) rows_are ∙ entries-append is_row entry_of reads rows made row written in
+        let many : length rows ≡ length es = sym (zip-length is_row es rows p.are_rows) in
+        subst (λ (z : O × List (Entry C R) × List (List ℕ)). IsPast start stepped is_row z.0 z.1 places' z.2) (λ i. (sym state i, sym entries_are i, sym rows_are i))
+        (past_longer object es places places' rows made row p (sym replied)
+        (subst (λ (t : Trail O C R). length t.entries < 2 ^ 20) (sym is) room) (subst (λ (t : Trail O C R). IsNew id t.entries) (sym is) new) small
+        (λ q. puts q ∙ ap (λ (n : ℕ). cond (eqb (key_of id) q) (Some n) (get nat_eq places q)) many) written)
 
-  pub trail_from : (object : O) (entries : List (Entry C R)) (places : HashMap ℕ ℕ S) (bytes : ℕ) (trail : Trail O C R)
-      → record { object = object; entries = entries } ≡ trail → IsPast start stepped is_row object entries places bytes → IsTrail start stepped trail
-  trail_from object entries places bytes trail is p = subst (IsTrail start stepped) is record {
+    -- what a request that acted adds, as the code finds the parts
+    pub past_adds : (object object' : O) (rows rows' : List (List ℕ)) (places : HashMap ℕ ℕ S) (told told' : Option (List (List ℕ)))
+        (id : Id) (day : ℕ) (command : C) (reply : R) (row : List ℕ) (trail : Trail O C R)
+        → IsPast start stepped is_row object (entries_of entry_of rows) places rows → record { object = object; entries = entries_of entry_of rows } ≡ trail
+        → rows' ≡ rows ++ row ∷ [] → object' ≡ (stepped object day id.caller command).0 → reply ≡ (stepped object day id.caller command).1
+        → is_row (record { id = id; day = day; command = command; reply = reply }) row → AddsRow told told' row
+        → Adds stepped is_row (record { id = id; day = day; command = command; reply = reply }) trail (record { object = object'; entries = entries_of entry_of rows' }) told told'
+    past_adds object object' rows rows' places told told' id day command reply row trail p is rows_are state replied written added = record {
+      object = state ∙ ap (λ (t : Trail O C R). (stepped t.object day id.caller command).0) is;
+      reply = replied ∙ ap (λ (t : Trail O C R). (stepped t.object day id.caller command).1) is;
+      entries = ap (entries_of entry_of) rows_are ∙ entries-append is_row entry_of reads rows (record { id = id; day = day; command = command; reply = reply }) row written
+          ∙ ap (λ (t : Trail O C R). t.entries ++ record { id = id; day = day; command = command; reply = reply } ∷ []) is;
+      row = row;
+      written = written;
+      added = added;
+    }
+
+    -- what an entry that is taken again adds, as the code finds the parts
+    pub past_resumed : (object object' : O) (rows rows' : List (List ℕ)) (places : HashMap ℕ ℕ S) (e : Entry C R) (row : List ℕ) (trail : Trail O C R)
+        → IsPast start stepped is_row object (entries_of entry_of rows) places rows → record { object = object; entries = entries_of entry_of rows } ≡ trail
+        → rows' ≡ rows ++ row ∷ [] → (stepped object e.day e.id.caller e.command).1 ≡ e.reply → is_row e row
+        → Resumes start stepped is_row trail (record { object = object'; entries = entries_of entry_of rows' }) e true
+    past_resumed object object' rows rows' places e row trail p is rows_are replied written = (
+      ap (λ (s : O). (stepped s e.day e.id.caller e.command).1) (sym (p.replayed ∙ ap (λ (t : Trail O C R). state_after stepped start t.entries) is)) ∙ replied,
+      ap (entries_of entry_of) rows_are ∙ entries-append is_row entry_of reads rows e row written ∙ ap (λ (t : Trail O C R). t.entries ++ e ∷ []) is,
+    )
+
+    -- nothing more, as the code finds the parts
+    pub past_same : (object object' : O) (rows rows' : List (List ℕ)) (places places' : HashMap ℕ ℕ S) (id : Id) (trail : Trail O C R)
+        → IsPast start stepped is_row object (entries_of entry_of rows) places rows → record { object = object; entries = entries_of entry_of rows } ≡ trail → object' ≡ object → rows' ≡ rows → IsNew id trail.entries → id.number < 2 ^ 64
+        → (get nat_eq places (key_of id) ≡ None → (q : ℕ) → get nat_eq places' q ≡ get nat_eq places q)
+        → IsPast start stepped is_row object' (entries_of entry_of rows') places' rows'
+    past_same object object' rows rows' places places' id trail p is state rows_are new small stays =
+        let free = index-free places (entries_of entry_of rows) id p.index (subst (λ (t : Trail O C R). IsNew id t.entries) (sym is) new) small in
+        subst (λ (z : O × List (List ℕ)). IsPast start stepped is_row z.0 (entries_of entry_of z.1) places' z.1) (λ i. (sym state i, sym rows_are i)) record {
+          replayed = p.replayed;
+          replies = p.replies;
+          index = index-same places places' (entries_of entry_of rows) (stays free) p.index;
+          are_rows = p.are_rows;
+          short = p.short;
+        }
+
+  -- the place of an id is that of its entry, as the code finds the parts
+  pub place_found : (object : O) (entries : List (Entry C R)) (places : HashMap ℕ ℕ S) (rows : List (List ℕ)) (trail : Trail O C R)
+      → IsPast start stepped is_row object entries places rows → record { object = object; entries = entries } ≡ trail → (id : Id) (place : ℕ) → id.number < 2 ^ 64 → get nat_eq places (key_of id) ≡ Some place
+      → HasActed start stepped is_row id trail.entries × (place < length trail.entries) × ((e : Entry C R) → slice_get trail.entries place ≡ Some e → e.id ≡ id)
+  place_found object entries places rows trail p is id place small found =
+      let t = index-finds places entries id place p.index small found in
+      subst (λ (t : Trail O C R). HasActed start stepped is_row id t.entries × (place < length t.entries) × ((e : Entry C R) → slice_get t.entries place ≡ Some e → e.id ≡ id)) is
+      ((place, t.0, t.1, t.2), get-lt entries place t.0 t.1, λ e at. let both : Some t.0 ≡ Some e = sym t.1 ∙ at in let same : t.0 ≡ e = cc in ap (λ (x : Entry C R). x.id) (sym same) ∙ t.2)
+
+  pub trail_from : (object : O) (entries : List (Entry C R)) (places : HashMap ℕ ℕ S) (rows : List (List ℕ)) (trail : Trail O C R)
+      → record { object = object; entries = entries } ≡ trail → IsPast start stepped is_row object entries places rows → IsTrail start stepped trail
+  trail_from object entries places rows trail is p = subst (IsTrail start stepped) is record {
     replayed = p.replayed;
     replies = p.replies;
     once = index-once places entries p.index;
     short = p.short;
   }
 
+  -- the rows of a past have their own bytes
+  pub bytes_of : (object : O) (entries : List (Entry C R)) (places : HashMap ℕ ℕ S) (rows : List (List ℕ)) → IsPast start stepped is_row object entries places rows → HaveBytes is_row entries (sum_by length rows)
+  bytes_of object entries places rows p = record { rows = rows; are_rows = p.are_rows; sum = refl }
+
+  -- what is read from the row at a place is the entry there
+  pub read_at : (one_entry : (a b : Entry C R) (row : List ℕ) → is_row a row → is_row b row → a ≡ b) (object : O) (entries : List (Entry C R)) (places : HashMap ℕ ℕ S) (rows : List (List ℕ)) (trail : Trail O C R)
+      → IsPast start stepped is_row object entries places rows → record { object = object; entries = entries } ≡ trail
+      → (place : ℕ) (row : List ℕ) (read : Entry C R) → slice_get rows place ≡ Some row → is_row read row → slice_get trail.entries place ≡ Some read
+  read_at one_entry object entries places rows trail p is place row read at written =
+      let t = zip-get is_row place entries rows row p.are_rows at in
+      subst (λ (t : Trail O C R). slice_get t.entries place ≡ Some read) is (t.1 ∙ ap Some (one_entry t.0 read row t.2 written))
+
 -- the entry of a request that may be asked has a row, as the code finds the parts
 pub row_behind : {O C R S : Type 0} (start : O) (stepped : O → ℕ → Caller → C → O × R) (is_row : Entry C R → List ℕ → Type 0) (may_ask : Id → ℕ → C → Type 0)
-    → NextHasRow start stepped is_row may_ask → (object : O) (entries : List (Entry C R)) (places : HashMap ℕ ℕ S) (bytes : ℕ) → IsPast start stepped is_row object entries places bytes
+    → NextHasRow start stepped is_row may_ask → (object : O) (entries : List (Entry C R)) (places : HashMap ℕ ℕ S) (rows : List (List ℕ)) → IsPast start stepped is_row object entries places rows
     → (id : Id) (day : ℕ) (command : C) → may_ask id day command → HasRow is_row (record { id = id; day = day; command = command; reply = (stepped object day id.caller command).1 })
-row_behind {O = O} start stepped is_row may_ask next object entries places bytes p id day command asked =
-    next entries p.bytes.rows (record { id = id; day = day; command = command; reply = (stepped object day id.caller command).1 }) p.bytes.are_rows p.short asked
+row_behind {O = O} start stepped is_row may_ask next object entries places rows p id day command asked =
+    next entries rows (record { id = id; day = day; command = command; reply = (stepped object day id.caller command).1 }) p.are_rows p.short asked
     (ap (λ (s : O). (stepped s day id.caller command).1) (sym p.replayed))

@@ -13,6 +13,7 @@ use Rattle.sect_once.specs.Desks.{Standing}
 use Rattle.sect_once.specs.Opening.{IsBad, IsFirstBad, Opens, Reopens}
 use Rattle.sect_once.proofs.Logs.{get-lt}
 use Rattle.sect_once.proofs.Openings.{full_entries}
+use Rattle.sect_once.proofs.Rows.{zip-get}
 
 module _ {A : Type 0} where
   short-take : (n : ℕ) (xs : List A) → length (take n xs) ≤ n
@@ -43,13 +44,6 @@ module _ {C R : Type 0} (is_row : Entry C R → List ℕ → Type 0) where
   zip-take (suc n) [] (r ∷ rows) h = absurd h
   zip-take (suc n) (e ∷ es) [] h = absurd h
   zip-take (suc n) (e ∷ es) (r ∷ rows) h = (h.0, zip-take n es rows h.1)
-
-  zip-get : (n : ℕ) (es : List (Entry C R)) (rows : List (List ℕ)) (row : List ℕ) → AllZip is_row es rows → slice_get rows n ≡ Some row → (e : Entry C R) × (slice_get es n ≡ Some e) × is_row e row
-  zip-get n [] [] row h g = absurd cc
-  zip-get n [] (r ∷ rows) row h g = absurd h
-  zip-get n (e ∷ es) [] row h g = absurd h
-  zip-get zero (e ∷ es) (r ∷ rows) row h g = let same : r ≡ row = cc in (e, refl, subst (is_row e) same h.0)
-  zip-get (suc n) (e ∷ es) (r ∷ rows) row h g = zip-get n es rows row h.1 g
 
 module _ {C R : Type 0} where
   -- a log is cut before an entry

@@ -1,12 +1,13 @@
 -- The rows of entries, their bytes, and logs that were never full.
-use Rattle.std.proofs.Common.{◌≡◌, ℕ, suc, ◌+◌, ◌^◌, ◌≤◌, List, [], ◌∷◌, ◌++◌, length, sum_by, refl, sym, ap, ◌∙◌, subst, inl, inr, ◌⊎◌, ⊎_elim, arith, Option, Some, None, length-append}
-use Rattle.std.proofs.lemmas.List.Sums.{sum_by-append}
+use Rattle.std.proofs.Common.{◌≡◌, ℕ, zero, suc, ◌+◌, ◌^◌, ◌≤◌, List, [], ◌∷◌, ◌++◌, length, sum_by, refl, sym, ap, ◌∙◌, subst, inl, inr, ◌⊎◌, ⊎_elim, arith, Option, Some, None, length-append, slice_get}
+use Rattle.std.specs.Option.{option_to_list}
+use Rattle.std.proofs.lemmas.List.{append_assoc}
 use Rattle.std.specs.List.{AllZip}
 use Rattle.sect_edge.specs.Keeper.{AddsRow, KeepsRows}
 use Rattle.sect_once.specs.declared.entry.Entry.{Entry}
 use Rattle.sect_once.specs.declared.entry.Note.{Note}
 use Rattle.sect_once.specs.declared.entry.Note.TheVariants.{Acted}
-use Rattle.sect_once.specs.History.{acted_log, history, AreHeavy, HaveBytes, IsFull, NeverFull, TellsRows}
+use Rattle.sect_once.specs.History.{acted_log, entries_of, history, AreHeavy, HaveBytes, IsFull, NeverFull, TellsRows}
 
 module _ {A : Type 0} where
   -- where a list with one more item is cut before an item
@@ -37,12 +38,27 @@ module _ {C R : Type 0} (is_row : Entry C R → List ℕ → Type 0) where
   rows-append (x ∷ es) [] e row h w = absurd h
   rows-append (x ∷ es) (r ∷ rows) e row h w = (h.0, rows-append es rows e row h.1 w)
 
-  pub bytes-append : (es : List (Entry C R)) (n : ℕ) (e : Entry C R) (row : List ℕ) → HaveBytes is_row es n → is_row e row → HaveBytes is_row (es ++ e ∷ []) (n + length row)
-  bytes-append es n e row h w = record {
-    rows = h.rows ++ row ∷ [];
-    are_rows = rows-append es h.rows e row h.are_rows w;
-    sum = omega (arith, h.sum, sum_by-append (λ (r : List ℕ). length r) h.rows (row ∷ []));
-  }
+  pub zip-length : (es : List (Entry C R)) (rows : List (List ℕ)) → AllZip is_row es rows → length es ≡ length rows
+  zip-length [] [] h = refl
+  zip-length [] (r ∷ rows) h = absurd h
+  zip-length (e ∷ es) [] h = absurd h
+  zip-length (e ∷ es) (r ∷ rows) h = ap suc (zip-length es rows h.1)
+
+  -- the row at a place is that of the entry there
+  pub zip-get : (n : ℕ) (es : List (Entry C R)) (rows : List (List ℕ)) (row : List ℕ) → AllZip is_row es rows → slice_get rows n ≡ Some row → (e : Entry C R) × (slice_get es n ≡ Some e) × is_row e row
+  zip-get n [] [] row h g = absurd cc
+  zip-get n [] (r ∷ rows) row h g = absurd h
+  zip-get n (e ∷ es) [] row h g = absurd h
+  zip-get zero (e ∷ es) (r ∷ rows) row h g = let same : r ≡ row = cc in (e, refl, subst (is_row e) same h.0)
+  zip-get (suc n) (e ∷ es) (r ∷ rows) row h g = zip-get n es rows row h.1 g
+
+  -- one row more is read as one entry more
+  pub entries-append : (entry_of : List ℕ → Option (Entry C R)) → ((e : Entry C R) (row : List ℕ) → is_row e row → entry_of row ≡ Some e)
+      → (rows : List (List ℕ)) (e : Entry C R) (row : List ℕ) → is_row e row → entries_of entry_of (rows ++ row ∷ []) ≡ entries_of entry_of rows ++ e ∷ []
+  entries-append entry_of reads [] e row h = ap (λ (o : Option (Entry C R)). option_to_list o ++ []) (reads e row h)
+  entries-append entry_of reads (r ∷ rows) e row h =
+      ap (λ (es : List (Entry C R)). option_to_list (entry_of r) ++ es) (entries-append entry_of reads rows e row h)
+      ∙ sym (append_assoc (option_to_list (entry_of r)) (entries_of entry_of rows) (e ∷ []))
 
   pub never_full-append : (log : List (Note C R)) (note : Note C R) → NeverFull is_row log → (IsFull is_row log → ⊥) → NeverFull is_row (log ++ note ∷ [])
   never_full-append log note h room before n after is full = ⊎_elim

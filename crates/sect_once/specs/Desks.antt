@@ -14,7 +14,7 @@ use Rattle.sect_once.specs.declared.answer.Answer.{Answer}
 use Rattle.sect_once.specs.declared.answer.Answer.TheVariants.{Done, NumberReused, LogFull, KeeperFault, Memory}
 use Rattle.sect_once.specs.declared.answer.Seen.{Seen}
 use Rattle.sect_once.specs.declared.answer.Seen.TheVariants.{New, Place, Reused}
-use Rattle.sect_once.specs.History.{IsLegal, faulted, history, log_of, acting, faulting, ActsOnce, HasRow, HaveBytes, IsFull, IsIndex, IsNew, IsReplay, NeverFull, TellsRows, state_after}
+use Rattle.sect_once.specs.History.{IsLegal, faulted, history, log_of, acting, faulting, ActsOnce, HasRow, IsFull, IsIndex, IsNew, IsReplay, NeverFull, TellsRows, state_after}
 use Rattle.sect_once.specs.Faults.{AtMostFaults}
 
 -- an object and the entries that brought it where it is
@@ -44,11 +44,11 @@ module _ {O C R : Type 0} (start : O) (stepped : O → ℕ → Caller → C → 
     pub short : length trail.entries ≤ 2 ^ 20
 
   -- what the fields of a past keep
-  pub record IsPast {S : Type 0} (is_row : Entry C R → List ℕ → Type 0) (object : O) (entries : List (Entry C R)) (places : HashMap ℕ ℕ S) (row_bytes : ℕ) : Type 0 where
+  pub record IsPast {S : Type 0} (is_row : Entry C R → List ℕ → Type 0) (object : O) (entries : List (Entry C R)) (places : HashMap ℕ ℕ S) (rows : List (List ℕ)) : Type 0 where
     pub replayed : object ≡ state_after stepped start entries
     pub replies : IsReplay stepped start entries
     pub index : IsIndex places entries
-    pub bytes : HaveBytes is_row entries row_bytes
+    pub are_rows : AllZip is_row entries rows
     pub short : length entries ≤ 2 ^ 20
 
 module _ {C R : Type 0} where
@@ -120,10 +120,9 @@ module _ {O C R K : Type 0} (stepped : O → ℕ → Caller → C → O × R) (i
     pub base : n.base ≡ d.base
     pub rows_stay : KeepsRows (rows d.keeper) (rows n.keeper)
 
-  -- memory was wanted for a repeat or in a log with room, and no other command has the id: the log, the object and the rows are as before
+  -- memory was wanted for a repeat or in a log with room: the log, the object and the rows are as before
   pub record IsSame (id : Id) (command : C) (d n : Standing O C R K) : Type 0 where
     pub roomy : IsNew id (history d.log) → IsFull is_row d.log → ⊥
-    pub other : (place : ℕ) → HasOther d.log place id command → ⊥
     pub object : n.object ≡ d.object
     pub log : n.log ≡ d.log
     pub base : n.base ≡ d.base

@@ -1,6 +1,7 @@
 -- Logs, their histories, and what makes one legal.
 use Rattle.std.specs.Prelude.{◌≡◌, ◌⊎◌, ℕ, ◌+◌, ◌*◌, ◌^◌, ◌<◌, ◌≤◌, nat_eq, List, [], ◌∷◌, ◌++◌, ⊤, length, sum_by, slice_get, Option, Some, None}
 use Rattle.std.specs.List.{AllZip}
+use Rattle.std.specs.Option.{option_to_list}
 use Rattle.std.specs.HashMap.{HashMap, get}
 use Rattle.sect_base.specs.declared.limit.Id.{Id}
 use Rattle.sect_base.specs.declared.limit.Caller.{Caller}
@@ -44,14 +45,20 @@ module _ {C R : Type 0} where
   abbrev pub IsNew : Id → List (Entry C R) → Type 0
   IsNew id es = (place : ℕ) (e : Entry C R) → slice_get es place ≡ Some e → e.id ≡ id → ⊥
 
+  -- the entries that rows are read as
+  abbrev pub entries_of : (List ℕ → Option (Entry C R)) → List (List ℕ) → List (Entry C R)
+  entries_of entry_of [] = []
+  entries_of entry_of (row ∷ rows) = option_to_list (entry_of row) ++ entries_of entry_of rows
+
   -- no id stands in two entries
   abbrev pub ActsOnce : List (Entry C R) → Type 0
   ActsOnce es = (p q : ℕ) (e f : Entry C R) → slice_get es p ≡ Some e → slice_get es q ≡ Some f → e.id ≡ f.id → p ≡ q
 
-  -- the map has each entry's place at its id's key, and the numbers of requests have 64 bits
+  -- the map has each entry's place at its id's key and no others, and the numbers of requests have 64 bits
   pub record IsIndex {S : Type 0} (places : HashMap ℕ ℕ S) (es : List (Entry C R)) : Type 0 where
     pub all : (place : ℕ) (e : Entry C R) → slice_get es place ≡ Some e → get nat_eq places (key_of e.id) ≡ Some place
     pub small : (place : ℕ) (e : Entry C R) → slice_get es place ≡ Some e → e.id.number < 2 ^ 64
+    pub only : (key place : ℕ) → get nat_eq places key ≡ Some place → (e : Entry C R) × (slice_get es place ≡ Some e) × (key_of e.id ≡ key)
 
   -- the log in which these entries acted and nothing was faulted
   abbrev pub acted_log : List (Entry C R) → List (Note C R)

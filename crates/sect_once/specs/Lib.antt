@@ -1,3 +1,4 @@
+pub mod Cuts
 pub mod Desks
 pub mod Faults
 pub mod History

@@ -1,6 +1,6 @@
 -- The row of a tally's entry: 26 bytes.
-use Rattle.std.specs.Prelude.{◌≡◌, ℕ, ◌+◌, ◌-◌, ◌<◌, ◌≤◌, ◌^◌, min, List, ◌∷◌, ◌++◌}
-use Rattle.std.specs.Int.{to_be_bytes, w32, w64}
+use Rattle.std.specs.Prelude.{◌≡◌, ℕ, ◌+◌, ◌-◌, ◌<◌, ◌≤◌, ◌^◌, ◌==◌, Bool, true, false, min, List, ◌∷◌, ◌++◌, Option, Some, drop, get_or, take}
+use Rattle.std.specs.Int.{from_be_bytes, to_be_bytes, w32, w64}
 use Rattle.sect_base.specs.declared.limit.Caller.{Caller}
 use Rattle.sect_base.specs.declared.limit.Id.{Id}
 use Rattle.sect_base.specs.declared.limit.Caller.TheVariants.{Registrar, Student}
@@ -19,6 +19,20 @@ caller_number (Student s) = s.0
 -- the day, the caller's letter and number, the request's number, the command and the reply, each number with its highest byte first
 abbrev pub tally_row : Entry ℕ ℕ → List ℕ
 tally_row e = to_be_bytes w32 e.day ++ caller_tag e.id.caller ∷ (to_be_bytes w32 (caller_number e.id.caller) ++ (to_be_bytes w64 e.id.number ++ e.command ∷ to_be_bytes w64 e.reply))
+
+-- the caller with a letter and a number
+abbrev pub tagged : Bool → ℕ → Caller
+tagged true n = Registrar n
+tagged false n = Student (record { 0 = n })
+
+-- the entry of a row, with its numbers where a row has them
+abbrev pub tally_entry : List ℕ → Option (Entry ℕ ℕ)
+tally_entry row = Some (record {
+  id = record { caller = tagged (get_or row 4 0 == 114) (from_be_bytes w32 (take 4 (drop 5 row))); number = from_be_bytes w64 (take 8 (drop 9 row)) };
+  day = from_be_bytes w32 (take 4 row);
+  command = get_or row 17 0;
+  reply = from_be_bytes w64 (take 8 (drop 18 row));
+})
 
 -- the row is that of the entry, whose numbers are in the ranges of their types
 pub record IsTallyRow (e : Entry ℕ ℕ) (row : List ℕ) : Type 0 where

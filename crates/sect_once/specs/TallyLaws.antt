@@ -1,11 +1,12 @@
 -- Rows of a tally have one entry, entries one row, and what may be asked gets one.
-use Rattle.std.proofs.Common.{◌≡◌, ℕ, ◌+◌, ◌<◌, ◌≤◌, ◌^◌, List, [], ◌∷◌, ◌++◌, length, take, drop, refl, sym, ap, ◌∙◌, arith}
+use Rattle.std.proofs.Common.{◌≡◌, ℕ, ◌+◌, ◌<◌, ◌≤◌, ◌^◌, List, [], ◌∷◌, ◌++◌, length, take, drop, Some, refl, sym, ap, ◌∙◌, arith}
+use Rattle.std.specs.Prelude.{◌==◌}
 use Rattle.std.specs.Int.{from_be_bytes, to_be_bytes, w32, w64}
 use Rattle.std.proofs.lemmas.Nat.{from_be_bytes-to_be_bytes_4, from_be_bytes-to_be_bytes_8}
 use Rattle.sect_base.specs.declared.limit.Caller.{Caller}
 use Rattle.sect_base.specs.declared.limit.Caller.TheVariants.{Registrar, Student}
 use Rattle.sect_once.specs.declared.entry.Entry.{Entry}
-use Rattle.sect_once.specs.Tallies.{IsTallyRow, MayAsk, caller_number, caller_tag, tallied, tally_row}
+use Rattle.sect_once.specs.Tallies.{IsTallyRow, MayAsk, caller_number, caller_tag, tagged, tallied, tally_entry, tally_row}
 use Rattle.sect_once.specs.Desks.{NextHasRow}
 
 pub tally_one_row : (e : Entry ℕ ℕ) (a b : List ℕ) → IsTallyRow e a → IsTallyRow e b → a ≡ b
@@ -53,6 +54,19 @@ tally_one_entry e f row h k =
     let reply : e.reply ≡ f.reply = same_8 _ _ h.reply k.reply (ap (drop 18) rows) in
     let who : e.id.caller ≡ f.id.caller = same_caller _ _ tag caller in
     λ i. record { id = record { caller = who i; number = number i }; day = day i; command = command i; reply = reply i }
+
+tagged_again : (c : Caller) → tagged (caller_tag c == 114) (caller_number c) ≡ c
+tagged_again (Registrar n) = refl
+tagged_again (Student s) = refl
+
+pub tally_reads_row : (e : Entry ℕ ℕ) (row : List ℕ) → IsTallyRow e row → tally_entry row ≡ Some e
+tally_reads_row e row h =
+    let day : from_be_bytes w32 (to_be_bytes w32 e.day) ≡ e.day = from_be_bytes-to_be_bytes_4 e.day (omega (arith, h.day)) in
+    let caller : from_be_bytes w32 (to_be_bytes w32 (caller_number e.id.caller)) ≡ caller_number e.id.caller = from_be_bytes-to_be_bytes_4 _ h.caller in
+    let number : from_be_bytes w64 (to_be_bytes w64 e.id.number) ≡ e.id.number = from_be_bytes-to_be_bytes_8 _ h.number in
+    let reply : from_be_bytes w64 (to_be_bytes w64 e.reply) ≡ e.reply = from_be_bytes-to_be_bytes_8 _ h.reply in
+    let who = ap (tagged (caller_tag e.id.caller == 114)) caller ∙ tagged_again e.id.caller in
+    ap tally_entry h.is ∙ (λ i. Some (record { id = record { caller = who i; number = number i }; day = day i; command = e.command; reply = reply i }))
 
 pub tally_next_has_row : NextHasRow 0 tallied IsTallyRow MayAsk
 tally_next_has_row es rows e h few asked replied = (tally_row e, record { day = asked.0; caller = asked.1; number = asked.2; command = asked.3; reply = omega (arith, replied); is = refl })

@@ -21,7 +21,8 @@ where
 {
     let mut object = O::empty(alloc);
     for place in 0..count {
-        act(&mut object, desk.entry(place))?;
+        let entry = desk.entry(place)?;
+        act(&mut object, &entry)?;
     }
     Ok(object)
 }

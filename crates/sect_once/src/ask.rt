@@ -1,30 +1,36 @@
 // A request asked of the desk, and a look at its object.
-ghost use Rattle.std.specs.Prelude.{◌≡◌, ◌⊎◌, ◌<◌, length, slice_get, Some, IfOk};
-ghost use Rattle.sect_once.specs.declared.answer.Answer.TheVariants.{Done, Memory as NoMemory};
-ghost use Rattle.sect_once.specs.declared.entry.Entry.{Entry};
+ghost use Rattle.std.specs.Prelude.{◌≡◌, ◌≢◌, ◌⊎◌, IfOk};
+ghost use Rattle.sect_once.specs.declared.answer.Answer.TheVariants.{Done, NumberReused};
 ghost use Rattle.sect_once.specs.Desks.{Answers, IsSound};
 ghost use Rattle.sect_once.specs.History.{history, state_after, IsFull, IsNew};
 
-use crate::answer::{Answer, Seen};
+use crate::answer::Answer;
 use crate::desk::Desk;
-use crate::entry::{Mark, Note};
+use crate::entry::{Entry, Mark, Note};
 use crate::object::Object;
 use sect_base::{Chronicle, Id, Memory};
 use sect_edge::{KeepFault, Keeper};
 use sect_time::Day;
 
-impl<O: Object, K: Keeper> Desk<O, K> {
-    /// The kept reply of a request that acted.
-    fn repeat(&self, place: u32) -> Answer<O::Reply>
-        requires { place < length (history self.now.log) }
-        ensures { (result ≡ NoMemory) ⊎ ((e : Entry O.Command O.Reply) × (slice_get (history self.now.log) place ≡ Some e) × (result ≡ Done place e.reply)) }
-    {
-        match O::copy_reply(self.alloc, &self.entry(place).reply) {
-            Ok(reply) => Answer::Done { place, reply },
-            Err(_) => Answer::Memory,
+/// What a command is answered whose id the entry has: its reply where it is the same command.
+fn repeat<O: Object>(
+    place: u32,
+    entry: Entry<O::Command, O::Reply>,
+    command: &O::Command,
+) -> Answer<O::Reply>
+    ensures { ((entry.command ≡ command.now) × (result ≡ Done place entry.reply)) ⊎ ((entry.command ≢ command.now) × (result ≡ NumberReused place)) }
+{
+    if O::same_command(&entry.command, command) {
+        Answer::Done {
+            place,
+            reply: entry.reply,
         }
+    } else {
+        Answer::NumberReused(place)
     }
+}
 
+impl<O: Object, K: Keeper> Desk<O, K> {
     /// A new request acts.
     fn act(&mut self, id: Id, day: Day, command: O::Command) -> Answer<O::Reply>
         requires askable { O.may_ask id day command }
@@ -36,9 +42,7 @@ impl<O: Object, K: Keeper> Desk<O, K> {
             return Answer::Memory;
         }
         let place = self.past.acted();
-        let acted = self
-            .past
-            .act(self.alloc, &mut self.keeper, id, day, command);
+        let acted = self.past.act(&mut self.keeper, id, day, command);
         match acted {
             Ok(reply) => {
                 self.marks.push_reserved(Mark::Acts);
@@ -60,10 +64,12 @@ impl<O: Object, K: Keeper> Desk<O, K> {
         ensures { Answers O.stepped O.is_row K.rows K.faults id day command self.old self.new result }
     {
         self.recall_sound();
-        match self.find(&id, &command) {
-            Seen::Place(place) => self.repeat(place),
-            Seen::Reused(place) => Answer::NumberReused(place),
-            Seen::New => {
+        let Ok(found) = self.entry_with(&id) else {
+            return Answer::Memory;
+        };
+        match found {
+            Some((place, entry)) => repeat::<O>(place, entry, &command),
+            None => {
                 if self.is_full() {
                     Answer::LogFull
                 } else {

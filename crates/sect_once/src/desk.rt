@@ -1,13 +1,13 @@
 // The desk: what has acted, the log of it, and the keeper of its rows.
-ghost use Rattle.std.specs.Prelude.{◌≡◌, ◌↔◌, ◌<◌, IsTrue, length, slice_get, Some};
-ghost use Rattle.sect_once.specs.Desks.{FindsIn};
-ghost use Rattle.sect_once.specs.History.{history, IsFull};
+ghost use Rattle.std.specs.Prelude.{◌≡◌, ◌↔◌, ◌<◌, IfNone, IfOk, IfSome, IsTrue, OnErr, length, slice_get, Some};
+ghost use Rattle.sect_once.specs.Desks.{FindsIn, SeesEntry};
+ghost use Rattle.sect_once.specs.History.{history, IsFull, IsNew};
 
 use crate::answer::Seen;
 use crate::entry::{Entry, Mark};
 use crate::object::Object;
 use crate::past::{MOST_NOTES, Past};
-use sect_base::Id;
+use sect_base::{Id, Memory};
 use sect_edge::Keeper;
 use std::alloc::Global;
 use std::marker::Model;
@@ -45,6 +45,17 @@ impl<O: Object, K: Keeper> Model for Desk<O, K> {
     ghost view = { λ d. record { object = d.past.object; log = log_of d.marks.items d.past.entries; keeper = d.keeper; base = K.faults d.opened.value } };
 
     ghost invariant = { λ d. IsDesk O.is_row d.marks.items d.past.entries (K.rows d.keeper) (K.faults d.opened.value) (K.faults d.keeper) };
+}
+
+/// What an entry is to a command with its id.
+fn seen_at<O: Object>(entry: &Entry<O::Command, O::Reply>, place: u32, command: &O::Command) -> Seen
+    ensures { SeesEntry entry.now place command.now result }
+{
+    if O::same_command(&entry.command, command) {
+        Seen::Place(place)
+    } else {
+        Seen::Reused(place)
+    }
 }
 
 impl<O: Object, K: Keeper> Desk<O, K> {
@@ -97,19 +108,35 @@ impl<O: Object, K: Keeper> Desk<O, K> {
         self.past.acted()
     }
 
-    /// The entry at a place, from 0.
-    pub fn entry(&self, place: u32) -> &Entry<O::Command, O::Reply>
+    /// The entry at a place, from 0. It is read from its row, which takes memory.
+    pub fn entry(&self, place: u32) -> Result<Entry<O::Command, O::Reply>, Memory>
         requires { place < length (history self.now.log) }
-        ensures { slice_get (history self.now.log) place ≡ Some result.now }
+        ensures { IfOk result (λ entry. slice_get (history self.now.log) place ≡ Some entry) }
     {
-        self.past.entry(place)
+        self.past.entry(self.alloc, place)
     }
 
-    /// What the history has of an id and a command.
-    pub fn find(&self, id: &Id, command: &O::Command) -> Seen
-        ensures { FindsIn (history self.now.log) id.now command.now result }
+    /// The entry with an id, and its place. Where there is one, reading it takes memory.
+    pub(crate) fn entry_with(
+        &self,
+        id: &Id,
+    ) -> Result<Option<(u32, Entry<O::Command, O::Reply>)>, Memory>
+        ensures found { IfOk result (λ found. IfSome found (λ r. (slice_get (history self.now.log) r.0 ≡ Some r.1) × (r.1.id ≡ id.now))) }
+        ensures none { IfOk result (λ found. IfNone found (IsNew id.now (history self.now.log))) }
+        ensures memory { OnErr result (IsNew id.now (history self.now.log) → ⊥) }
     {
-        self.past.find(id, command)
+        self.past.entry_with(self.alloc, id)
+    }
+
+    /// What the history has of an id and a command. It takes memory only where an entry has the id, to read that entry.
+    pub fn find(&self, id: &Id, command: &O::Command) -> Result<Seen, Memory>
+        ensures seen { IfOk result (λ seen. FindsIn (history self.now.log) id.now command.now seen) }
+        ensures memory { OnErr result (IsNew id.now (history self.now.log) → ⊥) }
+    {
+        match self.entry_with(id)? {
+            None => Ok(Seen::New),
+            Some((place, entry)) => Ok(seen_at::<O>(&entry, place, command)),
+        }
     }
 
     /// The log has 1,048,576 notes, or rows of 268,435,456 bytes.

@@ -13,6 +13,7 @@ mod object;
 mod opening;
 mod past;
 mod tally;
+mod texts;
 
 pub use again::replay;
 pub use answer::{Answer, OpenFault, Seen};

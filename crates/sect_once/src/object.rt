@@ -1,5 +1,5 @@
 // What a desk needs of its object.
-ghost use Rattle.std.specs.Prelude.{◌≡◌, ◌++◌, ℕ, List, Option, ◌↔◌, IsTrue, IfOk, OnOk, OnErr, IfSome, IfNone};
+ghost use Rattle.std.specs.Prelude.{◌≡◌, ◌++◌, ℕ, List, Option, Some, ◌↔◌, IsTrue, IfOk, OnOk, OnErr, IfSome, IfNone};
 ghost use Rattle.sect_base.specs.declared.limit.Caller.{Caller};
 ghost use Rattle.sect_base.specs.declared.limit.Id.{Id};
 ghost use Rattle.sect_once.specs.declared.entry.Entry.{Entry};
@@ -44,6 +44,9 @@ pub trait Object: Sized {
     /// The row is the text of the entry.
     ghost is_row: { Entry Self.Command Self.Reply → List ℕ → Type 0 };
 
+    /// The entry that a row is read as.
+    ghost entry_of: { List ℕ → Option (Entry Self.Command Self.Reply) };
+
     /// The request may be asked: its id, its day and its command have texts.
     ghost may_ask: { Id → ℕ → Self.Command → Type 0 };
 
@@ -78,9 +81,6 @@ pub trait Object: Sized {
     fn same_reply(a: &Self::Reply, b: &Self::Reply) -> bool
         ensures { IsTrue result ↔ (a.now ≡ b.now) };
 
-    fn copy_reply(alloc: Global, reply: &Self::Reply) -> Result<Self::Reply, Memory>
-        ensures { IfOk result (λ r. r ≡ reply.now) };
-
     /// Writes the row of an entry that has one behind what is there.
     fn print_entry(
         entry: &Entry<Self::Command, Self::Reply>,
@@ -102,6 +102,9 @@ pub trait Object: Sized {
 
     /// A row is of at most one entry.
     ghost one_entry: { (a b : Entry Self.Command Self.Reply) (row : List ℕ) → is_row a row → is_row b row → a ≡ b };
+
+    /// The row of an entry is read as that entry.
+    ghost reads_row: { (entry : Entry Self.Command Self.Reply) (row : List ℕ) → is_row entry row → entry_of row ≡ Some entry };
 
     /// Behind entries with rows, the entry of a request that may be asked has a row.
     ghost next_has_row: { NextHasRow start stepped is_row may_ask };

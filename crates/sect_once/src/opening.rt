@@ -10,7 +10,7 @@ use crate::answer::OpenFault;
 use crate::desk::Desk;
 use crate::entry::{Entry, Mark};
 use crate::object::Object;
-use crate::past::{MOST_NOTES, Past, place_in};
+use crate::past::{MOST_NOTES, Past, add};
 use sect_base::Memory;
 use sect_edge::Keeper;
 use std::alloc::{AllocError, Global};
@@ -28,30 +28,24 @@ impl<O: Object> Past<O> {
     fn is_full(&self) -> bool
         ensures { IsTrue result ↔ IsFull O.is_row (acted_log self.now.entries) }
     {
-        self.entries.len() >= MOST_NOTES || self.is_heavy()
+        self.rows.len() >= MOST_NOTES || self.is_heavy()
     }
 
-    /// Takes the entry where its reply is the object's. Else, and after want of memory, all is as before.
-    fn resume(&mut self, entry: Entry<O::Command, O::Reply>, row: &[u8]) -> Result<bool, Memory>
+    /// Acts the entry, and takes its row, where its reply is the object's. Else, and after want of memory, all is as before.
+    fn resume(&mut self, entry: &Entry<O::Command, O::Reply>, row: &[u8]) -> Result<bool, Memory>
         requires room { IsFull O.is_row (acted_log self.old.entries) → ⊥ }
-        requires written { O.is_row entry row.now }
-        requires new { IsNew entry.id self.old.entries }
-        ensures resumed { IfOk result (Resumes O.start O.stepped O.is_row self.old self.new entry) }
+        requires written { O.is_row entry.now row.now }
+        requires new { IsNew entry.now.id self.old.entries }
+        ensures resumed { IfOk result (Resumes O.start O.stepped O.is_row self.old self.new entry.now) }
         ensures err { OnErr result (self.new ≡ self.old) }
     {
-        self.entries.reserve(1)?;
-        let place = self.entries.len() as u32;
         let (reply, undo) = step_in(&mut self.object, entry.day, entry.id.caller, &entry.command)?;
         if !O::same_reply(&reply, &entry.reply) {
             take_back(&mut self.object, undo);
             return Ok(false);
         }
-        match place_in(&mut self.places, &entry.id, place) {
-            Ok(()) => {
-                self.row_bytes += row.len() as u64;
-                self.entries.push_reserved(entry);
-                Ok(true)
-            }
+        match add(&mut self.rows, &mut self.places, &entry.id, row) {
+            Ok(()) => Ok(true),
             Err(memory) => {
                 take_back(&mut self.object, undo);
                 Err(memory)
@@ -73,7 +67,7 @@ impl<O: Object> Past<O> {
         if self.has(&entry.id) {
             return Ok(false);
         }
-        self.resume(entry, row)
+        self.resume(&entry, row)
     }
 
     /// Takes the keeper's row with the number of the entries.

@@ -1,7 +1,9 @@
-// What has acted: the object with the entries that brought it where it is, and the place of each id.
+// What has acted: the object with the rows of the entries that brought it where it is, and the place of each id.
 ghost use Rattle.std.specs.Prelude.{
   ◌≡◌,
   ℕ,
+  ◌∷◌,
+  ◌++◌,
   ◌↔◌,
   ◌<◌,
   ◌≤◌,
@@ -11,6 +13,7 @@ ghost use Rattle.std.specs.Prelude.{
   true,
   false,
   [],
+  List,
   length,
   slice_get,
   cond,
@@ -18,33 +21,34 @@ ghost use Rattle.std.specs.Prelude.{
   IfOk,
   IfSome,
   IsTrue,
+  None,
   Some,
   OnErr,
   OnOk,
 };
 ghost use Rattle.std.specs.HashMap.{get};
 ghost use Rattle.sect_base.specs.declared.limit.Id.{Id};
-ghost use Rattle.sect_once.specs.Desks.{FindsIn, IsTrail, SeesEntry};
+ghost use Rattle.sect_once.specs.declared.entry.Entry.{Entry};
+ghost use Rattle.sect_once.specs.Desks.{IsTrail};
 ghost use Rattle.sect_once.specs.Opening.{HasActed};
 ghost use Rattle.sect_once.specs.History.{AreHeavy, IsNew, key_of};
 
-use crate::answer::Seen;
 use crate::entry::Entry;
 use crate::key::key_of;
 use crate::object::Object;
+use crate::texts::Texts;
 use sect_base::{Id, Memory};
 use std::alloc::Global;
 use std::collections::HashMap;
 use std::marker::Model;
 
-/// An object that is the replay of its entries. Each entry names its id, and a look-up tests it. The bytes of their rows are
-/// counted, and the last row stands in a buffer for the next. The object lies in a place of its own, so that who takes a desk
-/// over doesn't copy it.
+/// An object that is the replay of its entries. Of these the rows alone are kept, and the place of each id; an entry is read
+/// from its row when one is asked for. The row that is printed next stands in a buffer of its own. The object lies in a place of
+/// its own, so that who takes a desk over doesn't copy it.
 pub(crate) struct Past<O: Object> {
     pub(crate) object: Box<O>,
-    pub(crate) entries: Vec<Entry<O::Command, O::Reply>>,
+    pub(crate) rows: Texts,
     pub(crate) places: HashMap<u128, u32>,
-    pub(crate) row_bytes: u64,
     pub(crate) row: Vec<u8>,
 }
 
@@ -53,9 +57,8 @@ impl<O: Object + Drop> Drop for Past<O> {
     fn drop(self) {
         let Past {
             object: _,
-            entries: _,
+            rows: _,
             places: _,
-            row_bytes: _,
             row: _,
         } = self;
     }
@@ -63,12 +66,13 @@ impl<O: Object + Drop> Drop for Past<O> {
 
 impl<O: Object> Model for Past<O> {
     ghost use Rattle.sect_once.specs.Desks.{IsPast, Trail};
+    ghost use Rattle.sect_once.specs.History.{entries_of};
 
     ghost Value = { Trail O.State O.Command O.Reply };
 
-    ghost view = { λ p. record { object = O.state p.object.value; entries = p.entries.items } };
+    ghost view = { λ p. record { object = O.state p.object.value; entries = entries_of O.entry_of p.rows } };
 
-    ghost invariant = { λ p. IsPast O.start O.stepped O.is_row (O.state p.object.value) p.entries.items p.places p.row_bytes };
+    ghost invariant = { λ p. IsPast O.start O.stepped O.is_row (O.state p.object.value) (entries_of O.entry_of p.rows) p.places p.rows };
 }
 
 /// The notes with which a log is full.
@@ -77,32 +81,48 @@ pub(crate) const MOST_NOTES: usize = 1 << 20;
 /// The bytes of rows with which a log is full.
 pub(crate) const MOST_BYTES: u64 = 1 << 28;
 
-/// Gives an id its place.
-pub(crate) fn place_in(places: &mut HashMap<u128, u32>, id: &Id, place: u32) -> Result<(), Memory>
+/// Takes a row behind the others, and gives its id its place. After want of memory both are as before.
+pub(crate) fn add(
+    rows: &mut Texts,
+    places: &mut HashMap<u128, u32>,
+    id: &Id,
+    row: &[u8],
+) -> Result<(), Memory>
+    requires few { length rows.old < 2 ^ 32 }
     ensures small { id.now.number < 2 ^ 64 }
-    ensures places { OnOk result ((q : ℕ) → get nat_eq places.new q ≡ cond (key_of id.now == q) (Some place) (get nat_eq places.old q)) }
-    ensures stay { OnErr result ((q : ℕ) → (key_of id.now == q) ≡ false → get nat_eq places.new q ≡ get nat_eq places.old q) }
+    ensures rows { OnOk result (rows.new ≡ rows.old ++ row.now ∷ []) }
+    ensures places { OnOk result ((q : ℕ) → get nat_eq places.new q ≡ cond (key_of id.now == q) (Some (length rows.old)) (get nat_eq places.old q)) }
+    ensures rows_stay { OnErr result (rows.new ≡ rows.old) }
+    ensures places_stay { OnErr result ((q : ℕ) → get nat_eq places.new q ≡ get nat_eq places.old q) }
 {
-    places.insert(key_of(id), place)?;
+    let key = key_of(id);
+    let place = rows.len() as u32;
+    rows.push(row)?;
+    if places.insert(key, place).is_err() {
+        rows.pop();
+        return Err(Memory);
+    }
     Ok(())
 }
 
-/// The entry at a place, which has one.
-fn entry_at<C, R>(entries: &[Entry<C, R>], place: u32) -> &Entry<C, R>
-    requires { place < length entries.now }
-    ensures { slice_get entries.now place ≡ Some result.now }
+/// Takes back what was added last.
+pub(crate) fn remove(rows: &mut Texts, places: &mut HashMap<u128, u32>, id: &Id)
+    requires { 0 < length rows.old }
+    ensures rows { (row : List ℕ) × (rows.old ≡ rows.new ++ row ∷ []) }
+    ensures places { (q : ℕ) → get nat_eq places.new q ≡ cond (key_of id.now == q) None (get nat_eq places.old q) }
 {
-    &entries[place as usize]
+    rows.pop();
+    places.remove(&key_of(id));
 }
 
-/// What an entry is to a command with its id.
-fn seen_at<O: Object>(entry: &Entry<O::Command, O::Reply>, place: u32, command: &O::Command) -> Seen
-    ensures { SeesEntry entry.now place command.now result }
+/// The entry of a row that has one.
+fn entry_in<O: Object>(alloc: Global, row: &[u8]) -> Result<Entry<O::Command, O::Reply>, Memory>
+    requires { (entry : Entry O.Command O.Reply) × O.is_row entry row.now }
+    ensures { IfOk result (λ entry. O.is_row entry row.now) }
 {
-    if O::same_command(&entry.command, command) {
-        Seen::Place(place)
-    } else {
-        Seen::Reused(place)
+    match O::read_entry(alloc, row)? {
+        Some(entry) => Ok(entry),
+        None => unreachable!(),
     }
 }
 
@@ -115,9 +135,8 @@ impl<O: Object> Past<O> {
     {
         Ok(Past {
             object: Box::new(alloc, O::empty(alloc))?,
-            entries: Vec::new(alloc),
+            rows: Texts::none(alloc),
             places: HashMap::new(alloc),
-            row_bytes: 0,
             row: Vec::new(alloc),
         })
     }
@@ -126,36 +145,34 @@ impl<O: Object> Past<O> {
     pub(crate) fn recall_trail(&self)
         ensures { IsTrail O.start O.stepped self.now }
     {
-        let _ = &self.row_bytes;
+        let _ = &self.rows;
     }
 
     /// The number of entries.
     pub(crate) fn acted(&self) -> u32
         ensures { result ≡ length self.now.entries }
     {
-        self.entries.len() as u32
+        self.rows.len() as u32
     }
 
-    /// The entry at a place.
-    pub(crate) fn entry(&self, place: u32) -> &Entry<O::Command, O::Reply>
+    /// The entry at a place, read from its row.
+    pub(crate) fn entry(
+        &self,
+        alloc: Global,
+        place: u32,
+    ) -> Result<Entry<O::Command, O::Reply>, Memory>
         requires { place < length self.now.entries }
-        ensures { slice_get self.now.entries place ≡ Some result.now }
+        ensures { IfOk result (λ entry. slice_get self.now.entries place ≡ Some entry) }
     {
-        entry_at(self.entries.as_slice(), place)
+        entry_in::<O>(alloc, self.rows.get(place as usize))
     }
 
-    /// The entry with an id, and its place.
-    fn entry_with(&self, id: &Id) -> Option<(u32, &Entry<O::Command, O::Reply>)>
-        ensures found { IfSome result (λ r. (slice_get self.now.entries r.0 ≡ Some r.1.now) × (r.1.now.id ≡ id.now)) }
+    /// The place of the entry with an id.
+    fn place_of(&self, id: &Id) -> Option<u32>
+        ensures found { IfSome result (λ place. HasActed O.start O.stepped O.is_row id.now self.now.entries × (place < length self.now.entries) × ((e : Entry O.Command O.Reply) → slice_get self.now.entries place ≡ Some e → e.id ≡ id.now)) }
         ensures none { IfNone result (IsNew id.now self.now.entries) }
     {
-        let place = *self.places.get(&key_of(id))?;
-        let entry = self.entries.get(place as usize)?;
-        if entry.id == *id {
-            Some((place, entry))
-        } else {
-            None
-        }
+        Some(*self.places.get(&key_of(id))?)
     }
 
     /// Whether an entry has the id.
@@ -163,23 +180,30 @@ impl<O: Object> Past<O> {
         ensures acted { result ≡ true → HasActed O.start O.stepped O.is_row id.now self.now.entries }
         ensures new { result ≡ false → IsNew id.now self.now.entries }
     {
-        self.entry_with(id).is_some()
+        self.place_of(id).is_some()
     }
 
-    /// What the entries have of an id and a command.
-    pub(crate) fn find(&self, id: &Id, command: &O::Command) -> Seen
-        ensures { FindsIn self.now.entries id.now command.now result }
+    /// The entry with an id, and its place. Reading it takes memory.
+    pub(crate) fn entry_with(
+        &self,
+        alloc: Global,
+        id: &Id,
+    ) -> Result<Option<(u32, Entry<O::Command, O::Reply>)>, Memory>
+        ensures found { IfOk result (λ found. IfSome found (λ r. (slice_get self.now.entries r.0 ≡ Some r.1) × (r.1.id ≡ id.now))) }
+        ensures none { IfOk result (λ found. IfNone found (IsNew id.now self.now.entries)) }
+        ensures memory { OnErr result (IsNew id.now self.now.entries → ⊥) }
     {
-        match self.entry_with(id) {
-            None => Seen::New,
-            Some((place, entry)) => seen_at::<O>(entry, place, command),
-        }
+        let Some(place) = self.place_of(id) else {
+            return Ok(None);
+        };
+        let entry = self.entry(alloc, place)?;
+        Ok(Some((place, entry)))
     }
 
     /// The rows have so many bytes that the log is full.
     pub(crate) fn is_heavy(&self) -> bool
         ensures { IsTrue result ↔ AreHeavy O.is_row self.now.entries }
     {
-        self.row_bytes >= MOST_BYTES
+        self.rows.size() >= MOST_BYTES
     }
 }

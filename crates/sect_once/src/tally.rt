@@ -3,7 +3,7 @@ ghost use Rattle.std.specs.Prelude.{◌≡◌, ℕ, ◌<◌, ◌≤◌, ◌+◌,
 ghost use Rattle.std.specs.Int.{from_be_bytes, to_be_bytes, w32, w64};
 ghost use Rattle.sect_base.specs.declared.limit.Caller.{Caller};
 ghost use Rattle.sect_once.specs.declared.entry.Entry.{Entry};
-ghost use Rattle.sect_once.specs.Tallies.{IsTallyRow, MayAsk, caller_number, caller_tag, tallied};
+ghost use Rattle.sect_once.specs.Tallies.{IsTallyRow, MayAsk, caller_number, caller_tag, tallied, tally_entry};
 
 use crate::entry::Entry;
 use crate::object::Object;
@@ -42,6 +42,8 @@ impl Object for Tally {
 
     ghost is_row = { IsTallyRow };
 
+    ghost entry_of = { tally_entry };
+
     ghost may_ask = { MayAsk };
 
     fn empty(_alloc: Global) -> Self {
@@ -70,10 +72,6 @@ impl Object for Tally {
         a == b
     }
 
-    fn copy_reply(_alloc: Global, reply: &u64) -> Result<u64, Memory> {
-        Ok(*reply)
-    }
-
     fn print_entry(entry: &Entry<u8, u64>, into: &mut Vec<u8>) -> Result<(), Memory> {
         let Entry {
             id,
@@ -93,11 +91,13 @@ impl Object for Tally {
         }
     }
 
-    ghost use Rattle.sect_once.specs.TallyLaws.{tally_next_has_row, tally_one_entry, tally_one_row};
+    ghost use Rattle.sect_once.specs.TallyLaws.{tally_next_has_row, tally_one_entry, tally_one_row, tally_reads_row};
 
     ghost one_row = { tally_one_row };
 
     ghost one_entry = { tally_one_entry };
+
+    ghost reads_row = { tally_reads_row };
 
     ghost next_has_row = { tally_next_has_row };
 }

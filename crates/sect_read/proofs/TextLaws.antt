@@ -2,6 +2,8 @@
 use Rattle.std.proofs.Common.{◌≡◌, ℕ, true, false, List, [], Option, Some, refl, ap, sym, ◌∙◌, append-nil}
 use Rattle.std.specs.Prelude.{Result, Ok}
 use Rattle.sect_command.specs.declared.command.Command.{Command}
+use Rattle.sect_command.specs.declared.reply.Reply.{Reply}
+use Rattle.sect_once.specs.declared.entry.Entry.{Entry}
 use Rattle.sect_words.specs.Parts.{pieces}
 use Rattle.sect_text.specs.Commands.{command_words, command_text}
 use Rattle.sect_text.specs.Replies.{reply_text}
@@ -11,7 +13,7 @@ use Rattle.sect_words.specs.Reading.{whole}
 use Rattle.sect_read.specs.ReadingCommands.{command_at}
 use Rattle.sect_read.specs.ReadingReplies.{reply_of}
 use Rattle.sect_read.specs.ReadingLines.{row_of}
-use Rattle.sect_read.specs.Laws.{PrintedIsLine, OneRequest, OneReply, OneCommand, OneRow, OneEntry}
+use Rattle.sect_read.specs.Laws.{IsRow, PrintedIsLine, OneRequest, OneReply, OneCommand, OneRow, OneEntry}
 use Rattle.sect_read.specs.declared.line.LineAsk.{LineAsk}
 use Rattle.sect_read.specs.declared.fault.WireFault.{WireFault}
 use Rattle.sect_read.proofs.Steps.{Exact, quiet_end}
@@ -36,6 +38,10 @@ one_value {of = of} exact a b fits fits2 same = let p : Some a ≡ Some b = sym 
 
 pub one_reply : OneReply
 one_reply a b fits fits2 same = one_value exact_reply a b fits fits2 same
+
+-- the row of an entry is read as that entry
+pub row_again : (e : Entry Command Reply) (row : List ℕ) → IsRow e row → row_of row ≡ Some e
+row_again e row is = ap row_of is.1 ∙ exact_row.again e is.0
 
 pub one_row : OneRow
 one_row e a b is is2 = is.1 ∙ sym is2.1

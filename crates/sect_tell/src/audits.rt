@@ -93,10 +93,10 @@ fn audit_on<K: Keeper>(machine: &mut Machine, desk: &Desk<Machine, K>) -> Result
     let mut blocked = 0;
     let mut verified = 0;
     for place in 0..desk.acted() {
-        let entry = desk.entry(place);
+        let entry = desk.entry(place)?;
         blocked = plus(blocked, is_blocked(&entry.reply));
-        verified = plus(verified, is_verified(machine, entry)?);
-        act(machine, entry)?;
+        verified = plus(verified, is_verified(machine, &entry)?);
+        act(machine, &entry)?;
     }
     Ok(Found {
         blocked,

@@ -1,7 +1,7 @@
 // It is asked, over a keeper in memory that may fail, and its rows are replayed.
 
 use super::{first_day, id};
-use sect_base::Chronicle;
+use sect_base::{Chronicle, Memory};
 use sect_edge::MemKeeper;
 use sect_once::{Answer, Desk, OpenFault, Seen, Tally};
 use sect_time::Day;
@@ -48,7 +48,7 @@ fn later() -> Day {
 }
 
 /// What is found of the request with this number.
-fn found(desk: &Desk<Tally, MemKeeper>, number: u64, count: u8) -> Seen {
+fn found(desk: &Desk<Tally, MemKeeper>, number: u64, count: u8) -> Result<Seen, Memory> {
     desk.find(&id(number), &count)
 }
 
@@ -74,9 +74,9 @@ fn a_request_is_found(rt: HostRuntime) -> Result<(), Fail> {
         panic!(rt; "it opens")
     };
     assert_eq!(rt; ask_ones(&mut desk, 2), 2);
-    assert_eq!(rt; found(&desk, 1, 1), Seen::Place(1));
-    assert_eq!(rt; found(&desk, 1, 8), Seen::Reused(1));
-    assert_eq!(rt; found(&desk, 2, 1), Seen::New);
+    assert_eq!(rt; found(&desk, 1, 1), Ok(Seen::Place(1)));
+    assert_eq!(rt; found(&desk, 1, 8), Ok(Seen::Reused(1)));
+    assert_eq!(rt; found(&desk, 2, 1), Ok(Seen::New));
     Ok(())
 }
 

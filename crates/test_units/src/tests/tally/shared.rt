@@ -236,7 +236,13 @@ fn are_each_once(places: &[Vec<u32>], total: u32) -> bool {
 
 /// Whether the request at a place acted, and has this reply.
 fn has_reply(desk: &Desk<Tally, MemKeeper>, place: u32, reply: u64) -> bool {
-    place < desk.acted() && desk.entry(place).reply == reply
+    if place >= desk.acted() {
+        return false;
+    }
+    match desk.entry(place) {
+        Ok(entry) => entry.reply == reply,
+        Err(_) => false,
+    }
 }
 
 #[test]

@@ -8,10 +8,7 @@ pub act-acted-requires-clause-new : goal.act-acted-requires-clause-new
 act-acted-requires-clause-new g c = subst (IsNew c.args.id) (ap (λ d. history d.log) (sym c.self.view_is) ∙ history-log_of c.self.inside.marks.items c.self.inside.past.entries c.self.invariant.marked) c.requires.new
 
 pub act-acted-requires-clause-notes : goal.act-acted-requires-clause-notes
-act-acted-requires-clause-notes g c = (has_room g.O.Object.is_row c.self.inside.marks.items c.self.inside.past.entries c.self.invariant.marked (subst (λ d. IsFull g.O.Object.is_row d.log → ⊥) (sym c.self.view_is) c.requires.room)).0
-
-pub act-acted-requires-clause-bytes : goal.act-acted-requires-clause-bytes
-act-acted-requires-clause-bytes g c = (has_room g.O.Object.is_row c.self.inside.marks.items c.self.inside.past.entries c.self.invariant.marked (subst (λ d. IsFull g.O.Object.is_row d.log → ⊥) (sym c.self.view_is) c.requires.room)).1
+act-acted-requires-clause-notes g c = has_room g.O.Object.is_row c.self.inside.marks.items c.self.inside.past.entries c.self.invariant.marked (subst (λ d. IsFull g.O.Object.is_row d.log → ⊥) (sym c.self.view_is) c.requires.room)
 
 pub invariant_of-self-in-Ok : goal.invariant_of-self-in-Ok
 invariant_of-self-in-Ok g c = let room = subst (λ d. IsFull g.O.Object.is_row d.log → ⊥) (sym c.self.view_is) c.requires.room in

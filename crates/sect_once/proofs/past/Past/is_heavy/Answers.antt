@@ -1,10 +1,12 @@
-use Rattle.std.proofs.Common.{arith}
+use Rattle.std.proofs.Common.{arith, length, sum_by}
 use Rattle.std.proofs.lemmas.Bool.Decides.{nat_tests}
+use Rattle.sect_once.specs.History.{entries_of}
+use Rattle.sect_once.proofs.Pasts.{bytes_of}
 use Rattle.sect_once.proofs.Rows.{heavy-size}
 use Rattle.sect_once.proofs.past.Past.is_heavy.Goals as goal
 
 pub returns : goal.returns
-returns g c = rw (← c.self.view_is) (
-  λ h. record { size = c.self.inside.row_bytes; bytes = c.self.invariant.bytes; heavy = grind (arith, nat_tests, h) },
-  λ a. let big = heavy-size g.O.Object.is_row g.met.O.Object.one_row c.self.inside.entries.items c.self.inside.row_bytes c.self.invariant.bytes a in grind (arith, nat_tests, big),
+returns g c = let bytes = bytes_of g.O.Object.start g.O.Object.stepped g.O.Object.is_row (g.O.Object.state c.self.inside.object.value) (entries_of g.O.Object.entry_of c.self.inside.rows) c.self.inside.places c.self.inside.rows c.self.invariant in rw (← c.self.view_is) (
+  λ h. record { size = sum_by length c.self.inside.rows; bytes = bytes; heavy = grind (arith, nat_tests, h, c.size.ensures) },
+  λ a. let big = heavy-size g.O.Object.is_row g.met.O.Object.one_row (entries_of g.O.Object.entry_of c.self.inside.rows) (sum_by length c.self.inside.rows) bytes a in grind (arith, nat_tests, big, c.size.ensures),
 )
