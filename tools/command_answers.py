@@ -1,6 +1,7 @@
-"""What a second computation of the desk in Python answers to whole commands over one keeper, and to lines over a machine: to the
-parts `commands` and `machine` of the input of test_commands, whose form its main.rt tells. What the clerk answers, and texts of help, are
-taken from the stored answers. The second computation's folder is among those of modules."""
+"""What a second computation of the desk in Python answers to whole commands over one keeper, the script tests/commands.txt, whose
+form tools/whole_runs.py tells, and to lines over a machine, the part `machine` of the input of test_commands, whose form its main.rt
+tells. What the clerk answers, and texts of help, are taken from the stored answers. The second computation's folder is among those
+of modules."""
 import copy
 import re
 
@@ -11,7 +12,6 @@ from machine import Machine
 
 VERSION = "desk 0.1.0\n"
 COMMANDS = ("run", "serve", "make", "audit", "report", "import", "export", "plan", "survey", "--version")
-STATUSES = {0: "Done", 2: "BadWords", 4: "ReadFault", 5: "WriteFault", 6: "KeeperFault", 8: "LinkFault"}
 FUZZED = ("offerings", "students", "requests", "reservations")
 
 
@@ -34,17 +34,14 @@ def do(words, data, write, opened):
 
 
 def ended(words, data, write, opened):
-    """The name of the status with which a command ends."""
+    """The number of the status with which a command ends, and its text."""
     try:
         do(words, data, write, opened)
     except app.BadWords:
-        return STATUSES[2]
+        return f"2 {app.USAGE}"
     except app.Status as status:
-        numbers = re.findall("[0-9]+", status.text)
-        if status.number == 3:
-            return f"BadLine {{ line: {numbers[0]}, field: {numbers[1]} }}"
-        return f"BadEntry({numbers[0]})" if status.number == 7 else STATUSES[status.number]
-    return STATUSES[0]
+        return f"{status.number} {status.text}"
+    return "0"
 
 
 def unfolded(text):
@@ -86,7 +83,8 @@ class Stored:
 
     def answer(self, line):
         """What is written for a line, and how the command ends."""
-        end = re.compile(rf"^{re.escape(line)}\n((?:.*\n)*?)(status .*\nrows [0-9]+\n)", re.M)
+        rows = "" if line.startswith("& ") else "rows [0-9]+\\n"
+        end = re.compile(rf"^{re.escape(line)}\n((?:.*\n)*?)(status .*\n{rows})", re.M)
         found = end.search(self.text, self.at)
         if found is None:
             return "", "not stored\n"
@@ -94,28 +92,37 @@ class Stored:
         return found.groups()
 
 
+def is_stored(words, alone):
+    """Whether the answer is as it is stored: the clerk's, and a text of help."""
+    return words[:1] == ["clerk"] or not alone and words[0] not in COMMANDS or app.asks_help(words) and words != ["--version"]
+
+
 class Commands:
     """Commands over one keeper, and the input of the next one."""
 
     def __init__(self, stored):
-        self.stored, self.rows, self.failing, self.input, self.written = stored, [], [], b"", ""
+        self.stored, self.rows, self.input, self.written = stored, [], b"", ""
         self.keeper = self.desk = None
 
     def opened(self):
-        """The desk, which stays open where no reading of the keeper is to fail."""
-        if self.desk is None or self.keeper.reads:
+        """The desk, which stays open."""
+        if self.desk is None:
             self.desk = app.open_desk(self.keeper)
         return self.desk
 
     def told(self, line):
         """What is printed for a line with words."""
         if self.keeper is None:
-            self.keeper = journal.MemKeeper(self.rows, self.failing[:1], self.failing[1:])
+            self.keeper = journal.MemKeeper(self.rows)
         words, data, out = ["" if word == '""' else word for word in line[2:].split()], self.input, []
         self.input = b""
-        if words[0] not in COMMANDS:
+        if is_stored(words, line.startswith("& ")):
             self.written, end = self.stored.answer(line)
             return f"{line}\n{self.written}{end}"
+        if line.startswith("& "):
+            desk = app.open_desk(journal.MemKeeper())
+            status = ended(words, data, out.append, lambda: desk)
+            return f"{line}\n{''.join(out)}status {status}\n"
         status = ended(words, data, out.append, self.opened)
         self.written = "".join(out)
         shown = self.written
@@ -138,14 +145,12 @@ def commands(lines, stored):
             over = Commands(stored)
             stored.begin(line)
             yield line + "\n"
-        elif line.startswith(("$ ", "% ")):
+        elif line.startswith(("$ ", "% ", "& ")):
             yield over.told(line)
         elif line == "= again":
             yield over.again()
         elif line.startswith("| "):
             over.rows.append(line[2:].encode())
-        elif line.startswith("! "):
-            over.failing = [int(number) for number in line[2:].split()]
         elif line.startswith("+ "):
             over.input += numbered(line[2:])
         elif not line.startswith("/ "):
@@ -214,14 +219,15 @@ def escaped(data):
     """The bytes as lines of an input."""
     lines = "".join("\\r" if byte == 13 else chr(byte) if byte == 10 or 32 <= byte < 127 and byte not in b"\\{" else f"\\x{byte:02x}"
                     for byte in data)
-    lines = re.sub(r"(?m)^(?=[#|!+$%=/])", r"\\", lines)
+    lines = re.sub(r"(?m)^(?=[#|+$%&=/])", r"\\", lines)
     return lines if not lines or lines.endswith("\n") else lines + "\\.\n"
 
 
 def fuzzed_requests(seed):
     """A section of random requests."""
     import fuzz
-    lines = [line for line in fuzz.Gen(seed).script(100) if line and not line.startswith("#")]
+    lines = [line if line.startswith("@") else f"@2025-09-01 {line}"
+             for line in fuzz.Gen(seed).script(100) if line and not line.startswith("#")]
     return f"# Random requests, {seed}.\n" + "".join(line + "\n" for line in [*lines, "$ run", "$ audit", "$ survey"])
 
 

@@ -13,7 +13,7 @@ errors EIO and ENOSPC, with which strace answers that one call in place of the s
   and each line has a place of its own, from 0 without a gap;
 - `desk audit` counts each line once.
 
-It stands outside the gate. The status is 1 where something differs.
+Where there is strace, it stands behind the gate, with the journal. The status is 1 where something differs.
 """
 import argparse
 import os

@@ -109,20 +109,16 @@ def one_run(call, piece, number, words, rows, data):
 
 
 def answers(lines, _):
-    words, rows, data, kept = [], [], b'', None
+    words, rows, data = [], [], b''
     for line in lines:
         if line[:1] in ('#', '$', '?'):
             yield line + '\n'
         if line.startswith('#'):
             words, rows, data = [], [], b''
         elif line.startswith('$ '):
-            words, data = ['' if word == '""' else word for word in line[2:].split()], b''
+            words, data = line[2:].split(), b''
         elif line.startswith('| '):
             rows = rows + [line[2:].encode()]
-        elif line.startswith('? begin '):
-            kept = journal.MemKeeper(rows, *([call] if call else [] for call in map(int, line[8:].split())))
-        elif line == '? once':
-            yield run(words, kept, data) + '\n'
         elif line.startswith('? '):
             call, piece, count = line[2:].split()
             for number in range(1, int(count) + 1):

@@ -1,14 +1,21 @@
-"""What a second computation of the desk in Python answers over HTTP: to connections, and to bodies, heads and answers, the parts
-`connections` and `bodies` of the input of test_commands, whose form its main.rt tells. The second computation's folder is among
-those of modules."""
+"""What a second computation of the desk in Python answers over HTTP: to the script tests/connections.txt, and to the parts
+`connections` and `bodies` of test_commands. The second computation's folder is among those of modules."""
 import itertools
 
 import app
 import httpd
 import journal
-import reports
 import texts
 from command_answers import unescaped, unfolded
+
+# The connection of test_commands, which is served again and again.
+ROWS = [b"2025-09-01 r1 1 offering 1 course 1 - 3 config 1 - subpart 1 section 7 1 - - = amended",
+        b"2025-09-01 r1 2 student 11 max 18 = amended", b"2025-09-01 r1 3 student 12 max 18 = amended"]
+CURL = (b"POST /students/11/asks/1 HTTP/1.1\r\nHost: localhost:8080\r\nUser-Agent: curl/8.5.0\r\nAccept: */*\r\n"
+        b"Content-Type: application/json\r\nContent-Length: 43\r\n\r\n")
+WAITING = b"GET /waiting HTTP/1.1\r\nHost: localhost:8080\r\n\r\n"
+BODY = b'{"verb":"enrol","student":11,"courses":[1]}'
+CUT = CURL + BODY + WAITING + CURL + BODY[:10]
 
 
 class Fault(Exception):
@@ -48,9 +55,9 @@ class Talk:
 
 
 def served(talk, desk):
-    """What a connection was told, and how it ended."""
+    """What a connection was told."""
     told = talk.serve(desk).told.decode().replace("\r", "\\r")
-    return f"{len(talk.told)} bytes, {talk.end}\n{told}" + "\n" * (told != "" and not told.endswith("\n"))
+    return f"{len(talk.told)} bytes\n{told}" + "\n" * (told != "" and not told.endswith("\n"))
 
 
 def sweep(kind, data, piece, opened):
@@ -70,6 +77,7 @@ def sweep(kind, data, piece, opened):
 
 
 def connections(lines, _):
+    """What is told of the script tests/connections.txt, whose form tools/whole_runs.py tells."""
     rows, failing, data, sent = [], [], b"", []
     for line in lines:
         if line.startswith("#"):
@@ -84,88 +92,29 @@ def connections(lines, _):
             data = b""
         elif line.startswith("< "):
             data += unescaped(unfolded(line[2:]))
-        elif line == "$ serve":
-            desk = app.open_desk(journal.MemKeeper(rows, failing))
-            yield line + "\n" + "".join(served(Talk(*talk), desk) for talk in sent)
         else:
-            yield line + "\n"
-            yield from sweep(line[2:], *sent[-1], lambda: app.open_desk(journal.MemKeeper(rows, failing)))
+            keeper = journal.MemKeeper(rows, failing)
+            desk = app.open_desk(keeper)
+            order = sent[::-1] if line == "$ serve at once" else sent
+            yield line + "\n" + "".join(served(Talk(*talk), desk) for talk in order)
+            yield "status 0\n" + "".join(f"| {row.decode()}\n" for row in keeper.rows[len(rows):])
 
 
-def bytes_of(line):
-    """The bytes that a line says: `< TEXT`, `x HEX` or `* N TEXT`."""
-    if line.startswith("x "):
-        return bytes.fromhex(line[2:])
-    count, text = line[2:].split(" ", 1) if line.startswith("* ") else (1, line[2:])
-    return int(count) * text.encode()
+def cuts(*_):
+    """What is told of the connection of the part `connections` of test_commands, which ends at each place."""
+    for kind in ("cut", "read", "write"):
+        yield f"{kind}\n"
+        yield from sweep(kind, CUT, 1000, lambda: app.open_desk(journal.MemKeeper(list(ROWS))))
 
 
-def body_told(data):
+def body_told(text):
     try:
-        return texts.print_command(texts.read_body(data))
+        return texts.print_command(texts.read_body(text.encode()))
     except texts.BadBody as bad:
         return f"bad {bad.args[0]}"
 
 
-def framing_told(head):
-    """What the fields say of the body, step by step as a session looks at them."""
-    lengths = [value for name, value in head.fields if name == b"content-length"]
-    if any(name == b"transfer-encoding" for name, _ in head.fields):
-        return "refuses coding"
-    if not all(value.isdigit() and len(value) <= 10 for value in lengths) or len({int(value) for value in lengths}) > 1:
-        return "refuses head"
-    if head.method == b"POST" and not lengths:
-        return "refuses length"
-    length = int(lengths[0]) if lengths else 0
-    return "refuses size" if length > 65536 else f"body {length}"
-
-
-def target_told(target):
-    found = httpd.route(target.split(b"?")[0])
-    if found is None:
-        return " no route"
-    if found[0] == b"POST":
-        (caller, id_), number = found[1]
-        return f" ask {caller}{id_} {number}"
-    if found[1] in (reports.waiting, reports.unmet):
-        return f" {found[1].__name__} 0"
-    kind = found[1].__code__.co_names[1].strip("_")
-    return f" {kind} {found[1].__closure__[0].cell_contents}"
-
-
-def head_told(data):
-    reader = httpd.HeadReader()
-    try:
-        if not any(reader.take(byte) for byte in data[:16384]):
-            return "unfinished"
-    except httpd.BadHead:
-        return "impossible"
-    head = reader.head
-    if len(head.fields) > 64:
-        return "crowded"
-    parts = [part for name, value in head.fields if name == b"connection" for part in value.split(b",")]
-    closes = head.minor == 0 or any(part.strip(b" \t").lower() == b"close" for part in parts)
-    return framing_told(head) + (" closes" if closes else "") + target_told(head.target)
-
-
-def answer_told(line):
-    kind, *rest = line.split(" ", 2)
-    if kind == "memory":
-        return '507 {"error":"memory"}'
-    if kind == "done":
-        return "%d %s" % texts.print_answer((kind, int(rest[0]), texts.read_reply(rest[1])))
-    return "%d %s" % texts.print_answer((kind, *map(int, rest)))
-
-
 def bodies(lines, _):
-    data = b""
+    """What is told of the part `bodies` of test_commands."""
     for line in lines:
-        if line.startswith("#"):
-            yield line + "\n"
-        elif line.startswith(("< ", "x ", "* ")):
-            data += bytes_of(line)
-        elif line in ("body", "head"):
-            yield (body_told(data) if line == "body" else head_told(data)) + "\n"
-            data = b""
-        else:
-            yield answer_told(line) + "\n"
+        yield (line if line.startswith("#") else body_told(line)) + "\n"

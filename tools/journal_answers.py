@@ -137,11 +137,6 @@ def numbers(text):
     return [int(word) for word in text.split(',') if word.isdigit()]
 
 
-def many(text):
-    count, size = map(int, text.split())
-    return [str(at).encode().ljust(size, b'.')[:size] for at in range(count)]
-
-
 def opened(word, rest, out):
     data, fail = map(numbers, rest.split(' '))
     disk = Disk(data, fail)
@@ -173,25 +168,16 @@ def crashes(stand, first, out):
 
 def asked(stand, word, rest, out):
     journal = stand[2]
-    if word in ('append', 'fill'):
+    if word == 'append':
         try:
-            journal.append([row.encode() for row in rest.split()] if word == 'append' else many(rest))
+            journal.append([b'' if row == '-' else row.encode() for row in rest.split()])
             out.append('ok')
         except Failed:
             out.append('failed')
     elif word == 'rows':
         out.append(f'{len(journal.spans)}:' + journal.all())
-    elif word == 'row':
-        out.append(f'{rest}:' + journal.told(int(rest)))
-    elif word == 'same':
-        out.append(f'{sum(journal.row(at) == row for at, row in enumerate(many(rest)))} same')
     else:
-        if word == 'crash':
-            crashes(stand, int(rest), out)
-        elif word == 'bytes':
-            out.append(''.join(f'{byte} ' for byte in journal.disk.seen))
-        else:
-            out.append(f'{len(journal.disk.calls)} calls')
+        crashes(stand, int(rest), out)
         return None
     return stand
 

@@ -19,14 +19,14 @@ def free_port():
 
 
 class Server:
-    """A program that serves at a port which the system chose."""
+    """A program that serves at a port which the system chose, started so as `subprocess.Popen` is told."""
 
-    def __init__(self, program, options, workers, sessions=None):
+    def __init__(self, program, options, workers, sessions=None, **how):
         self.port = free_port()
         words = [program, 'serve', '--port', str(self.port), '--workers', str(workers), *options]
         if sessions:
             words += ['--sessions', str(sessions)]
-        self.process = subprocess.Popen(words, stdin=subprocess.DEVNULL, stdout=subprocess.PIPE, stderr=subprocess.PIPE)
+        self.process = subprocess.Popen(words, stdin=subprocess.DEVNULL, stdout=subprocess.PIPE, stderr=subprocess.PIPE, **how)
 
     def connect(self):
         """A connection, once the server listens."""

@@ -1,29 +1,31 @@
 #!/usr/bin/env python3
-"""What a second computation of the desk in Python answers to the inputs of test_commands and test_usage.
+"""What a second computation of the desk in Python answers to the scripts of tests/, and to the inputs of test_commands and
+test_usage.
 
   stored_answers.py --oracle FOLDER                    compares the stored answers with the second computation's
   stored_answers.py --oracle FOLDER --write            writes them
   stored_answers.py --oracle FOLDER --add KIND A..B    adds inputs of the oracle's fuzzer with these seeds, and writes the answers;
                                                        the kind is requests, tables or usage
 
-The parts of test_commands are answered by fault_answers.py, command_answers.py, http_answers.py and journal_answers.py, and the
-words of test_usage by usage_answers.py. What the clerk answers, and the parts journal, workers and calling, are as they are
-stored. The status is 1 where a line differs.
+The scripts are answered by command_answers.py and http_answers.py, as whole_runs.py wants them. The parts of test_commands are
+answered by fault_answers.py, command_answers.py, http_answers.py and journal_answers.py, and the words of test_usage by
+usage_answers.py. What the clerk answers, texts of help, and the parts answers, workers and calling are as they are stored. The status is 1 where
+a line differs.
 """
 import argparse
 import os
 import sys
 
-CRATES = os.path.join(os.path.dirname(os.path.abspath(__file__)), "..", "crates")
+ROOT = os.path.join(os.path.dirname(os.path.abspath(__file__)), "..")
 
 
-def read(crate, name):
-    with open(os.path.join(CRATES, crate, name), newline="\n") as file:
+def read(name):
+    with open(os.path.join(ROOT, name), newline="\n") as file:
         return file.read()
 
 
-def write(crate, name, text):
-    with open(os.path.join(CRATES, crate, name), "w", newline="\n") as file:
+def write(name, text):
+    with open(os.path.join(ROOT, name), "w", newline="\n") as file:
         file.write(text)
 
 
@@ -44,10 +46,9 @@ def command_lines(lines, stored):
     import fault_answers
     import http_answers
     import journal_answers
-    known = {"desk": fault_answers.answers, "commands": command_answers.commands, "machine": command_answers.machine,
-             "connections": http_answers.connections, "bodies": http_answers.bodies,
+    known = {"desk": fault_answers.answers, "machine": command_answers.machine, "connections": http_answers.cuts, "bodies": http_answers.bodies,
              "disks": journal_answers.answers}
-    kept = ("journal", "workers", "calling")
+    kept = ("answers", "workers", "calling")
     stored_parts = dict(parts_of(stored.split("\n")[:-1], (*known, *kept))) if stored else {}
     for name, held in parts_of(lines, (*known, *kept)):
         yield f"== {name}\n"
@@ -57,12 +58,28 @@ def command_lines(lines, stored):
             yield from known[name](held, stored)
 
 
+def script_lines(lines, stored):
+    import command_answers
+    return command_answers.commands(lines, stored)
+
+
+def connection_lines(lines, _):
+    import http_answers
+    return http_answers.connections(lines, _)
+
+
 def usage_lines(lines, _):
     import usage_answers
     return usage_answers.answers(lines)
 
 
-ANSWERS = {"test_commands": command_lines, "test_usage": usage_lines}
+# of each input its answers, and what tells them
+ANSWERS = {
+    "tests/commands.txt": ("tests/commands.answers", script_lines),
+    "tests/connections.txt": ("tests/connections.answers", connection_lines),
+    "crates/test_commands/stdin": ("crates/test_commands/stdout", command_lines),
+    "crates/test_usage/stdin": ("crates/test_usage/stdout", usage_lines),
+}
 
 
 def add(kind, low, high):
@@ -70,15 +87,15 @@ def add(kind, low, high):
     import command_answers
     import usage_answers
     fuzzed = {"requests": command_answers.fuzzed_requests, "tables": command_answers.fuzzed_tables, "usage": usage_answers.fuzzed}[kind]
-    crate, begun = ("test_usage", "") if kind == "usage" else ("test_commands", "== commands\n")
-    write(crate, "stdin", read(crate, "stdin") + begun + "".join(map(fuzzed, range(low, high + 1))))
+    name = "crates/test_usage/stdin" if kind == "usage" else "tests/commands.txt"
+    write(name, read(name) + "".join(map(fuzzed, range(low, high + 1))))
 
 
-def tell_difference(crate, told, stored):
+def tell_difference(name, told, stored):
     """Tells the first lines that differ, and how many lines there are."""
     told, stored = told.split("\n"), stored.split("\n")
     at = next((at for at, lines in enumerate(zip(told, stored)) if lines[0] != lines[1]), min(len(told), len(stored)))
-    print(f"{crate}: line {at + 1} of the stored answers is {stored[at:at + 1]}, and not {told[at:at + 1]}; "
+    print(f"{name}: line {at + 1} of the stored answers is {stored[at:at + 1]}, and not {told[at:at + 1]}; "
           f"{len(stored)} lines are stored, and {len(told)} wanted")
 
 
@@ -94,13 +111,13 @@ def main():
     if given.add:
         add(given.add[0], *map(int, given.add[1].split("..")))
     status = 0
-    for crate, answers in ANSWERS.items():
-        stored = read(crate, "stdout")
-        told = "".join(answers(read(crate, "stdin").split("\n")[:-1], stored))
+    for name, (kept, answers) in ANSWERS.items():
+        stored = read(kept)
+        told = "".join(answers(read(name).split("\n")[:-1], stored))
         if given.write or given.add:
-            write(crate, "stdout", told)
+            write(kept, told)
         elif told != stored:
-            tell_difference(crate, told, stored)
+            tell_difference(kept, told, stored)
             status = 1
     return status
 

@@ -1,56 +1,31 @@
-// Bodies, heads and answers of HTTP.
+// Bodies over HTTP: an answer doesn't tell why one says no command.
 
-mod answers;
-mod body;
-mod bytes;
-mod heads;
-
-use crate::escaped::put_as_it_is;
-use answers::put_answer;
-use body::put_body;
-use bytes::put_said;
-use heads::put_head;
+use crate::lines::put_as_it_is;
 use sect_base::Memory;
-use std::alloc::Global;
+use sect_read::WireFault;
+use sect_text::print_command;
+use sect_wire::read_body;
+use sect_words::{print_number, print_text};
 
-/// The bytes that lines said.
-#[derive(Drop)]
-pub struct Bodies {
-    bytes: Vec<u8>,
+/// Puts the command that a body says, or why it says none, behind the text.
+fn put_body(bytes: &[u8], into: &mut Vec<u8>) -> Result<(), Memory> {
+    match read_body(*into.allocator(), bytes) {
+        Ok(command) => print_command(&command, into),
+        Err(WireFault::BadBody(cause)) => {
+            print_text("bad ", into)?;
+            print_number(cause, into)
+        }
+        Err(WireFault::Memory) => Err(Memory),
+        Err(_) => print_text("another fault", into),
+    }
 }
 
-impl Bodies {
-    /// No bytes.
-    pub fn new(alloc: Global) -> Bodies {
-        Bodies {
-            bytes: Vec::new(alloc),
-        }
+/// The same of the body in a line; a line with a name is put as it is.
+pub fn put_line(line: &str, into: &mut Vec<u8>) -> Result<(), Memory> {
+    if line.starts_with('#') {
+        return put_as_it_is(line, into);
     }
-
-    /// Does what a line says, and puts what is printed for it behind the text.
-    pub fn put(&mut self, line: &str, into: &mut Vec<u8>) -> Result<(), Memory> {
-        if line.starts_with('#') {
-            return put_as_it_is(line, into);
-        }
-        if line.starts_with(['<', 'x', '*']) {
-            return put_said(line, &mut self.bytes);
-        }
-        match line {
-            "body" | "head" => self.put_read(line, into)?,
-            _ => put_answer(line, into)?,
-        }
-        into.push(b'\n')?;
-        Ok(())
-    }
-
-    /// Puts what the bytes are as a body or a head. They are said anew from here on.
-    fn put_read(&mut self, line: &str, into: &mut Vec<u8>) -> Result<(), Memory> {
-        let read = if line == "body" {
-            put_body(self.bytes.as_slice(), into)
-        } else {
-            put_head(self.bytes.as_slice(), into)
-        };
-        self.bytes.clear();
-        read
-    }
+    put_body(line.as_bytes(), into)?;
+    into.push(b'\n')?;
+    Ok(())
 }

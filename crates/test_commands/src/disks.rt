@@ -1,14 +1,12 @@
 // Journals on disks in memory.
 
 mod crash;
-mod many;
 mod on_disk;
 mod words;
 
-use crate::escaped::put_as_it_is;
+use crate::lines::put_as_it_is;
 use crash::put_crashes;
-use many::many_of;
-use on_disk::{Ended, OnDisk, open, put_kept};
+use on_disk::{OnDisk, open, put_kept};
 use sect_base::Memory;
 use std::alloc::Global;
 
@@ -44,8 +42,8 @@ fn put_told(
     match word {
         "open" => open(alloc, rest, false, place, into),
         "start" => open(alloc, rest, true, place, into),
-        "bytes" | "calls" | "crash" => match place.take() {
-            Some(journal) => put_end(alloc, word, rest, journal, into),
+        "crash" => match place.take() {
+            Some(journal) => put_end(alloc, rest, journal, into),
             None => Ok(into.push_str(line)?),
         },
         _ => match place {
@@ -55,31 +53,10 @@ fn put_told(
     }
 }
 
-/// Closes a journal, and does what a word says with what it leaves.
-fn put_end(
-    alloc: Global,
-    word: &str,
-    rest: &str,
-    journal: OnDisk,
-    into: &mut String,
-) -> Result<(), Memory> {
+/// Closes a journal, and tells what crashes leave.
+fn put_end(alloc: Global, rest: &str, journal: OnDisk, into: &mut String) -> Result<(), Memory> {
     let ended = journal.close();
-    put_left(alloc, word, rest, &ended, into)
-}
-
-/// Does what a word says with what a closed journal leaves.
-fn put_left(
-    alloc: Global,
-    word: &str,
-    rest: &str,
-    ended: &Ended,
-    into: &mut String,
-) -> Result<(), Memory> {
-    match word {
-        "bytes" => ended.put_seen(into),
-        "calls" => ended.put_calls(into),
-        _ => put_crashes(alloc, ended, rest, into),
-    }
+    put_crashes(alloc, &ended, rest, into)
 }
 
 /// Does what a word says with a journal that goes on.
@@ -93,9 +70,6 @@ fn put_asked(
     match word {
         "append" => put_kept(journal.append(alloc, rest)?, into),
         "rows" => journal.put_rows(alloc, into),
-        "row" => journal.put_row(alloc, rest, into),
-        "fill" => put_kept(journal.fill(alloc, &many_of(rest))?, into),
-        "same" => journal.put_same(alloc, &many_of(rest), into),
         _ => Ok(into.push_str("no such word")?),
     }
 }

@@ -3,13 +3,11 @@
 mod acting;
 mod counting;
 mod judging;
-mod many;
 
-use crate::escaped::put_as_it_is;
+use crate::lines::put_as_it_is;
 use acting::answer;
 use counting::count;
 use judging::judge;
-use many::act_each;
 use sect_base::Memory;
 use sect_machine::Machine;
 use sect_once::Object;
@@ -39,7 +37,7 @@ impl OverMachine {
         }
         let request = self.request.as_str();
         tell(alloc, &mut self.machine, request, line, into)?;
-        if !line.starts_with(['?', '%', '+']) {
+        if !line.starts_with('?') && !line.starts_with('%') {
             self.request.clear();
             self.request.push_str(line)?;
         }
@@ -60,9 +58,6 @@ fn tell(
     }
     if let Some(line) = line.strip_prefix("% ") {
         return count(alloc, machine, line, into);
-    }
-    if let Some(words) = line.strip_prefix("+ ") {
-        return act_each(alloc, machine, words, into);
     }
     answer(alloc, machine, line, into)
 }

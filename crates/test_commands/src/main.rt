@@ -1,5 +1,7 @@
-//! Whole commands of the desk and of the clerk over keepers in memory, connections over HTTP, lines over a machine, bodies and journals: tests
-//! alone. A line `== PART` tells what the lines behind it are, up to the next one, and is printed.
+//! What of the desk only objects in memory show: calls of keepers, sources, sinks, links and disks that fail, crashes of a disk,
+//! trees that are held against a machine, how many searches a line takes, workers that meet, and a program that calls the library:
+//! tests alone. What whole runs of the programs show stands in `tests/` at the top, where `tools/whole_runs.py` runs it. A line
+//! `== PART` tells what the lines behind it are, up to the next one, and is printed.
 //!
 //! `== desk`: commands of which one call fails. A line `# NAME` begins a keeper without rows and a command without words, `| ROW`
 //! puts a row behind the keeper's, `$ WORDS` begins a command over it; other lines are its input. A line `? read PIECE COUNT`
@@ -8,72 +10,42 @@
 //! of appends, `? row` of the calls by which rows are counted or read, and `? accept` of a link to which two connections come.
 //! `? byte` puts `x` in the place of a byte of the last row instead. For each run the output has the status, how many rows the
 //! keeper has and what was written; and then the same of the command run again over the keeper that came back, with no read and
-//! no write that fails. A bar stands for a line feed. `? begin APPEND ROW` begins a keeper of which the append with the one
-//! number and the count or reading of a row with the other one fails; `? once` runs the command over it, and over the keeper
-//! that came back the next time.
+//! no write that fails. A bar stands for a line feed.
 //!
-//! `== commands`: whole commands over one keeper. A line `# NAME` begins a keeper without rows, with no input, and is printed.
-//! `| ROW` puts a row behind those that the keeper begins with, and `! APPEND ROW` tells which append and which count or reading
-//! of a row fails; 0 is none, and ROW may be left out. Behind a command these two begin the keeper anew. `/ PIECE` says how many
-//! bytes a read gives at most. `+ FIRST..END LINE | LINE` puts the lines into the input once for each number from FIRST to before
-//! END, in place of each `#`. `$ WORDS` does what the words ask over the keeper, with the lines before it as input: the desk
-//! where the first word is one of its commands, `--help` or `--version`, the clerk where it is another one, and where `clerk`
-//! stands before the words. The output has the words, what was written, the status and how many rows the keeper has. `% WORDS`
-//! is the same, but instead of what was written the output has how many lines that were and the last one. A line `= again`
-//! runs what was written last over a keeper without rows, and tells whether it has the same rows now. Other lines are input: in
-//! one `{ITEM*COUNT}` is the item so many times, `\r` a carriage return, `\n` a line feed, `\x` with two digits a byte, a
-//! backslash before another byte that byte, and `\.` at the end leaves out the line feed.
+//! `== machine`: a line `# NAME` begins a machine. Each line acts, and the output has the text of its reply. `% LINE` acts and
+//! tells how many searches that took as well. `? TREE` tells whether the tree refutes the request before it.
 //!
-//! `== connections`: connections over HTTP, served one after another on the desk of one keeper. `# NAME` begins a keeper without
-//! rows, with no connections, `| ROW` and `! APPEND ROW` say what it begins with. `< TEXT` puts a text behind what the
-//! connection sends, in which the marks of an input stand for the same; `/ PIECE` ends the connection, of which a read gives and
-//! a write takes PIECE bytes at most. `$ serve` serves the connections, each as a session of its own. The output has for each
-//! how many bytes it was told, how it ended, and the bytes, with `\r` for a carriage return. `? cut` serves the last one on one
-//! bench again and again, cut after no byte, after the first, and so on; `? read` the same where each read of one byte fails,
-//! `? write` where each write of one byte does. The output has how many bytes each run was told and how it ended, in one line
-//! where this is the same of several in turn, and `no front` where the bytes aren't those that the whole connection is told
-//! first.
-//!
-//! `== machine`: a line `# NAME` begins a machine. Each line acts, and the output has the text of its reply; in one `{ITEM*COUNT}`
-//! is the item so many times. `% LINE` acts and tells how many searches that took as well. `+ FIRST..END LINE | LINE` acts the
-//! lines once for each number from FIRST to before END, in place of each `#`, and tells how many were answered `amended`.
-//! `? TREE` tells whether the tree refutes the request before it.
-//!
-//! `== bodies`: `< TEXT` puts the text behind the bytes, `x HEX` bytes by their numbers, and `* N TEXT` the text N times. Then
-//! `body` reads the bytes as a body, `head` as what a connection begins with. `done P REPLY`, `reused P`, `full`, `fault` and
-//! `memory` print an answer. A line that begins with `#` is printed.
+//! `== bodies`: each line is a body over HTTP, and the output has the command that it says or the number that tells why it says
+//! none. A line `# NAME` is printed.
 //!
 //! `== disks`: journals on a disk in memory. A line `open BYTES FAIL` opens the journal with these bytes, on a disk whose calls
 //! with the numbers FAIL fail; `start BYTES FAIL` makes one where there are no bytes; `-` is none. `append ROW ..` appends the
-//! rows as one group, by `append` where there is one. `fill COUNT SIZE` appends so many rows of so many bytes, and `same COUNT
-//! SIZE` reads in order how many rows are these. `rows` reads all in order, `row AT` reads one. `bytes` ends with what a read of
-//! the disk gives, `calls` with the number of its calls. `crash FROM` ends with a crash after each call from number FROM on: the
-//! output has what the images then open to, the rows of each before a bar. Other lines are printed.
+//! rows as one group, by `append` where there is one; `-` is a row without bytes. `rows` reads all in order. `crash FROM` ends
+//! with a crash after each call from number FROM on: the output has how many calls there were and what the images then open to,
+//! the rows of each before a bar. Other lines are printed.
 //!
-//! `== journal`, `== workers` and `== calling` have no lines. The first tells what the desk answers over a journal of which each
-//! call of the fourth append fails, the next call, and a call with a crash behind it: for each opening the status and what was
-//! written, and then how many rows the journal has. The second tells what comes of two workers of which the link of the
-//! second one fails, and of two that meet at a gate, where the first one's request waits until the second one's answer is
-//! written: the status, how many rows the keeper has, what each link's connection was told, and whether one of those that meet
-//! was late. The third tells what a program is answered that calls the library.
+//! `== connections`, `== answers`, `== workers` and `== calling` have no lines. The first tells what a connection is told that
+//! asks twice and begins a third request, served again and again on one bench: cut after no byte, after the first, and so on, and
+//! then where each read of one byte fails, and each write of one byte. The output has how many bytes each run was told and how it
+//! ended, in one line where this is the same of several in turn, and `no front` where the bytes aren't those that the whole
+//! connection is told first. The second tells the answers over HTTP that no whole run has. The third tells what comes of two
+//! workers of which the link of the second one fails, and of two that meet at a gate, where the first one's request waits until
+//! the second one's answer is written: the status, how many rows the keeper has, what each link's connection was told, and
+//! whether one of those that meet was late. The fourth tells what a program is answered that calls the library.
 #![tactic(auto)]
 
+mod answers;
 mod bodies;
 mod calling;
-mod commands;
-mod connections;
+mod cuts;
 mod desk;
-mod digits;
 mod disks;
-mod escaped;
-mod journals;
 mod keepers;
 mod lines;
 mod machine;
 mod meeting;
 mod parts;
 mod printing;
-mod ranges;
 mod runs;
 mod sent;
 mod serve;

@@ -1,12 +1,11 @@
 // The parts of the input.
 
-use crate::bodies::Bodies;
+use crate::answers::told_of_answers;
+use crate::bodies::put_line;
 use crate::calling::called;
-use crate::commands::Commands;
-use crate::connections::Connections;
+use crate::cuts::told_of_cuts;
 use crate::desk::DeskCommands;
 use crate::disks::Disks;
-use crate::journals::told_of_journals;
 use crate::machine::OverMachine;
 use crate::workers::told_of_workers;
 use sect_base::Memory;
@@ -18,12 +17,11 @@ use std::thread::Threads;
 #[derive(Clone, Copy)]
 pub enum Part {
     Desk,
-    Commands,
-    Connections,
     Machine,
     Bodies,
     Disks,
-    Journal,
+    Connections,
+    Answers,
     Workers,
     Calling,
 }
@@ -32,12 +30,11 @@ pub enum Part {
 pub fn part_of(line: &str) -> Option<Part> {
     match line {
         "== desk" => Some(Part::Desk),
-        "== commands" => Some(Part::Commands),
-        "== connections" => Some(Part::Connections),
         "== machine" => Some(Part::Machine),
         "== bodies" => Some(Part::Bodies),
         "== disks" => Some(Part::Disks),
-        "== journal" => Some(Part::Journal),
+        "== connections" => Some(Part::Connections),
+        "== answers" => Some(Part::Answers),
         "== workers" => Some(Part::Workers),
         "== calling" => Some(Part::Calling),
         _ => None,
@@ -48,10 +45,7 @@ pub fn part_of(line: &str) -> Option<Part> {
 #[derive(Drop)]
 pub struct Parts {
     desk: DeskCommands,
-    commands: Commands,
-    connections: Connections,
     machine: OverMachine,
-    bodies: Bodies,
     disks: Disks,
 }
 
@@ -60,10 +54,7 @@ impl Parts {
     pub fn new(alloc: Global) -> Parts {
         Parts {
             desk: DeskCommands::new(alloc),
-            commands: Commands::new(alloc),
-            connections: Connections::new(alloc),
             machine: OverMachine::new(alloc),
-            bodies: Bodies::new(alloc),
             disks: Disks::new(),
         }
     }
@@ -78,12 +69,10 @@ impl Parts {
         let mut into = Vec::new(rt.alloc());
         match part {
             Part::Desk => self.desk.put(rt, line, &mut into)?,
-            Part::Commands => self.commands.put(rt, line, &mut into)?,
-            Part::Connections => self.connections.put(rt, line, &mut into)?,
             Part::Machine => self.machine.put(rt.alloc(), line, &mut into)?,
-            Part::Bodies => self.bodies.put(line, &mut into)?,
+            Part::Bodies => put_line(line, &mut into)?,
             Part::Disks => self.disks.put(rt.alloc(), line, &mut into)?,
-            Part::Journal | Part::Workers | Part::Calling => {}
+            Part::Connections | Part::Answers | Part::Workers | Part::Calling => {}
         }
         Ok(into)
     }
@@ -95,7 +84,8 @@ pub fn told_at_first<R: AllocGlobal + Threads + Wait + Sync>(
     part: Part,
 ) -> Result<Vec<u8>, Memory> {
     match part {
-        Part::Journal => told_of_journals(rt),
+        Part::Connections => told_of_cuts(rt),
+        Part::Answers => told_of_answers(rt.alloc()),
         Part::Workers => told_of_workers(rt),
         Part::Calling => called(rt.alloc()),
         _ => Ok(Vec::new(rt.alloc())),

@@ -6,6 +6,12 @@ use sect_base::Memory;
 use sect_edge::MemLink;
 use std::alloc::Global;
 
+/// A section of one place, and the students 11 and 12.
+pub const THREE_ROWS: &str =
+    "2025-09-01 r1 1 offering 1 course 1 - 3 config 1 - subpart 1 section 7 1 - - = amended
+2025-09-01 r1 2 student 11 max 18 = amended
+2025-09-01 r1 3 student 12 max 18 = amended";
+
 /// Student 11 asks for the one place.
 pub const FIRST: &str =
     "POST /students/11/asks/1 HTTP/1.1\r\nContent-Length: 43\r\n\r\n{\"verb\":\"enrol\",\"student\":11,\"courses\":[1]}";

@@ -5,7 +5,7 @@ ghost use Rattle.std.specs.Prelude.{◌≡◌, IfOk, length};
 use crate::keepers::{NONE_FAILS, keeper_of};
 use crate::meeting::Meeting;
 use crate::runs::{RUN, Setting, run_on_links};
-use crate::sent::{FIRST, SECOND, link_of};
+use crate::sent::{FIRST, SECOND, THREE_ROWS, link_of};
 use crate::stand::Stand;
 use crate::told::{put_end, put_talk};
 use sect_base::Memory;
@@ -13,12 +13,6 @@ use sect_edge::{Gate, MemLink, OpenGate};
 use std::alloc::{AllocGlobal, Global};
 use std::sync::Wait;
 use std::thread::Threads;
-
-/// A section of one place, and the students 11 and 12.
-const THREE_ROWS: &str =
-    "2025-09-01 r1 1 offering 1 course 1 - 3 config 1 - subpart 1 section 7 1 - - = amended
-2025-09-01 r1 2 student 11 max 18 = amended
-2025-09-01 r1 3 student 12 max 18 = amended";
 
 /// The links of the students 11 and 12. The second one's `accept` with this number, from 1, fails; 0 is none.
 fn links(alloc: Global, failing_accept: u64) -> Result<Vec<MemLink>, Memory>

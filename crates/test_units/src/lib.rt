@@ -1,5 +1,5 @@
-//! Texts, replies and rows, both ways; the desk of a tally, asked alone, by threads, and until its log is full; and the real
-//! objects over the system: tests alone.
+//! Rows and replies both ways; the desk of a tally, asked alone, by threads, and until its log is full; and the real objects where
+//! they fail: tests alone.
 #![tactic(auto)]
 
 #[cfg(test)]

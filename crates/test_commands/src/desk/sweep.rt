@@ -13,7 +13,7 @@ use std::sync::Wait;
 use std::thread::Threads;
 
 /// What fails.
-#[derive(Clone, Copy, PartialEq, Eq)]
+#[derive(Clone, Copy)]
 enum Call {
     Read,
     Write,
@@ -42,17 +42,12 @@ impl Sweep {
         Some(Sweep { call, piece, count })
     }
 
-    /// The number where it is one of these calls, 0 where it is one of others.
-    fn number_of(&self, call: Call, number: u64) -> u64 {
-        if self.call == call { number } else { 0 }
-    }
-
     /// How the table's command runs where the call with this number fails.
     fn setting<'a>(&self, table: &'a Table, number: u64) -> Setting<'a> {
         Setting {
             piece: self.piece,
-            failing_read: self.number_of(Call::Read, number),
-            failing_write: self.number_of(Call::Write, number),
+            failing_read: number_where(matches!(self.call, Call::Read), number),
+            failing_write: number_where(matches!(self.call, Call::Write), number),
             ..table.setting()
         }
     }
@@ -60,10 +55,15 @@ impl Sweep {
     /// The calls of the keeper that fail then.
     fn failing(&self, number: u64) -> Failing {
         Failing {
-            append: self.number_of(Call::Append, number),
-            row: self.number_of(Call::Row, number),
+            append: number_where(matches!(self.call, Call::Append), number),
+            row: number_where(matches!(self.call, Call::Row), number),
         }
     }
+}
+
+/// The number where it is of a call that fails, and else 0.
+fn number_where(fails: bool, number: u64) -> u64 {
+    if fails { number } else { 0 }
 }
 
 fn call_of(name: &str) -> Option<Call> {
@@ -106,7 +106,7 @@ fn put_run<R: AllocGlobal + Threads + Wait + Sync>(
 ) -> Result<(), Memory> {
     *stand = Stand::new(Some(keeper_of_run(rt.alloc(), table, sweep, number)?));
     let setting = sweep.setting(table, number);
-    if sweep.call == Call::Accept {
+    if matches!(sweep.call, Call::Accept) {
         return put_served(rt, &setting, number, stand, into);
     }
     let input = table.input.as_slice();
@@ -129,7 +129,7 @@ fn keeper_of_run(
 /// The keeper's rows, with `x` in the place of the byte of the last row with this number, from 1, where bytes are replaced.
 fn rows_of_run(alloc: Global, table: &Table, sweep: &Sweep, number: u64) -> Result<String, Memory> {
     let mut bytes = table.rows.as_bytes().to_vec(alloc)?;
-    if sweep.call == Call::Byte {
+    if matches!(sweep.call, Call::Byte) {
         let place = (number as usize).saturating_sub(1);
         if let Some(byte) = bytes.get_mut(table.last_row.saturating_add(place)) {
             *byte = b'x';

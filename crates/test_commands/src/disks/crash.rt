@@ -1,10 +1,12 @@
 // What a crash leaves.
 
 use crate::disks::on_disk::{Ended, disk_of, put_all};
-use crate::journals::{PICKS, opened};
 use sect_base::Memory;
-use sect_journal::{Disk, DiskCall, MemDisk};
+use sect_journal::{Disk, DiskCall, Journal, MemDisk};
 use std::alloc::Global;
+
+/// What a crash leaves: what is durable, what a read gives, and marks in the place of what was written, 1 and another.
+const PICKS: [u64; 4] = [0, 1, 257, 2];
 
 /// Puts what each image opens to that a crash leaves after each call from a number on behind the text.
 pub fn put_crashes(
@@ -97,4 +99,10 @@ fn put_image(alloc: Global, bytes: Vec<u8>, into: &mut String) -> Result<(), Mem
         Ok(mut journal) => put_all(alloc, &mut journal, into),
         Err(_) => Ok(into.push_str(" fault")?),
     }
+}
+
+/// The journal of a disk with these bytes.
+fn opened(alloc: Global, bytes: Vec<u8>) -> Result<Journal<MemDisk>, Memory> {
+    let disk = MemDisk::new(bytes, Vec::new(alloc));
+    Journal::open(alloc, disk).ok().ok_or(Memory)
 }

@@ -132,11 +132,12 @@ pub fn put_all(
 }
 
 impl OnDisk {
-    /// Appends the words of a line: one by itself, others as a group.
+    /// Appends the words of a line: one by itself, others as a group. A dash is a row without bytes.
     pub fn append(&mut self, alloc: Global, line: &str) -> Result<Result<(), KeepFault>, Memory> {
         let mut rows = Vec::new(alloc);
         for word in line.split_whitespace() {
-            rows.push(word.as_bytes())?;
+            let row = if word == "-" { "" } else { word };
+            rows.push(row.as_bytes())?;
         }
         Ok(self.append_rows(&rows))
     }
@@ -156,14 +157,6 @@ impl OnDisk {
         put_all(alloc, &mut self.journal, into)
     }
 
-    /// Puts the row of this number.
-    pub fn put_row(&mut self, alloc: Global, line: &str, into: &mut String) -> Result<(), Memory> {
-        let at = line.parse::<u64>().unwrap_or(u64::MAX);
-        write!(into, "{at}:")?;
-        let mut row = Vec::new(alloc);
-        put_read(&mut self.journal, at, &mut row, into)
-    }
-
     /// Closes the journal.
     pub fn close(self) -> Ended {
         let OnDisk {
@@ -176,21 +169,5 @@ impl OnDisk {
             fail,
             disk: journal.close(),
         }
-    }
-}
-
-impl Ended {
-    /// Puts what a read of the disk gives.
-    pub fn put_seen(&self, into: &mut String) -> Result<(), Memory> {
-        for byte in self.disk.seen() {
-            write!(into, "{byte} ")?;
-        }
-        Ok(())
-    }
-
-    /// Puts how many calls the disk had.
-    pub fn put_calls(&self, into: &mut String) -> Result<(), Memory> {
-        write!(into, "{} calls", self.disk.calls().len())?;
-        Ok(())
     }
 }

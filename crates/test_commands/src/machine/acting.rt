@@ -1,6 +1,5 @@
 // A line acts.
 
-use crate::lines::unfolded;
 use sect_base::Memory;
 use sect_command::Reply;
 use sect_machine::Machine;
@@ -19,15 +18,14 @@ pub fn day_of(ask: &LineAsk) -> Option<Day> {
     }
 }
 
-/// Acts a line, unfolded, and appends its reply.
+/// Acts a line, and appends its reply.
 pub fn answer(
     alloc: Global,
     machine: &mut Machine,
-    text: &str,
+    line: &str,
     into: &mut Vec<u8>,
 ) -> Result<(), Memory> {
-    let line = unfolded(alloc, text)?;
-    match reply_to(alloc, machine, line.as_slice())? {
+    match reply_to(alloc, machine, line.as_bytes())? {
         Some(reply) => print_reply(&reply, into)?,
         None => print_text("no request", into)?,
     }
@@ -35,11 +33,7 @@ pub fn answer(
 }
 
 /// Acts a line on its day, and gives its reply. None where it is no request.
-pub fn reply_to(
-    alloc: Global,
-    machine: &mut Machine,
-    line: &[u8],
-) -> Result<Option<Reply>, Memory> {
+fn reply_to(alloc: Global, machine: &mut Machine, line: &[u8]) -> Result<Option<Reply>, Memory> {
     match read_line(alloc, line) {
         Ok(ask) => acted(machine, &ask),
         Err(_) => Ok(None),

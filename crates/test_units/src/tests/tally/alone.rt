@@ -1,9 +1,9 @@
-// It is asked, over a keeper in memory that may fail, and its rows are replayed.
+// It is asked, over a keeper in memory.
 
 use super::{first_day, id};
 use sect_base::{Chronicle, Memory};
 use sect_edge::MemKeeper;
-use sect_once::{Answer, Desk, OpenFault, Seen, Tally};
+use sect_once::{Answer, Desk, OpenFault, Tally};
 use sect_time::Day;
 use std::alloc::Global;
 use std::test::Fail;
@@ -28,17 +28,6 @@ fn done(answer: Answer<u64>) -> Option<(u32, u64)> {
     }
 }
 
-/// Asks the numbers from 0 as commands of 1, and tells how many were done.
-fn ask_ones(desk: &mut Desk<Tally, MemKeeper>, count: u64) -> u64 {
-    let mut acted = 0u64;
-    for number in 0..count {
-        if let Some((_, _)) = done(desk.ask(id(number), first_day(), 1)) {
-            acted = acted.wrapping_add(1);
-        }
-    }
-    acted
-}
-
 /// The tenth day.
 fn later() -> Day {
     match Day::new(9) {
@@ -47,11 +36,14 @@ fn later() -> Day {
     }
 }
 
+<<<<<<< HEAD
 /// What is found of the request with this number.
 fn found(desk: &Desk<Tally, MemKeeper>, number: u64, count: u8) -> Result<Seen, Memory> {
     desk.find(&id(number), &count)
 }
 
+=======
+>>>>>>> c
 #[test]
 fn a_repeat_has_its_kept_reply(rt: HostRuntime) -> Result<(), Fail> {
     let alloc = rt.alloc();
@@ -66,6 +58,7 @@ fn a_repeat_has_its_kept_reply(rt: HostRuntime) -> Result<(), Fail> {
     assert!(rt; matches!(desk.look(&()), Ok(12)));
     Ok(())
 }
+<<<<<<< HEAD
 
 #[test]
 fn a_request_is_found(rt: HostRuntime) -> Result<(), Fail> {
@@ -168,3 +161,5 @@ fn rows_are_replayed(rt: HostRuntime) -> Result<(), Fail> {
     assert!(rt; done(desk.ask(id(3), first_day(), 1)) == Some((3, 4)));
     Ok(())
 }
+=======
+>>>>>>> c

@@ -234,6 +234,7 @@ fn are_each_once(places: &[Vec<u32>], total: u32) -> bool {
     count_of(places) == total as usize
 }
 
+<<<<<<< HEAD
 /// Whether the request at a place acted, and has this reply.
 fn has_reply(desk: &Desk<Tally, MemKeeper>, place: u32, reply: u64) -> bool {
     if place >= desk.acted() {
@@ -255,6 +256,8 @@ fn two_threads_share_one_history(rt: HostRuntime) -> Result<(), Fail> {
     Ok(())
 }
 
+=======
+>>>>>>> c
 #[test]
 fn many_threads_share_one_history(rt: HostRuntime) -> Result<(), Fail> {
     let (first, second, desk) = run_twice(&rt, rt.alloc(), &OpenGate, 64, 10)?;

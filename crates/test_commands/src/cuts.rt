@@ -1,7 +1,7 @@
 // A connection is served again and again, and comes to an end at another place each time.
 
-use crate::connections::connection::Connection;
-use crate::keepers::Kept;
+use crate::keepers::{NONE_FAILS, keeper_of};
+use crate::sent::THREE_ROWS;
 use crate::serve::{Sent, Told, served};
 use sect_base::Memory;
 use sect_http::Bench;
@@ -9,9 +9,21 @@ use sect_talk::End;
 use std::alloc::{AllocGlobal, Global};
 use std::sync::Wait;
 
+/// Two requests as curl sends them, and a part of a third.
+const WHOLE: Sent<'static> = Sent {
+    bytes: b"POST /students/11/asks/1 HTTP/1.1\r\nHost: localhost:8080\r\nUser-Agent: curl/8.5.0\r\nAccept: */*\r\n\
+Content-Type: application/json\r\nContent-Length: 43\r\n\r\n{\"verb\":\"enrol\",\"student\":11,\"courses\":[1]}\
+GET /waiting HTTP/1.1\r\nHost: localhost:8080\r\n\r\n\
+POST /students/11/asks/1 HTTP/1.1\r\nHost: localhost:8080\r\nUser-Agent: curl/8.5.0\r\nAccept: */*\r\n\
+Content-Type: application/json\r\nContent-Length: 43\r\n\r\n{\"verb\":\"e",
+    piece: 1_000,
+    failing_read: 0,
+    failing_write: 0,
+};
+
 /// What ends a connection.
 #[derive(Clone, Copy)]
-pub enum Cut {
+enum Cut {
     /// No more bytes come.
     Bytes,
     /// The next read of a byte fails.
@@ -20,43 +32,38 @@ pub enum Cut {
     Writes,
 }
 
-/// The cut for which a line asks.
-pub fn cut_of(line: &str) -> Option<Cut> {
-    match line {
-        "? cut" => Some(Cut::Bytes),
-        "? read" => Some(Cut::Reads),
-        "? write" => Some(Cut::Writes),
-        _ => None,
-    }
+/// Tells what came of the connection, which comes to an end at each place.
+pub fn told_of_cuts<R: AllocGlobal + Wait>(rt: &R) -> Result<Vec<u8>, Memory> {
+    let mut into = String::new(rt.alloc());
+    into.push_str("cut\n")?;
+    put_runs(rt, Cut::Bytes, &mut into)?;
+    into.push_str("read\n")?;
+    put_runs(rt, Cut::Reads, &mut into)?;
+    into.push_str("write\n")?;
+    put_runs(rt, Cut::Writes, &mut into)?;
+    Ok(into.into_bytes())
 }
 
 /// Serves the connection cut after no byte, after the first, and so on up to all of them, and puts what came of each run
 /// behind the text.
-pub fn put_runs<R: AllocGlobal + Wait>(
-    rt: &R,
-    kept: &Kept,
-    connection: &Connection,
-    cut: Cut,
-    into: &mut String,
-) -> Result<(), Memory> {
-    let whole = told_whole(rt, kept, connection)?;
+fn put_runs<R: AllocGlobal + Wait>(rt: &R, cut: Cut, into: &mut String) -> Result<(), Memory> {
+    let whole = told_whole(rt)?;
     let most = match cut {
-        Cut::Bytes | Cut::Reads => connection.bytes.len(),
+        Cut::Bytes | Cut::Reads => WHOLE.bytes.len(),
         Cut::Writes => whole.len(),
     };
-    let runs = runs_of(rt.alloc(), connection, cut, most)?;
-    let talks = served_on_a_bench(rt, kept, runs.as_slice())?;
+    let runs = runs_of(rt.alloc(), cut, most)?;
+    let talks = served_on_a_bench(rt, runs.as_slice())?;
     put_alike(talks.as_slice(), whole.as_slice(), into)
 }
 
-/// Serves the connections one after another on one bench.
+/// Serves the connections one after another on one bench, on a desk with one place and two students.
 fn served_on_a_bench<R: AllocGlobal + Wait>(
     rt: &R,
-    kept: &Kept,
     connections: &[Sent<'_>],
 ) -> Result<Vec<Told>, Memory> {
     let alloc = rt.alloc();
-    let keeper = kept.keeper(alloc)?;
+    let keeper = keeper_of(alloc, THREE_ROWS, NONE_FAILS)?;
     let mut bench = Some(Bench::new(alloc)?);
     let mut talks = Vec::new(alloc);
     served(rt, alloc, keeper, &mut bench, connections, &mut talks).ok_or(Memory)?;
@@ -64,12 +71,8 @@ fn served_on_a_bench<R: AllocGlobal + Wait>(
 }
 
 /// What the whole connection is told.
-fn told_whole<R: AllocGlobal + Wait>(
-    rt: &R,
-    kept: &Kept,
-    connection: &Connection,
-) -> Result<Vec<u8>, Memory> {
-    let talks = served_on_a_bench(rt, kept, &[connection.whole()])?;
+fn told_whole<R: AllocGlobal + Wait>(rt: &R) -> Result<Vec<u8>, Memory> {
+    let talks = served_on_a_bench(rt, &[WHOLE])?;
     match talks.first() {
         Some(told) => Ok(told.sink.bytes().to_vec(rt.alloc())?),
         None => Err(Memory),
@@ -77,44 +80,38 @@ fn told_whole<R: AllocGlobal + Wait>(
 }
 
 /// The connection cut after no byte, and so on up to so many.
-fn runs_of<'a>(
-    alloc: Global,
-    connection: &'a Connection,
-    cut: Cut,
-    most: usize,
-) -> Result<Vec<Sent<'a>>, Memory> {
+fn runs_of(alloc: Global, cut: Cut, most: usize) -> Result<Vec<Sent<'static>>, Memory> {
     let mut runs = Vec::new(alloc);
     for came in 0..most.saturating_add(1) {
-        runs.push(run_of(connection, cut, came))?;
+        runs.push(run_of(cut, came))?;
     }
     Ok(runs)
 }
 
 /// The connection cut after so many bytes.
-fn run_of(connection: &Connection, cut: Cut, came: usize) -> Sent<'_> {
-    let whole = connection.whole();
-    let bytes = whole.bytes;
+fn run_of(cut: Cut, came: usize) -> Sent<'static> {
+    let bytes = WHOLE.bytes;
     let next = (came as u64).saturating_add(1);
     match cut {
         Cut::Bytes => Sent {
             bytes: bytes.get(..came).unwrap_or(bytes),
-            ..whole
+            ..WHOLE
         },
         Cut::Reads => Sent {
             piece: 1,
             failing_read: next,
-            ..whole
+            ..WHOLE
         },
         Cut::Writes => Sent {
             piece: 1,
             failing_write: next,
-            ..whole
+            ..WHOLE
         },
     }
 }
 
 /// What came of a run.
-#[derive(Clone, Copy, PartialEq, Eq)]
+#[derive(Clone, Copy)]
 struct Found {
     /// How many bytes were told; none where these are no front of what the whole connection is told.
     front: Option<usize>,
@@ -133,6 +130,11 @@ fn found_in(told: &Told, whole: &[u8]) -> Found {
     Found { front, end }
 }
 
+/// Whether the same came of two runs.
+fn is_alike(one: Found, other: Found) -> bool {
+    one.front == other.front && one.end == other.end
+}
+
 /// Puts what came of the runs behind the text, in one line where the same came of several in turn.
 fn put_alike(talks: &[Told], whole: &[u8], into: &mut String) -> Result<(), Memory> {
     let mut first = 0;
@@ -140,7 +142,7 @@ fn put_alike(talks: &[Told], whole: &[u8], into: &mut String) -> Result<(), Memo
         let it = found_in(told, whole);
         let next = last.saturating_add(1);
         let is_next_alike = match talks.get(next) {
-            Some(told) => found_in(told, whole) == it,
+            Some(told) => is_alike(found_in(told, whole), it),
             None => false,
         };
         if !is_next_alike {
