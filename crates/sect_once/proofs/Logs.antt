@@ -1,5 +1,6 @@
 -- Logs and indexes with one more note.
-use Rattle.std.proofs.Common.{◌≡◌, ℕ, zero, suc, ◌+◌, ◌≤◌, ◌<◌, List, [], ◌∷◌, ◌++◌, length, refl, sym, ap, ◌∙◌, subst, inl, inr, ◌⊎◌, ⊎_elim, arith, Option, None, Some, slice_get, cond, eqb, Bool, true, false, ◌^◌}
+use Rattle.std.proofs.Common.{◌≡◌, ℕ, zero, suc, ◌+◌, ◌-◌, ◌≤◌, ◌<◌, List, [], ◌∷◌, ◌++◌, length, length-append, take, drop, refl, sym, ap, ◌∙◌, subst, inl, inr, ◌⊎◌, ⊎_elim, arith, Option, None, Some, slice_get, cond, eqb, Bool, true, false, ◌^◌}
+use Rattle.std.proofs.lemmas.List.{append_assoc, drop-append-le, drop_all, length-drop, take-append-drop, take-append-le, take_all}
 use Rattle.std.proofs.lemmas.Bool.{eq-eqb, eqb-true, ne_eqb}
 use Rattle.std.specs.Prelude.{nat_eq}
 use Rattle.std.specs.HashMap.{HashMap, get}
@@ -9,64 +10,93 @@ use Rattle.sect_base.specs.declared.limit.Caller.TheVariants.{Registrar, Student
 use Rattle.sect_once.specs.declared.entry.Entry.{Entry}
 use Rattle.sect_once.specs.declared.entry.Note.{Note}
 use Rattle.sect_once.specs.declared.entry.Note.TheVariants.{Acted, Faulted}
-use Rattle.sect_once.specs.declared.entry.Mark.{Mark}
-use Rattle.sect_once.specs.declared.entry.Mark.TheVariants.{Acts, Faults}
+use Rattle.sect_once.specs.declared.entry.Unkept.{Unkept}
 use Rattle.sect_once.specs.declared.answer.Seen.{Seen}
 use Rattle.sect_once.specs.declared.answer.Seen.TheVariants.{New, Place, Reused}
 use Rattle.sect_once.specs.Desks.{FindsIn, SeesEntry}
-use Rattle.sect_once.specs.History.{caller_key, key_of, history, log_of, acting, faulting, faulted, IsNew, IsIndex, ActsOnce, IsReplay, state_after}
+use Rattle.sect_once.specs.History.{caller_key, key_of, acted_log, history, log_of, faulted, AreUnkept, IsNew, IsIndex, ActsOnce, IsReplay, state_after}
+use Rattle.sect_once.proofs.Rows.{acted_log-append, history-acted_log, length-acted_log}
 
 module _ {C R : Type 0} where
-  pub history-log_of : (ms : List Mark) (es : List (Entry C R)) → acting ms ≡ length es → history (log_of ms es) ≡ es
-  history-log_of [] [] h = refl
-  history-log_of [] (e ∷ es) h = absurd (omega arith)
-  history-log_of (Acts ∷ ms) [] h = absurd (omega arith)
-  history-log_of (Acts ∷ ms) (e ∷ es) h = ap (λ (zs : List (Entry C R)). e ∷ zs) (history-log_of ms es (omega arith))
-  history-log_of (Faults id ∷ ms) es h = history-log_of ms es h
+  history-append : (ns ms : List (Note C R)) → history (ns ++ ms) ≡ history ns ++ history ms
+  history-append [] ms = refl
+  history-append (Acted e ∷ ns) ms = ap (λ (es : List (Entry C R)). e ∷ es) (history-append ns ms)
+  history-append (Faulted id ∷ ns) ms = history-append ns ms
 
-  pub log_of-acts : (ms : List Mark) (es : List (Entry C R)) (e : Entry C R) → acting ms ≡ length es → log_of (ms ++ Acts ∷ []) (es ++ e ∷ []) ≡ log_of ms es ++ Acted e ∷ []
-  log_of-acts [] [] e h = refl
-  log_of-acts [] (x ∷ es) e h = absurd (omega arith)
-  log_of-acts (Acts ∷ ms) [] e h = absurd (omega arith)
-  log_of-acts (Acts ∷ ms) (x ∷ es) e h = ap (λ (zs : List (Note C R)). Acted x ∷ zs) (log_of-acts ms es e (omega arith))
-  log_of-acts (Faults id ∷ ms) es e h = ap (λ (zs : List (Note C R)). Faulted id ∷ zs) (log_of-acts ms es e h)
+  faulted-append : (ns ms : List (Note C R)) → faulted (ns ++ ms) ≡ faulted ns + faulted ms
+  faulted-append [] ms = omega arith
+  faulted-append (Acted e ∷ ns) ms = faulted-append ns ms
+  faulted-append (Faulted id ∷ ns) ms = let more = faulted-append ns ms in omega (arith, more)
 
-  pub log_of-faults : (ms : List Mark) (es : List (Entry C R)) (id : Id) → acting ms ≡ length es → log_of (ms ++ Faults id ∷ []) es ≡ log_of ms es ++ Faulted id ∷ []
-  log_of-faults [] [] id h = refl
-  log_of-faults [] (x ∷ es) id h = absurd (omega arith)
-  log_of-faults (Acts ∷ ms) [] id h = absurd (omega arith)
-  log_of-faults (Acts ∷ ms) (x ∷ es) id h = ap (λ (zs : List (Note C R)). Acted x ∷ zs) (log_of-faults ms es id (omega arith))
-  log_of-faults (Faults i ∷ ms) es id h = ap (λ (zs : List (Note C R)). Faulted i ∷ zs) (log_of-faults ms es id h)
+  faulted-acted_log : (es : List (Entry C R)) → faulted (acted_log es) ≡ 0
+  faulted-acted_log [] = refl
+  faulted-acted_log (e ∷ es) = faulted-acted_log es
 
-  pub length-log_of : (ms : List Mark) (es : List (Entry C R)) → acting ms ≡ length es → length (log_of ms es) ≡ length ms
-  length-log_of [] [] h = refl
-  length-log_of [] (e ∷ es) h = absurd (omega arith)
-  length-log_of (Acts ∷ ms) [] h = absurd (omega arith)
-  length-log_of (Acts ∷ ms) (e ∷ es) h = omega (arith, length-log_of ms es (omega arith))
-  length-log_of (Faults id ∷ ms) es h = omega (arith, length-log_of ms es h)
+  pub history-log_of : (at : ℕ) (us : List Unkept) (es : List (Entry C R)) → history (log_of at us es) ≡ es
+  history-log_of at [] es = history-acted_log es
+  history-log_of at (u ∷ us) es =
+      let front : List (Entry C R) = take (u.behind - at) es in
+      let back : List (Entry C R) = drop (u.behind - at) es in
+      history-append (acted_log front) (Faulted u.id ∷ log_of u.behind us back)
+      ∙ (λ i. history-acted_log front i ++ history-log_of u.behind us back i) ∙ take-append-drop (u.behind - at) es
+
+  pub length-log_of : (at : ℕ) (us : List Unkept) (es : List (Entry C R)) → length (log_of at us es) ≡ length es + length us
+  length-log_of at [] es = let l = length-acted_log es in omega (arith, l)
+  length-log_of at (u ∷ us) es =
+      let front : List (Entry C R) = take (u.behind - at) es in
+      let back : List (Entry C R) = drop (u.behind - at) es in
+      let whole = length-append (acted_log front) (Faulted u.id ∷ log_of u.behind us back) in
+      let rest = length-log_of u.behind us back in
+      let first = length-acted_log front in
+      let both : length front + length back ≡ length es = sym (length-append front back) ∙ ap length (take-append-drop (u.behind - at) es) in
+      omega (arith, whole, rest, first, both)
+
+  pub faulted-log_of : (at : ℕ) (us : List Unkept) (es : List (Entry C R)) → faulted (log_of at us es) ≡ length us
+  faulted-log_of at [] es = faulted-acted_log es
+  faulted-log_of at (u ∷ us) es =
+      let front : List (Entry C R) = take (u.behind - at) es in
+      let back : List (Entry C R) = drop (u.behind - at) es in
+      let whole = faulted-append (acted_log front) (Faulted u.id ∷ log_of u.behind us back) in
+      let rest = faulted-log_of u.behind us back in
+      let first = faulted-acted_log front in
+      omega (arith, whole, rest, first)
+
+unkept-le : (at last : ℕ) (us : List Unkept) → AreUnkept at last us → at ≤ last
+unkept-le at last [] h = h
+unkept-le at last (u ∷ us) h = omega (arith, h.0, unkept-le u.behind last us h.1)
+
+pub unkept-more : (at last more : ℕ) (us : List Unkept) → AreUnkept at last us → last ≤ more → AreUnkept at more us
+unkept-more at last more [] h le = omega (arith, h, le)
+unkept-more at last more (u ∷ us) h le = (h.0, unkept-more u.behind last more us h.1 le)
+
+pub unkept-append : (at last : ℕ) (us : List Unkept) (id : Id) → AreUnkept at last us → AreUnkept at last (us ++ record { behind = last; id = id } ∷ [])
+unkept-append at last [] id h = (h, omega arith)
+unkept-append at last (u ∷ us) id h = (h.0, unkept-append u.behind last us id h.1)
 
 module _ {C R : Type 0} where
-  pub faulted-log_of : (ms : List Mark) (es : List (Entry C R)) → acting ms ≡ length es → faulted (log_of ms es) ≡ faulting ms
-  faulted-log_of [] [] h = refl
-  faulted-log_of [] (e ∷ es) h = absurd (omega arith)
-  faulted-log_of (Acts ∷ ms) [] h = absurd (omega arith)
-  faulted-log_of (Acts ∷ ms) (e ∷ es) h = faulted-log_of ms es (omega arith)
-  faulted-log_of (Faults id ∷ ms) es h = omega (arith, faulted-log_of ms es h)
+  -- what is behind an unkept request
+  behind_is : (at last : ℕ) (u : Unkept) (us : List Unkept) (es : List (Entry C R)) → AreUnkept at last (u ∷ us) → last ≡ at + length es
+      → (u.behind - at ≤ length es) × (last ≡ u.behind + length (drop (u.behind - at) es))
+  behind_is at last u us es h all = let le = unkept-le u.behind last us h.1 in let up = h.0 in let l = length-drop (u.behind - at) es in (omega (arith, le, up, all), omega (arith, le, up, all, l))
 
-pub acting-append : (ms : List Mark) (m : Mark) → acting (ms ++ m ∷ []) ≡ acting ms + acting (m ∷ [])
-acting-append [] m = omega arith
-acting-append (Acts ∷ ms) m = omega (arith, acting-append ms m)
-acting-append (Faults id ∷ ms) m = acting-append ms m
+  pub log_of-acts : (at last : ℕ) (us : List Unkept) (es : List (Entry C R)) (e : Entry C R) → AreUnkept at last us → last ≡ at + length es → log_of at us (es ++ e ∷ []) ≡ log_of at us es ++ Acted e ∷ []
+  log_of-acts at last [] es e h all = acted_log-append es e
+  log_of-acts at last (u ∷ us) es e h all =
+      let here = behind_is at last u us es h all in
+      let more = log_of-acts u.behind last us (drop (u.behind - at) es) e h.1 here.1 in
+      (λ i. acted_log (take-append-le (u.behind - at) es (e ∷ []) here.0 i) ++ Faulted u.id ∷ log_of u.behind us (drop-append-le (u.behind - at) es (e ∷ []) here.0 i))
+      ∙ ap (λ (ns : List (Note C R)). acted_log (take (u.behind - at) es) ++ Faulted u.id ∷ ns) more
+      ∙ sym (append_assoc (acted_log (take (u.behind - at) es)) (Faulted u.id ∷ log_of u.behind us (drop (u.behind - at) es)) (Acted e ∷ []))
 
-pub acting-le : (ms : List Mark) → acting ms ≤ length ms
-acting-le [] = omega arith
-acting-le (Acts ∷ ms) = omega (arith, acting-le ms)
-acting-le (Faults id ∷ ms) = omega (arith, acting-le ms)
-
-pub faulting-append : (ms : List Mark) (m : Mark) → faulting (ms ++ m ∷ []) ≡ faulting ms + faulting (m ∷ [])
-faulting-append [] m = omega arith
-faulting-append (Acts ∷ ms) m = faulting-append ms m
-faulting-append (Faults id ∷ ms) m = omega (arith, faulting-append ms m)
+  pub log_of-faults : (at last : ℕ) (us : List Unkept) (es : List (Entry C R)) (id : Id) → AreUnkept at last us → last ≡ at + length es
+      → log_of at (us ++ record { behind = last; id = id } ∷ []) es ≡ log_of at us es ++ Faulted id ∷ []
+  log_of-faults at last [] es id h all =
+      let long : length es ≤ last - at = omega (arith, all) in
+      λ i. acted_log (take_all (last - at) es long i) ++ Faulted id ∷ acted_log (drop_all (last - at) es long i)
+  log_of-faults at last (u ∷ us) es id h all =
+      let here = behind_is at last u us es h all in
+      ap (λ (ns : List (Note C R)). acted_log (take (u.behind - at) es) ++ Faulted u.id ∷ ns) (log_of-faults u.behind last us (drop (u.behind - at) es) id h.1 here.1)
+      ∙ sym (append_assoc (acted_log (take (u.behind - at) es)) (Faulted u.id ∷ log_of u.behind us (drop (u.behind - at) es)) (Faulted id ∷ []))
 
 module _ {S C R : Type 0} (stepped : S → ℕ → Caller → C → S × R) where
   pub state_after-append : (s : S) (es : List (Entry C R)) (e : Entry C R) → state_after stepped s (es ++ e ∷ []) ≡ (stepped (state_after stepped s es) e.day e.id.caller e.command).0

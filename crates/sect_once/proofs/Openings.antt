@@ -1,5 +1,5 @@
 -- The replay of rows, one after another.
-use Rattle.std.proofs.Common.{◌≡◌, ℕ, suc, zero, ◌+◌, ◌^◌, ◌≤◌, ◌<◌, Bool, true, false, List, [], ◌∷◌, ◌++◌, length, replicate, take, refl, sym, ap, ◌∙◌, subst, inl, inr, ◌⊎◌, ⊎_elim, arith, Option, Some, None, length-append, slice_get}
+use Rattle.std.proofs.Common.{◌≡◌, ℕ, suc, zero, ◌+◌, ◌^◌, ◌≤◌, ◌<◌, Bool, true, false, List, [], ◌∷◌, ◌++◌, length, take, refl, sym, ap, ◌∙◌, subst, inl, inr, ◌⊎◌, ⊎_elim, arith, Option, Some, None, length-append, slice_get}
 use Rattle.std.specs.List.{AllZip}
 use Rattle.std.specs.Option.{is_some}
 use Rattle.std.specs.Prelude.{IfSome}
@@ -7,8 +7,8 @@ use Rattle.std.proofs.Math.Nat.{lt_of_not-le}
 use Rattle.sect_base.specs.declared.limit.Caller.{Caller}
 use Rattle.sect_edge.specs.Keeper.{CountsRows, FindsRow, KeepsRows}
 use Rattle.sect_once.specs.declared.entry.Entry.{Entry}
-use Rattle.sect_once.specs.History.{acted_log, acting, faulting, history, log_of, state_after, ActsOnce, AreHeavy, IsFull, IsNew, IsReplay, NeverFull, TellsRows}
-use Rattle.sect_once.specs.Desks.{IsDesk, IsSound, Standing, Trail}
+use Rattle.sect_once.specs.History.{acted_log, history, log_of, state_after, ActsOnce, AreHeavy, IsFull, IsNew, IsReplay, NeverFull, TellsRows}
+use Rattle.sect_once.specs.Desks.{IsSound, Standing, Trail}
 use Rattle.sect_once.specs.declared.answer.OpenFault.{OpenFault}
 use Rattle.sect_once.specs.declared.answer.OpenFault.TheVariants as shut
 use Rattle.sect_once.specs.Opening.{Follows, HasActed, IsBad, IsBadNext, IsCause, IsFirstBad, IsOpened, IsRowCause, Resumes, Takes, TakesNext}
@@ -16,9 +16,8 @@ use Rattle.sect_once.proofs.Logs.{get-snoc, IsReplay-append}
 use Rattle.std.proofs.lemmas.List.{take_all}
 use Rattle.sect_once.specs.declared.entry.Note.{Note}
 use Rattle.sect_once.specs.declared.entry.Note.TheVariants.{Acted}
-use Rattle.sect_once.specs.declared.entry.Mark.{Mark}
-use Rattle.sect_once.specs.declared.entry.Mark.TheVariants.{Acts}
-use Rattle.sect_once.proofs.Rows.{acted_log-append, history-acted_log, length-acted_log, never_full-append, never_full-nil, rows-append, tells-keeps}
+use Rattle.sect_once.specs.declared.entry.Unkept.{Unkept}
+use Rattle.sect_once.proofs.Rows.{acted_log-append, history-acted_log, length-acted_log, never_full-append, never_full-nil, rows-append}
 
 -- what is told of an item that is there
 pub some_has : {A : Type 0} {P : A → Type 0} {Q : Type 0} (o : Option A) → is_some o ≡ true → IfSome o P → ((a : A) → P a → Q) → Q
@@ -152,34 +151,9 @@ module _ {O C R K : Type 0} (start : O) (stepped : O → ℕ → Caller → C �
       }
   opened_cause keeper now back es at count shut.Memory r counts within cause = tt
 
-pub acting-replicate : (n : ℕ) → acting (replicate n Acts) ≡ n
-acting-replicate zero = refl
-acting-replicate (suc n) = let more = acting-replicate n in omega (arith, more)
-
-pub faulting-replicate : (n : ℕ) → faulting (replicate n Acts) ≡ 0
-faulting-replicate zero = refl
-faulting-replicate (suc n) = faulting-replicate n
-
-module _ {C R : Type 0} where
-  pub log_of-replicate : (es : List (Entry C R)) → log_of (replicate (length es) Acts) es ≡ acted_log es
-  log_of-replicate [] = refl
-  log_of-replicate (e ∷ es) = ap (λ (notes : List (Note C R)). Acted e ∷ notes) (log_of-replicate es)
-
-  pub log_of-all : (marks : List Mark) (n : ℕ) (es : List (Entry C R)) → marks ≡ replicate n Acts → n ≡ length es → log_of marks es ≡ acted_log es
-  log_of-all marks n es are many = ap (λ (ms : List Mark). log_of ms es) (are ∙ ap (λ (k : ℕ). replicate k Acts) many) ∙ log_of-replicate es
-
-  pub opened_desk : (is_row : Entry C R → List ℕ → Type 0) (marks : List Mark) (n : ℕ) (es : List (Entry C R)) (told now : Option (List (List ℕ))) (base count : ℕ) → marks ≡ replicate n Acts → n ≡ length es
-      → TellsRows is_row told es → KeepsRows told now → NeverFull is_row (acted_log es) → base ≤ count → IsDesk is_row marks es now base count
-  opened_desk is_row marks n es told now base count are many tells stays roomy grows = record {
-    marked = ap acting are ∙ acting-replicate n ∙ many;
-    roomy = subst (NeverFull is_row) (sym (log_of-all marks n es are many)) roomy;
-    kept = tells-keeps is_row told now es tells stays;
-    counted = let none : faulting marks ≡ 0 = ap faulting are ∙ faulting-replicate n in omega (arith, none, grows);
-  }
-
 module _ {O C R K : Type 0} (start : O) (stepped : O → ℕ → Caller → C → O × R) (is_row : Entry C R → List ℕ → Type 0) (rows : K → Option (List (List ℕ))) (faults : K → ℕ) where
-  pub opened_standing : (keeper : K) (d : Standing O C R K) (marks : List Mark) (n : ℕ) (es : List (Entry C R)) → d.log ≡ log_of marks es → marks ≡ replicate n Acts → n ≡ length es → d.base ≡ faults keeper
+  pub opened_standing : (keeper : K) (d : Standing O C R K) (unkept : List Unkept) (es : List (Entry C R)) → d.log ≡ log_of 0 unkept es → unkept ≡ [] → d.base ≡ faults keeper
       → KeepsRows (rows keeper) (rows d.keeper) → IsSound stepped is_row rows faults start d → IsOpened start stepped is_row rows faults keeper d
-  opened_standing keeper d marks n es log are many base stays sound =
-      let all : d.log ≡ acted_log es = log ∙ log_of-all marks n es are many in
+  opened_standing keeper d unkept es log none base stays sound =
+      let all : d.log ≡ acted_log es = log ∙ ap (λ (us : List Unkept). log_of 0 us es) none in
       record { no_faults = all ∙ ap acted_log (sym (history-acted_log es)) ∙ ap (λ (l : List (Note C R)). acted_log (history l)) (sym all); base = base; rows_stay = stays; sound = sound }

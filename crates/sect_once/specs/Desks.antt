@@ -9,12 +9,12 @@ use Rattle.sect_edge.specs.Keeper.{AddsRow, KeepsRows}
 use Rattle.sect_once.specs.declared.entry.Entry.{Entry}
 use Rattle.sect_once.specs.declared.entry.Note.{Note}
 use Rattle.sect_once.specs.declared.entry.Note.TheVariants.{Acted, Faulted}
-use Rattle.sect_once.specs.declared.entry.Mark.{Mark}
+use Rattle.sect_once.specs.declared.entry.Unkept.{Unkept}
 use Rattle.sect_once.specs.declared.answer.Answer.{Answer}
 use Rattle.sect_once.specs.declared.answer.Answer.TheVariants.{Done, NumberReused, LogFull, KeeperFault, Memory}
 use Rattle.sect_once.specs.declared.answer.Seen.{Seen}
 use Rattle.sect_once.specs.declared.answer.Seen.TheVariants.{New, Place, Reused}
-use Rattle.sect_once.specs.History.{IsLegal, faulted, history, log_of, acting, faulting, ActsOnce, HasRow, IsFull, IsIndex, IsNew, IsReplay, NeverFull, TellsRows, state_after}
+use Rattle.sect_once.specs.History.{IsLegal, faulted, history, log_of, ActsOnce, AreUnkept, HasRow, IsFull, IsIndex, IsNew, IsReplay, NeverFull, TellsRows, state_after}
 use Rattle.sect_once.specs.Faults.{AtMostFaults}
 
 -- an object and the entries that brought it where it is
@@ -53,11 +53,11 @@ module _ {O C R : Type 0} (start : O) (stepped : O → ℕ → Caller → C → 
 
 module _ {C R : Type 0} where
   -- what the fields of a desk keep beside its past
-  pub record IsDesk (is_row : Entry C R → List ℕ → Type 0) (marks : List Mark) (entries : List (Entry C R)) (told : Option (List (List ℕ))) (base count : ℕ) : Type 0 where
-    pub marked : acting marks ≡ length entries
-    pub roomy : NeverFull is_row (log_of marks entries)
+  pub record IsDesk (is_row : Entry C R → List ℕ → Type 0) (unkept : List Unkept) (entries : List (Entry C R)) (told : Option (List (List ℕ))) (base count : ℕ) : Type 0 where
+    pub placed : AreUnkept 0 (length entries) unkept
+    pub roomy : NeverFull is_row (log_of 0 unkept entries)
     pub kept : TellsRows is_row told entries
-    pub counted : AtMostFaults (faulting marks) base count
+    pub counted : AtMostFaults (length unkept) base count
 
   -- the entry at this place has this id, this command and this reply
   pub record HasEntry (log : List (Note C R)) (place : ℕ) (id : Id) (command : C) (reply : R) : Type 0 where

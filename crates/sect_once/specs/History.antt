@@ -1,5 +1,5 @@
 -- Logs, their histories, and what makes one legal.
-use Rattle.std.specs.Prelude.{◌≡◌, ◌⊎◌, ℕ, ◌+◌, ◌*◌, ◌^◌, ◌<◌, ◌≤◌, nat_eq, List, [], ◌∷◌, ◌++◌, ⊤, length, sum_by, slice_get, Option, Some, None}
+use Rattle.std.specs.Prelude.{◌≡◌, ◌⊎◌, ℕ, ◌+◌, ◌-◌, ◌*◌, ◌^◌, ◌<◌, ◌≤◌, nat_eq, List, [], ◌∷◌, ◌++◌, ⊤, length, sum_by, slice_get, take, drop, Option, Some, None}
 use Rattle.std.specs.List.{AllZip}
 use Rattle.std.specs.Option.{option_to_list}
 use Rattle.std.specs.HashMap.{HashMap, get}
@@ -9,8 +9,7 @@ use Rattle.sect_base.specs.declared.limit.Caller.TheVariants.{Registrar, Student
 use Rattle.sect_once.specs.declared.entry.Entry.{Entry}
 use Rattle.sect_once.specs.declared.entry.Note.{Note}
 use Rattle.sect_once.specs.declared.entry.Note.TheVariants.{Acted, Faulted}
-use Rattle.sect_once.specs.declared.entry.Mark.{Mark}
-use Rattle.sect_once.specs.declared.entry.Mark.TheVariants.{Acts, Faults}
+use Rattle.sect_once.specs.declared.entry.Unkept.{Unkept}
 
 -- a caller as one number: a registrar's is even, a student's is odd
 abbrev pub caller_key : Caller → ℕ
@@ -33,13 +32,6 @@ module _ {C R : Type 0} where
   faulted [] = 0
   faulted (Acted e ∷ notes) = faulted notes
   faulted (Faulted id ∷ notes) = 1 + faulted notes
-
-  -- the log: each mark that acts takes the next entry
-  abbrev pub log_of : List Mark → List (Entry C R) → List (Note C R)
-  log_of [] es = []
-  log_of (Acts ∷ ms) [] = []
-  log_of (Acts ∷ ms) (e ∷ es) = Acted e ∷ log_of ms es
-  log_of (Faults id ∷ ms) es = Faulted id ∷ log_of ms es
 
   -- no entry has the id
   abbrev pub IsNew : Id → List (Entry C R) → Type 0
@@ -64,6 +56,11 @@ module _ {C R : Type 0} where
   abbrev pub acted_log : List (Entry C R) → List (Note C R)
   acted_log [] = []
   acted_log (e ∷ es) = Acted e ∷ acted_log es
+
+  -- the log behind so many entries: each request that wasn't kept stands behind as many as it names
+  abbrev pub log_of : ℕ → List Unkept → List (Entry C R) → List (Note C R)
+  log_of at [] es = acted_log es
+  log_of at (u ∷ us) es = acted_log (take (u.behind - at) es) ++ Faulted u.id ∷ log_of u.behind us (drop (u.behind - at) es)
 
 module _ {C R : Type 0} (is_row : Entry C R → List ℕ → Type 0) where
   -- the entry has a row
@@ -95,17 +92,10 @@ module _ {C R : Type 0} (is_row : Entry C R → List ℕ → Type 0) where
   TellsRows None es = ⊤
   TellsRows (Some rows) es = AllZip is_row es rows
 
--- how many marks act
-abbrev pub acting : List Mark → ℕ
-acting [] = 0
-acting (Acts ∷ ms) = 1 + acting ms
-acting (Faults id ∷ ms) = acting ms
-
--- how many marks are of faults
-abbrev pub faulting : List Mark → ℕ
-faulting [] = 0
-faulting (Acts ∷ ms) = faulting ms
-faulting (Faults id ∷ ms) = 1 + faulting ms
+-- the requests that weren't kept stand in their order between the first place and the last
+abbrev pub AreUnkept : ℕ → ℕ → List Unkept → Type 0
+AreUnkept at last [] = at ≤ last
+AreUnkept at last (u ∷ us) = (at ≤ u.behind) × AreUnkept u.behind last us
 
 module _ {S C R : Type 0} (stepped : S → ℕ → Caller → C → S × R) where
   -- the state after the entries

@@ -6,7 +6,7 @@ ghost use Rattle.sect_once.specs.History.{history, state_after, IsFull, IsNew};
 
 use crate::answer::Answer;
 use crate::desk::Desk;
-use crate::entry::{Entry, Mark, Note};
+use crate::entry::{Entry, Note, Unkept};
 use crate::object::Object;
 use sect_base::{Chronicle, Id, Memory};
 use sect_edge::{KeepFault, Keeper};
@@ -38,19 +38,16 @@ impl<O: Object, K: Keeper> Desk<O, K> {
         requires room { IsFull O.is_row self.old.log → ⊥ }
         ensures { Answers O.stepped O.is_row K.rows K.faults id day command self.old self.new result }
     {
-        if self.marks.reserve(1).is_err() {
+        if self.unkept.reserve(1).is_err() {
             return Answer::Memory;
         }
         let place = self.past.acted();
         let acted = self.past.act(&mut self.keeper, id, day, command);
         match acted {
-            Ok(reply) => {
-                self.marks.push_reserved(Mark::Acts);
-                Answer::Done { place, reply }
-            }
+            Ok(reply) => Answer::Done { place, reply },
             Err(fault) => match fault {
                 KeepFault::Failed => {
-                    self.marks.push_reserved(Mark::Faults(id));
+                    self.unkept.push_reserved(Unkept { behind: place, id });
                     Answer::KeeperFault
                 }
                 KeepFault::Memory => Answer::Memory,
@@ -116,6 +113,6 @@ impl<O: Object, K: Keeper> Chronicle for Desk<O, K> {
     ghost base = { λ d. d.base };
 
     fn len(&self) -> u64 {
-        self.marks.len() as u64
+        self.notes()
     }
 }

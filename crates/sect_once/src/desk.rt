@@ -4,7 +4,7 @@ ghost use Rattle.sect_once.specs.Desks.{FindsIn, SeesEntry};
 ghost use Rattle.sect_once.specs.History.{history, IsFull, IsNew};
 
 use crate::answer::Seen;
-use crate::entry::{Entry, Mark};
+use crate::entry::{Entry, Unkept};
 use crate::object::Object;
 use crate::past::{MOST_NOTES, Past};
 use sect_base::{Id, Memory};
@@ -14,11 +14,12 @@ use std::marker::Model;
 use std::mem::forget;
 use std::snapshot::Snapshot;
 
-/// An object with the log of what it was asked, over a keeper that has the row of each entry.
+/// An object with the log of what it was asked, over a keeper that has the row of each entry. Of the log the requests that
+/// weren't kept stand apart from what has acted.
 pub struct Desk<O: Object, K: Keeper> {
     pub(crate) alloc: Global,
     pub(crate) past: Past<O>,
-    pub(crate) marks: Vec<Mark>,
+    pub(crate) unkept: Vec<Unkept>,
     pub(crate) keeper: K,
     pub(crate) opened: Snapshot<K>,
 }
@@ -29,7 +30,7 @@ impl<O: Object + Drop, K: Keeper + Drop> Drop for Desk<O, K> {
         let Desk {
             alloc: _,
             past: _,
-            marks: _,
+            unkept: _,
             keeper: _,
             opened: _,
         } = self;
@@ -42,9 +43,9 @@ impl<O: Object, K: Keeper> Model for Desk<O, K> {
 
     ghost Value = { Standing O.State O.Command O.Reply K };
 
-    ghost view = { λ d. record { object = d.past.object; log = log_of d.marks.items d.past.entries; keeper = d.keeper; base = K.faults d.opened.value } };
+    ghost view = { λ d. record { object = d.past.object; log = log_of 0 d.unkept.items d.past.entries; keeper = d.keeper; base = K.faults d.opened.value } };
 
-    ghost invariant = { λ d. IsDesk O.is_row d.marks.items d.past.entries (K.rows d.keeper) (K.faults d.opened.value) (K.faults d.keeper) };
+    ghost invariant = { λ d. IsDesk O.is_row d.unkept.items d.past.entries (K.rows d.keeper) (K.faults d.opened.value) (K.faults d.keeper) };
 }
 
 /// What an entry is to a command with its id.
@@ -68,7 +69,7 @@ impl<O: Object, K: Keeper> Desk<O, K> {
         let Desk {
             alloc: _,
             past: _,
-            marks: _,
+            unkept: _,
             keeper,
             opened: _,
         } = self;
@@ -85,12 +86,12 @@ impl<O: Object, K: Keeper> Desk<O, K> {
         let Desk {
             alloc: _,
             past,
-            marks,
+            unkept,
             keeper,
             opened: _,
         } = self;
         forget(past);
-        forget(marks);
+        forget(unkept);
         keeper
     }
 
@@ -139,10 +140,17 @@ impl<O: Object, K: Keeper> Desk<O, K> {
         }
     }
 
+    /// The number of notes of the log.
+    pub(crate) fn notes(&self) -> u64
+        ensures { result ≡ length self.now.log }
+    {
+        u64::from(self.past.acted()) + self.unkept.len() as u64
+    }
+
     /// The log has 1,048,576 notes, or rows of 268,435,456 bytes.
     pub fn is_full(&self) -> bool
         ensures { IsTrue result ↔ IsFull O.is_row self.now.log }
     {
-        self.marks.len() >= MOST_NOTES || self.past.is_heavy()
+        self.notes() >= MOST_NOTES || self.past.is_heavy()
     }
 }

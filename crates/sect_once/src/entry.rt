@@ -19,9 +19,9 @@ pub enum Note<C, R> {
     Faulted(Id),
 }
 
-/// What a note of the log is, where the entries stand apart.
+/// A request that the keeper failed to keep, behind so many that acted.
 #[derive(Clone, Copy)]
-pub(crate) enum Mark {
-    Acts,
-    Faults(Id),
+pub(crate) struct Unkept {
+    pub(crate) behind: u32,
+    pub(crate) id: Id,
 }

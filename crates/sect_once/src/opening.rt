@@ -1,34 +1,26 @@
 // How a desk is opened: the keeper's rows are replayed, one after another.
-ghost use Rattle.std.specs.Prelude.{◌≡◌, ◌↔◌, ◌<◌, ◌≤◌, List, [], length, replicate, true, false, IfErr, IfOk, IsTrue, OnErr, OnOk};
+ghost use Rattle.std.specs.Prelude.{◌≡◌, ◌↔◌, ◌<◌, ◌≤◌, List, [], length, true, false, IfErr, IfOk, IsTrue, OnErr, OnOk};
 ghost use Rattle.sect_edge.specs.Keeper.{KeepsRows};
-ghost use Rattle.sect_once.specs.declared.entry.Mark.TheVariants.{Acts};
 ghost use Rattle.sect_once.specs.History.{acted_log, IsFull, IsNew, NeverFull, TellsRows};
 ghost use Rattle.sect_once.specs.Opening.{IsCause, IsRowCause, Opens, Reopens, Resumes, Takes, TakesNext};
 
 use crate::act::{step_in, take_back};
 use crate::answer::OpenFault;
 use crate::desk::Desk;
-use crate::entry::{Entry, Mark};
+use crate::entry::Entry;
 use crate::object::Object;
 use crate::past::{MOST_NOTES, Past, add};
 use sect_base::Memory;
 use sect_edge::Keeper;
-use std::alloc::{AllocError, Global};
+use std::alloc::Global;
 use std::snapshot::Snapshot;
-
-/// As many marks of requests that acted.
-fn acts(alloc: Global, count: usize) -> Result<Vec<Mark>, AllocError>
-    ensures { IfOk result (λ marks. marks.items ≡ replicate count Acts) }
-{
-    Ok(vec![in alloc; Mark::Acts; count]?)
-}
 
 impl<O: Object> Past<O> {
     /// Whether the log of these entries alone is full.
     fn is_full(&self) -> bool
         ensures { IsTrue result ↔ IsFull O.is_row (acted_log self.now.entries) }
     {
-        self.rows.len() >= MOST_NOTES || self.is_heavy()
+        self.rows.len() as u64 >= MOST_NOTES || self.is_heavy()
     }
 
     /// Acts the entry, and takes its row, where its reply is the object's. Else, and after want of memory, all is as before.
@@ -128,21 +120,17 @@ impl<O: Object, K: Keeper> Desk<O, K> {
             Ok(past) => past,
             Err(fault) => return Err((fault, keeper)),
         };
-        match acts(alloc, past.acted() as usize) {
-            Ok(marks) => {
-                let desk = Desk {
-                    alloc,
-                    past,
-                    marks,
-                    keeper,
-                    opened,
-                };
-                desk.recall_sound();
-                Ok(desk)
-            }
-            Err(_) => Err((OpenFault::Memory, keeper)),
-        }
+        let desk = Desk {
+            alloc,
+            past,
+            unkept: Vec::new(alloc),
+            keeper,
+            opened,
+        };
+        desk.recall_sound();
+        Ok(desk)
     }
+
     /// Opens a keeper: the object acts the entries of its rows again, one after another. Where it doesn't open, the
     /// keeper comes back with the rows that it had.
     pub fn open(alloc: Global, keeper: K) -> Result<Desk<O, K>, (OpenFault, K)>

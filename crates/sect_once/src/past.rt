@@ -76,7 +76,7 @@ impl<O: Object> Model for Past<O> {
 }
 
 /// The notes with which a log is full.
-pub(crate) const MOST_NOTES: usize = 1 << 20;
+pub(crate) const MOST_NOTES: u64 = 1 << 20;
 
 /// The bytes of rows with which a log is full.
 pub(crate) const MOST_BYTES: u64 = 1 << 28;

@@ -2,10 +2,10 @@ use Rattle.sect_once.proofs.Logs.{history-log_of}
 use Rattle.sect_once.proofs.desk.Desk.entry_with.Goals as goal
 
 pub returns-clause-found : goal.returns-clause-found
-returns-clause-found g c = rw (← c.self.view_is, history-log_of c.self.inside.marks.items c.self.inside.past.entries c.self.invariant.marked) c.entry_with.ensures.found
+returns-clause-found g c = rw (← c.self.view_is, history-log_of 0 c.self.inside.unkept.items c.self.inside.past.entries) c.entry_with.ensures.found
 
 pub returns-clause-none : goal.returns-clause-none
-returns-clause-none g c = rw (← c.self.view_is, history-log_of c.self.inside.marks.items c.self.inside.past.entries c.self.invariant.marked) c.entry_with.ensures.none
+returns-clause-none g c = rw (← c.self.view_is, history-log_of 0 c.self.inside.unkept.items c.self.inside.past.entries) c.entry_with.ensures.none
 
 pub returns-clause-memory : goal.returns-clause-memory
-returns-clause-memory g c = rw (← c.self.view_is, history-log_of c.self.inside.marks.items c.self.inside.past.entries c.self.invariant.marked) c.entry_with.ensures.memory
+returns-clause-memory g c = rw (← c.self.view_is, history-log_of 0 c.self.inside.unkept.items c.self.inside.past.entries) c.entry_with.ensures.memory
