@@ -11,7 +11,7 @@ import httpd
 import journal
 from command_answers import do
 
-TEXTS = {0: '', 2: app.USAGE, 4: 'read fault', 5: 'write fault', 6: 'keeper fault', 8: 'link fault'}
+TEXTS = {0: '', 2: app.USAGE, 4: 'read fault', 5: 'write fault', 8: 'link fault'}
 TALKS = [b'POST /students/%d/asks/1 HTTP/1.1\r\nContent-Length: 43\r\n\r\n{"verb":"enrol","student":%d,"courses":[1]}' % (s, s)
          for s in (11, 12)]
 

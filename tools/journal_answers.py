@@ -137,13 +137,10 @@ def numbers(text):
     return [int(word) for word in text.split(',') if word.isdigit()]
 
 
-def opened(word, rest, out):
+def opened(rest, out):
     data, fail = map(numbers, rest.split(' '))
     disk = Disk(data, fail)
     try:
-        if word == 'start' and disk.size() == 0:
-            disk.write(0, b'\0')
-            disk.sync()
         journal = Journal(disk)
         out.append('ok')
         return data, fail, journal
@@ -186,8 +183,8 @@ def answers(lines, _):
     out, stand = [], None
     for line in lines:
         word, _, rest = line.partition(' ')
-        if word in ('open', 'start'):
-            stand = opened(word, rest, out)
+        if word == 'open':
+            stand = opened(rest, out)
         elif stand is None:
             out.append(line)
         else:

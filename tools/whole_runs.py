@@ -21,9 +21,9 @@ feed, `\\x` with two digits a byte, a backslash before another byte that byte, a
 `connections.txt`: `# NAME` and `| ROW` are the same. `< TEXT` puts a text behind what a connection sends, `/ PIECE` ends the
 connection, which is sent so many bytes at a time. `$ serve` serves the connections, one after another, by one worker; `$ serve at
 once` by as many workers as there are connections, all of which come before the last one sends its bytes, and then the one before
-it. The answer has for each how many bytes it was told and the bytes, with `\\r` for a carriage return; then the program's status, and the rows
-that the history has behind those with which it began. Behind `! 1` the journal's file can't grow until the first connection is
-answered.
+it. The answer has for each how many bytes it was told and the bytes, with `\\r` for a carriage return; then the program's status,
+and the rows that the history has behind those with which it began. Behind `! 1` the journal's file can't grow until the first
+connection is answered.
 """
 import argparse
 import array
@@ -244,7 +244,8 @@ class Connections:
         return b''
 
     def begun(self, workers=1):
-        """A server over the history, whose workers serve as many connections in all as there are. Where its file can't grow, a write past its end fails, and no signal ends the server."""
+        """A server over the history, whose workers serve as many connections in all as there are. Where its file can't grow, a
+        write past its end fails, and no signal ends the server."""
         with open(self.path, 'wb') as file:
             file.write(journal_of(self.rows))
         bound = os.path.getsize(self.path)

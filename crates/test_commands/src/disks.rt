@@ -40,8 +40,7 @@ fn put_told(
 ) -> Result<(), Memory> {
     let (word, rest) = line.split_once(' ').unwrap_or((line, ""));
     match word {
-        "open" => open(alloc, rest, false, place, into),
-        "start" => open(alloc, rest, true, place, into),
+        "open" => open(alloc, rest, place, into),
         "crash" => match place.take() {
             Some(journal) => put_end(alloc, rest, journal, into),
             None => Ok(into.push_str(line)?),

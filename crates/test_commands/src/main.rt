@@ -19,10 +19,9 @@
 //! none. A line `# NAME` is printed.
 //!
 //! `== disks`: journals on a disk in memory. A line `open BYTES FAIL` opens the journal with these bytes, on a disk whose calls
-//! with the numbers FAIL fail; `start BYTES FAIL` makes one where there are no bytes; `-` is none. `append ROW ..` appends the
-//! rows as one group, by `append` where there is one; `-` is a row without bytes. `rows` reads all in order. `crash FROM` ends
-//! with a crash after each call from number FROM on: the output has how many calls there were and what the images then open to,
-//! the rows of each before a bar. Other lines are printed.
+//! with the numbers FAIL fail; `-` is none. `append ROW ..` appends the rows as one group, by `append` where there is one; `-` is
+//! a row without bytes. `rows` reads all in order. `crash FROM` ends with a crash after each call from number FROM on: the output
+//! has how many calls there were and what the images then open to, the rows of each before a bar. Other lines are printed.
 //!
 //! `== connections`, `== answers`, `== workers` and `== calling` have no lines. The first tells what a connection is told that
 //! asks twice and begins a third request, served again and again on one bench: cut after no byte, after the first, and so on, and

@@ -28,52 +28,33 @@ pub fn disk_of(alloc: Global, bytes: &[u8], fail: &[u64]) -> Result<MemDisk, Mem
     Ok(MemDisk::new(bytes.to_vec(alloc)?, Vec::from_slice(alloc, fail)?))
 }
 
-/// Opens the journal of a line in this place, or makes one first where there are no bytes. The place is empty where it doesn't
-/// open.
+/// Opens the journal of a line in this place, which is empty where it doesn't open.
 pub fn open(
     alloc: Global,
     line: &str,
-    makes: bool,
     place: &mut Option<OnDisk>,
     into: &mut String,
 ) -> Result<(), Memory> {
-    let begun = begun_of(alloc, line, makes)?;
+    let begun = begun_of(alloc, line)?;
     let told = put_begun(&begun, into);
     *place = begun.ok();
     told
 }
 
 /// The journal of a line.
-fn begun_of(
-    alloc: Global,
-    line: &str,
-    makes: bool,
-) -> Result<Result<OnDisk, JournalFault>, Memory> {
+fn begun_of(alloc: Global, line: &str) -> Result<Result<OnDisk, JournalFault>, Memory> {
     let (bytes, fail) = line.split_once(' ').unwrap_or((line, ""));
     let bytes = bytes_of(alloc, bytes)?;
     let fail = numbers_of(alloc, fail)?;
     let disk = disk_of(alloc, &bytes, &fail)?;
-    Ok(match journal_of(alloc, disk, makes) {
+    Ok(match Journal::open(alloc, disk) {
         Ok(journal) => Ok(OnDisk {
             bytes,
             fail,
             journal,
         }),
-        Err(fault) => Err(fault),
-    })
-}
-
-/// Opens the journal of a disk, or makes one first.
-fn journal_of(alloc: Global, disk: MemDisk, makes: bool) -> Result<Journal<MemDisk>, JournalFault> {
-    let opened = if makes {
-        Journal::start(alloc, disk)
-    } else {
-        Journal::open(alloc, disk)
-    };
-    match opened {
-        Ok(journal) => Ok(journal),
         Err((fault, _)) => Err(fault),
-    }
+    })
 }
 
 /// Puts whether a journal opened, and why it didn't.
