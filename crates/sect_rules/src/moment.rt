@@ -19,12 +19,13 @@ ghost use Rattle.sect_model.specs.Stands.{MoveStands};
 ghost use Rattle.sect_model.specs.Rules.{world_at};
 
 use crate::held::{
-    counts_given, counts_made, credits, credits_kept, credits_made, given_by, holds_kept,
+    counts_given, counts_made, credits, credits_made, credits_staying, given_by, holds_kept,
     holds_made, made_by, max_credits,
 };
 use crate::overlap::{is_clear, lesser_of};
 use crate::path::PathOf;
-use crate::place::{offering, subparts};
+use crate::place::offering;
+use crate::rows::subparts_in;
 use sect_base::{Choice, ConfigId, CourseId, Level, Move, ReservationId, SectionId, StudentId};
 use sect_catalog::{Catalogue, OfferingRow, SubpartRow};
 use sect_model::Enrolment;
@@ -158,8 +159,7 @@ impl<'a> Moment<'a> {
         ensures value { result ≡ credits_of_student self.now.at self.now.student }
         ensures bound { result ≤ 71000 }
     {
-        let held = self.world.enrolments(self.student);
-        let kept = credits_kept(self.world, self.give, held);
+        let kept = credits_staying(self.world, self.give, self.student);
         prove!(kept <= u32::from(most));
         kept + credits_made(self.world, self.done)
     }
@@ -171,11 +171,19 @@ impl<'a> Moment<'a> {
         offering(self.world, course)
     }
 
-    /// The subparts of a configuration of the course's offering.
-    pub fn subparts(&self, course: CourseId, config: ConfigId) -> &[SubpartRow]
+    /// The subparts of a configuration of the offering, which is that of this course. No course is looked up.
+    pub fn subparts<'b>(
+        &self,
+        offering: &'b OfferingRow,
+        course: CourseId,
+        config: ConfigId,
+    ) -> &'b [SubpartRow]
+        requires { offering_of self.now.at course ≡ Some offering.now }
         ensures { result.now ≡ subparts_of self.now.at course config }
     {
-        subparts(self.world, course, config)
+        let _ = &self.world;
+        let _ = course;
+        subparts_in(offering, config)
     }
 
     /// The credits of a course, 0 where it is unknown.
