@@ -1,5 +1,5 @@
 -- an option has room
-use Rattle.std.proofs.Common.{rules, sym, subst}
+use Rattle.std.proofs.Common.{rules, subst}
 use Rattle.std.specs.Prelude.{Contains}
 use Rattle.sect_model.specs.Path.{options_at}
 use Rattle.sect_model.specs.declared.pick.Pick.TheVariants.{Section}
