@@ -107,7 +107,7 @@ pub fn holds_made(courses: &[CourseRow], done: &[Choice]) -> bool
 }
 
 /// The credits of a course, 0 where it is unknown.
-pub fn credits(world: &World, course: CourseId) -> u8
+fn credits(world: &World, course: CourseId) -> u8
     ensures { result ≡ credits_of world.now.world course }
 {
     match world.catalogue().course(course) {
