@@ -13,7 +13,8 @@ ghost use Rattle.sect_model.specs.Stands.{MoveStands};
 ghost use Rattle.sect_rules.specs.Added.{with_section};
 ghost use Rattle.sect_rules.specs.Decided.{decisions_of, restored};
 
-use crate::place::due;
+use crate::ground::ground_of;
+use crate::rows::subparts_at;
 use sect_base::{Choice, ConfigId, CourseId, Move, ReservationId, SectionId, Sections};
 use sect_model::Pick;
 use sect_space::World;
@@ -234,8 +235,10 @@ impl<const N: usize> PathOf<N> {
         requires option { Contains (options_at world.now.world mv.now self.now) pick }
         ensures { result ≡ extend world.now.world self.now pick }
     {
+        let ground = ground_of(world, self.course());
+        let subparts = subparts_at(world, self.course(), ground, self.config());
         let mut path = self.copied();
-        path.extend(world, mv, pick, due(world, self.course(), self.config()));
+        path.extend(world, mv, pick, subparts.len());
         path
     }
 }
