@@ -1,5 +1,5 @@
 -- The credits of a student, and that they are few.
-use Rattle.std.specs.Prelude.{◌≡◌, ℕ, ◌+◌, ◌≤◌, Bool, true, false, not, nat_le, cond, List, [], ◌∷◌, ◌++◌, map, filter, sum_by, Option, Some, None, ◌==◌, refl}
+use Rattle.std.specs.Prelude.{◌≡◌, ℕ, ◌+◌, ◌≤◌, Bool, true, false, not, nat_le, cond, List, [], ◌∷◌, ◌++◌, length, map, filter, sum_by, Option, Some, None, ◌==◌, refl}
 use Rattle.std.specs.Option.{is_some, option_map_or}
 use Rattle.std.proofs.Common.{sym, ◌∙◌, ap, arith}
 use Rattle.std.proofs.lemmas.Bool.{eqb-true}
@@ -64,3 +64,9 @@ pub kept-few : (w : World) (st : StudentId) (give : List CourseId) → GoodWorld
     → sum_by (λ e. cond (is_given give e.choice.course) 0 (credits_of w e.choice.course)) (held_by w st) ≤ max_credits w st
 kept-few w st give good known =
     omega (arith, sum-less (λ e. is_given give e.choice.course) (λ e. credits_of w e.choice.course) (held_by w st), credits-few w st good known)
+
+-- where nothing is given up, they are the student's
+pub none-leave : (w : World) (st : StudentId) (give : List CourseId) → (length give == 0) ≡ true
+    → credits_held w st ≡ sum_by (λ e. cond (is_given give e.choice.course) 0 (credits_of w e.choice.course)) (held_by w st)
+none-leave w st [] e = refl
+none-leave w st (c ∷ cs) e = let z : length (c ∷ cs) ≡ 0 = eqb-true (length (c ∷ cs)) 0 e in absurd (omega (arith, z))

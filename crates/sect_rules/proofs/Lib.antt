@@ -10,3 +10,4 @@ pub mod CourseLemmas
 pub mod ClearLemmas
 pub mod RisingLemmas
 pub mod GroundLemmas
+pub mod PathLemmas

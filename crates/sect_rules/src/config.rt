@@ -13,8 +13,8 @@ ghost use Rattle.sect_rules.specs.Standing.{admits_all as admits_places, own_con
 
 use crate::ground::Ground;
 use crate::moment::Moment;
-use sect_base::{ConfigId, CourseId, Level, OfferingId, Rule, SectionId};
-use sect_catalog::SubpartRow;
+use sect_base::{ConfigId, CourseId, Level, Rule, SectionId};
+use sect_catalog::{OfferingRow, SubpartRow};
 use sect_reserve::{Includes, Reservation, Restriction, admits_config, admits_section};
 
 /// Whether each section is admitted in its subpart.
@@ -55,15 +55,17 @@ impl Moment<'_> {
     /// Whether one of the restrictions is for the student and admits the sections.
     fn any_admits(
         &self,
+        offering: &OfferingRow,
         course: CourseId,
         config: ConfigId,
         sections: &[SectionId],
         rows: &[Restriction],
     ) -> bool
+        requires { offering_of self.now.at course ≡ Some offering.now }
         ensures { result ≡ list_any (λ r. applies_to self.now.at self.now.student course r.audience && admits_places
             (subparts_of self.now.at course config) config sections.now r.includes) rows.now }
     {
-        let subparts = self.subparts(course, config);
+        let subparts = self.subparts(offering, course, config);
         rows.iter().any(|r| {
             self.applies(course, &r.audience) && admits(&r.includes, config, subparts, sections)
         })
@@ -72,18 +74,18 @@ impl Moment<'_> {
     /// Whether restrictions apply, and none of them admits the configuration and the sections.
     pub fn is_restricted(
         &self,
-        offering: OfferingId,
+        offering: &OfferingRow,
         rows: &[Restriction],
         course: CourseId,
         config: ConfigId,
         sections: &[SectionId],
     ) -> bool
-        requires { rows.now ≡ restrictions_of self.now.at offering }
+        requires offering { offering_of self.now.at course ≡ Some offering.now }
+        requires rows { rows.now ≡ restrictions_of self.now.at offering.now.id }
         ensures { result ≡ restricted_by (subparts_of self.now.at course config) config sections.now
-            (restrictions_for self.now.at self.now.student course offering) }
+            (restrictions_for self.now.at self.now.student course offering.now.id) }
     {
-        let _ = offering;
-        self.any_applies(course, rows) && !self.any_admits(course, config, sections, rows)
+        self.any_applies(course, rows) && !self.any_admits(offering, course, config, sections, rows)
     }
 
     /// The first rule that the choice of a configuration breaks, with its number.
@@ -100,8 +102,12 @@ impl Moment<'_> {
         ensures { result ≡ first_broken (config_rules self.now.at self.now.student ground.now.offering.now course (option_copied r.entry) config) }
     {
         self.recall_kept();
-        let offering = ground.offering.id;
-        let closed = self.closed(offering, ground.reservations, r, Level::Config(config));
+        let closed = self.closed(
+            ground.offering.id,
+            ground.reservations,
+            r,
+            Level::Config(config),
+        );
         if closed.full {
             return Some((Rule::ConfigFull, config.0));
         }
@@ -111,7 +117,7 @@ impl Moment<'_> {
         if excludes_config(r, config) {
             return Some((Rule::NotIncluded, config.0));
         }
-        if self.is_restricted(offering, ground.restrictions, course, config, &[]) {
+        if self.is_restricted(ground.offering, ground.restrictions, course, config, &[]) {
             return Some((Rule::Restricted, config.0));
         }
         None

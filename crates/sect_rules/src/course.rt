@@ -13,12 +13,12 @@ impl Moment<'_> {
     pub fn course_rule(&self, course: CourseId) -> Option<(Rule, u32)>
         ensures { result ≡ first_broken (option_map_or (λ o. course_rules self.now.at self.now.student o course) (offering_of self.now.at course) []) }
     {
-        let offering = self.offering(course)?;
+        let (offering, row) = self.course(course)?;
         if self.holds_offering(course, offering) {
             return Some((Rule::InOffering, offering.id.0));
         }
         let most = self.max_credits();
-        let credits = self.credits_held(most) + u32::from(self.credits(course));
+        let credits = self.credits_held(most) + u32::from(row.credits);
         if u32::from(most) < credits {
             return Some((Rule::Credits, credits));
         }

@@ -107,7 +107,7 @@ pub fn holds_made(courses: &[CourseRow], done: &[Choice]) -> bool
 }
 
 /// The credits of a course, 0 where it is unknown.
-pub fn credits(world: &World, course: CourseId) -> u8
+fn credits(world: &World, course: CourseId) -> u8
     ensures { result ≡ credits_of world.now.world course }
 {
     match world.catalogue().course(course) {
@@ -117,7 +117,7 @@ pub fn credits(world: &World, course: CourseId) -> u8
 }
 
 /// The credits of the enrolments that stay.
-pub fn credits_kept(world: &World, give: &[CourseId], held: &[Enrolment]) -> u32
+fn credits_kept(world: &World, give: &[CourseId], held: &[Enrolment]) -> u32
     requires { sum_by (λ e. cond (given_up give.now e.choice.course) 0 (credits_of world.now.world e.choice.course)) held.now < 2 ^ 32 }
     ensures { result ≡ sum_by (λ e. cond (given_up give.now e.choice.course) 0 (credits_of world.now.world e.choice.course)) held.now }
 {
@@ -128,6 +128,18 @@ pub fn credits_kept(world: &World, give: &[CourseId], held: &[Enrolment]) -> u32
         }
     }
     total
+}
+
+/// The credits of what a student holds and keeps. Where nothing is given up, they are kept beside the world, and no enrolment
+/// is looked at.
+pub fn credits_staying(world: &World, give: &[CourseId], student: StudentId) -> u32
+    requires { sum_by (λ e. cond (given_up give.now e.choice.course) 0 (credits_of world.now.world e.choice.course)) (held_by world.now.world student) < 2 ^ 32 }
+    ensures { result ≡ sum_by (λ e. cond (given_up give.now e.choice.course) 0 (credits_of world.now.world e.choice.course)) (held_by world.now.world student) }
+{
+    if give.is_empty() {
+        return world.credits_held(student) as u32;
+    }
+    credits_kept(world, give, world.enrolments(student))
 }
 
 /// The credits of at most twenty choices.

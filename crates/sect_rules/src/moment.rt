@@ -2,6 +2,7 @@
 
 ghost use Rattle.std.specs.Prelude.{◌≡◌, ◌≤◌, Some, option_copied, flat_map, IsTrue};
 ghost use Rattle.std.specs.List.{list_all};
+ghost use Rattle.std.specs.Option.{option_map, option_map_or};
 ghost use Rattle.sect_catalog.specs.Fault.{are_checked};
 ghost use Rattle.sect_model.specs.Kept.{includes_fit};
 ghost use Rattle.sect_model.specs.Rules.{least};
@@ -19,14 +20,14 @@ ghost use Rattle.sect_model.specs.Stands.{MoveStands};
 ghost use Rattle.sect_model.specs.Rules.{world_at};
 
 use crate::held::{
-    counts_given, counts_made, credits, credits_kept, credits_made, given_by, holds_kept,
-    holds_made, made_by, max_credits,
+    counts_given, counts_made, credits_made, credits_staying, given_by, holds_kept, holds_made,
+    made_by, max_credits,
 };
 use crate::overlap::{is_clear, lesser_of};
 use crate::path::PathOf;
-use crate::place::{offering, subparts};
+use crate::rows::subparts_in;
 use sect_base::{Choice, ConfigId, CourseId, Level, Move, ReservationId, SectionId, StudentId};
-use sect_catalog::{Catalogue, OfferingRow, SubpartRow};
+use sect_catalog::{Catalogue, CourseRow, OfferingRow, SubpartRow};
 use sect_model::Enrolment;
 use sect_people::People;
 use sect_reserve::Reservation;
@@ -158,31 +159,32 @@ impl<'a> Moment<'a> {
         ensures value { result ≡ credits_of_student self.now.at self.now.student }
         ensures bound { result ≤ 71000 }
     {
-        let held = self.world.enrolments(self.student);
-        let kept = credits_kept(self.world, self.give, held);
+        let kept = credits_staying(self.world, self.give, self.student);
         prove!(kept <= u32::from(most));
         kept + credits_made(self.world, self.done)
     }
 
-    /// The offering of a course.
-    pub fn offering(&self, course: CourseId) -> Option<&OfferingRow>
-        ensures { option_copied result ≡ offering_of self.now.at course }
+    /// The offering of a course, with its own row.
+    pub fn course(&self, id: CourseId) -> Option<(&OfferingRow, &CourseRow)>
+        ensures offering { option_map (λ found. found.0.now) result ≡ offering_of self.now.at id }
+        ensures credits { option_map_or (λ found. found.1.now.credits) result 0 ≡ credits_of self.now.at id }
     {
-        offering(self.world, course)
+        self.world.catalogue().course(id)
     }
 
-    /// The subparts of a configuration of the course's offering.
-    pub fn subparts(&self, course: CourseId, config: ConfigId) -> &[SubpartRow]
+    /// The subparts of a configuration of the offering, which is that of this course. No course is looked up.
+    pub fn subparts<'b>(
+        &self,
+        offering: &'b OfferingRow,
+        course: CourseId,
+        config: ConfigId,
+    ) -> &'b [SubpartRow]
+        requires { offering_of self.now.at course ≡ Some offering.now }
         ensures { result.now ≡ subparts_of self.now.at course config }
     {
-        subparts(self.world, course, config)
-    }
-
-    /// The credits of a course, 0 where it is unknown.
-    pub fn credits(&self, course: CourseId) -> u8
-        ensures { result ≡ credits_of self.now.at course }
-    {
-        credits(self.world, course)
+        let _ = &self.world;
+        let _ = course;
+        subparts_in(offering, config)
     }
 
     /// What the world keeps of its rows. It does nothing.

@@ -5,6 +5,7 @@ ghost use Rattle.std.specs.Option.{option_map_or};
 ghost use Rattle.sect_people.specs.Order.{sorted_by};
 ghost use Rattle.sect_model.specs.declared.pick.Pick.TheVariants.{Course, Config as to_config, Section as to_section};
 ghost use Rattle.sect_model.specs.Path.{options_at, options_for, want_at};
+ghost use Rattle.sect_rules.specs.Decided.{subparts_at};
 ghost use Rattle.sect_rules.specs.Ground.{IsGroundOf};
 ghost use Rattle.sect_rules.specs.Listed.{listed};
 
@@ -15,7 +16,7 @@ use crate::path::PathOf;
 use crate::rows::{configs, next_sections, reservations};
 use crate::stage::Stage;
 use sect_base::{CourseId, Move, Want};
-use sect_catalog::{ConfigRow, SectionRow};
+use sect_catalog::{ConfigRow, SectionRow, SubpartRow};
 use sect_model::Pick;
 use sect_space::World;
 
@@ -39,20 +40,22 @@ pub fn option<const N: usize>(world: &World, mv: &Move, path: &PathOf<N>, i: usi
     Stage::new(world, mv, path).option(i)
 }
 
-/// The options of a path, on the ground of its course. It takes no memory.
+/// The options of a path, on the ground of its course, with the subparts of its configuration. It takes no memory.
 pub fn all_options<'a, const N: usize>(
     world: &World,
     want: Option<&'a Want>,
     ground: Option<Ground<'a>>,
+    subparts: &'a [SubpartRow],
     path: &PathOf<N>,
 ) -> Options<'a>
-    requires { IsGroundOf world.now.world path.now.course ground }
+    requires ground { IsGroundOf world.now.world path.now.course ground }
+    requires parts { subparts.now ≡ subparts_at world.now.world path.now.course path.now.config }
     ensures { listed result ≡ option_map_or
         (λ want. options_for world.now.world want path.now.course path.now.reservation path.now.config path.now.sections)
         (option_copied want.entry) [] }
 {
     match want {
-        Some(want) => want_options(world, want, ground, path),
+        Some(want) => want_options(world, want, ground, subparts, path),
         None => Options::Nothing,
     }
 }
@@ -69,9 +72,11 @@ fn want_options<'a, const N: usize>(
     world: &World,
     want: &'a Want,
     ground: Option<Ground<'a>>,
+    subparts: &'a [SubpartRow],
     path: &PathOf<N>,
 ) -> Options<'a>
-    requires { IsGroundOf world.now.world path.now.course ground }
+    requires ground { IsGroundOf world.now.world path.now.course ground }
+    requires parts { subparts.now ≡ subparts_at world.now.world path.now.course path.now.config }
     ensures { listed result ≡ options_for world.now.world want.now path.now.course path.now.reservation path.now.config path.now.sections }
 {
     match path.course() {
@@ -84,8 +89,8 @@ fn want_options<'a, const N: usize>(
                 Options::Sections(Ordered::new(next_sections(
                     world,
                     course,
-                    ground,
                     config,
+                    subparts,
                     sections.as_slice(),
                 )))
             }

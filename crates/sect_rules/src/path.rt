@@ -11,25 +11,33 @@ ghost use Rattle.sect_model.specs.Path.{
 };
 ghost use Rattle.sect_model.specs.Stands.{MoveStands};
 ghost use Rattle.sect_rules.specs.Added.{with_section};
+ghost use Rattle.sect_rules.specs.Decided.{decisions_of, restored};
 
-use crate::place::due;
+use crate::ground::ground_of;
+use crate::rows::subparts_at;
 use sect_base::{Choice, ConfigId, CourseId, Move, ReservationId, SectionId, Sections};
 use sect_model::Pick;
 use sect_space::World;
 use std::marker::Model;
 
+/// What a path has beside its cells: how many of them are choices, and the decisions for the next want.
+#[derive(Clone, Copy)]
+pub struct Decisions {
+    pub len: u8,
+    pub course: Option<CourseId>,
+    pub reservation: Option<Option<ReservationId>>,
+    pub config: Option<ConfigId>,
+    pub sections: Sections,
+}
+
 /// The choices that are complete, at most N, and the decisions for the next want. It lies in the
 /// value itself, so nothing that is done with it takes memory.
 #[derive(Drop)]
 pub struct PathOf<const N: usize> {
-    // Those behind the first `len` stand for nothing. Each function that reads another field names
+    // Those behind the first `len` stand for nothing. Each function that reads the decisions alone names
     // the cells first: the proof knows their type only there.
     cells: [Choice; N],
-    len: u8,
-    course: Option<CourseId>,
-    reservation: Option<Option<ReservationId>>,
-    config: Option<ConfigId>,
-    sections: Sections,
+    decisions: Decisions,
 }
 
 impl<const N: usize> Model for PathOf<N> {
@@ -38,9 +46,9 @@ impl<const N: usize> Model for PathOf<N> {
 
     ghost Value = { Value_of };
 
-    ghost view = { λ p. record { done = take p.len p.cells; course = p.course; reservation = p.reservation; config = p.config; sections = p.sections } };
+    ghost view = { λ p. record { done = take p.decisions.len p.cells; course = p.decisions.course; reservation = p.decisions.reservation; config = p.decisions.config; sections = p.decisions.sections } };
 
-    ghost invariant = { λ p. (p.len ≤ N) × (N ≤ 20) };
+    ghost invariant = { λ p. (p.decisions.len ≤ N) × (N ≤ 20) };
 }
 
 /// The path of a move that takes at most four.
@@ -60,11 +68,13 @@ impl<const N: usize> PathOf<N> {
         };
         PathOf {
             cells: [nothing; N],
-            len: 0,
-            course: None,
-            reservation: None,
-            config: None,
-            sections: Sections::empty(),
+            decisions: Decisions {
+                len: 0,
+                course: None,
+                reservation: None,
+                config: None,
+                sections: Sections::empty(),
+            },
         }
     }
 
@@ -74,7 +84,7 @@ impl<const N: usize> PathOf<N> {
         ensures room { length result.now ≤ N }
         ensures bound { length result.now ≤ 20 }
     {
-        &self.cells[..usize::from(self.len)]
+        &self.cells[..usize::from(self.decisions.len)]
     }
 
     /// Does nothing: the contract tells that a path is short.
@@ -89,7 +99,7 @@ impl<const N: usize> PathOf<N> {
         ensures { result ≡ self.now.course }
     {
         let _ = &self.cells;
-        self.course
+        self.decisions.course
     }
 
     /// The reservation decided on, or that there is to be none, if that was decided.
@@ -97,7 +107,7 @@ impl<const N: usize> PathOf<N> {
         ensures { result ≡ self.now.reservation }
     {
         let _ = &self.cells;
-        self.reservation
+        self.decisions.reservation
     }
 
     /// The configuration decided on, if one was.
@@ -105,7 +115,7 @@ impl<const N: usize> PathOf<N> {
         ensures { result ≡ self.now.config }
     {
         let _ = &self.cells;
-        self.config
+        self.decisions.config
     }
 
     /// The sections decided on for the next want.
@@ -113,7 +123,7 @@ impl<const N: usize> PathOf<N> {
         ensures { result ≡ self.now.sections }
     {
         let _ = &self.cells;
-        self.sections
+        self.decisions.sections
     }
 
     /// Whether each want has its choice.
@@ -121,6 +131,23 @@ impl<const N: usize> PathOf<N> {
         ensures { result ≡ has_all mv.now self.now }
     {
         mv.take.len() <= self.done().len()
+    }
+
+    /// The decisions for the next want, with the number of the choices.
+    pub(crate) fn decisions(&self) -> Decisions
+        ensures { result ≡ decisions_of self.now }
+    {
+        let _ = &self.cells;
+        self.decisions
+    }
+
+    /// Takes back what was decided since.
+    pub(crate) fn restore(&mut self, before: Decisions)
+        requires { before.len ≤ length self.old.done }
+        ensures { self.new ≡ restored self.old before }
+    {
+        let _ = &self.cells;
+        self.decisions = before;
     }
 
     /// The same path, as a value of its own.
@@ -132,10 +159,10 @@ impl<const N: usize> PathOf<N> {
         for choice in self.done() {
             path.push(*choice);
         }
-        path.course = self.course;
-        path.reservation = self.reservation;
-        path.config = self.config;
-        path.sections = self.sections;
+        path.decisions.course = self.decisions.course;
+        path.decisions.reservation = self.decisions.reservation;
+        path.decisions.config = self.decisions.config;
+        path.decisions.sections = self.decisions.sections;
         path
     }
 
@@ -144,8 +171,8 @@ impl<const N: usize> PathOf<N> {
         requires { length self.old.done < N }
         ensures { self.new ≡ record self.old { done = self.old.done ++ choice ∷ [] } }
     {
-        self.cells[usize::from(self.len)] = choice;
-        self.len += 1;
+        self.cells[usize::from(self.decisions.len)] = choice;
+        self.decisions.len += 1;
     }
 
     /// Makes a choice of the decisions for the want, where a configuration was decided on.
@@ -154,20 +181,20 @@ impl<const N: usize> PathOf<N> {
         ensures { self.new ≡ closed self.old self.old.course self.old.reservation self.old.config }
     {
         if let (Some(course), Some(reservation), Some(config)) = (
-            self.course,
-            self.reservation,
-            self.config,
+            self.decisions.course,
+            self.decisions.reservation,
+            self.decisions.config,
         ) {
             self.push(Choice {
                 course,
                 reservation,
                 config,
-                sections: self.sections,
+                sections: self.decisions.sections,
             });
-            self.course = None;
-            self.reservation = None;
-            self.config = None;
-            self.sections = Sections::empty();
+            self.decisions.course = None;
+            self.decisions.reservation = None;
+            self.decisions.config = None;
+            self.decisions.sections = Sections::empty();
         }
     }
 
@@ -178,9 +205,27 @@ impl<const N: usize> PathOf<N> {
         requires done { length self.old.done < N }
         ensures { self.new ≡ with_section due self.old section }
     {
-        self.sections.push(section);
-        if due <= self.sections.len() {
+        self.decisions.sections.push(section);
+        if due <= self.decisions.sections.len() {
             self.close();
+        }
+    }
+
+    /// Makes one decision more, which is one of the options, where it is known how many sections are due.
+    pub(crate) fn extend(&mut self, world: &World, mv: &Move, pick: Pick, due: usize)
+        requires room { length mv.now.take ≤ N }
+        requires option { Contains (options_at world.now.world mv.now self.old) pick }
+        requires due { due ≡ sections_due world.now.world self.old.course self.old.config }
+        ensures { self.new ≡ extend world.now.world self.old pick }
+    {
+        let _ = mv;
+        world.recall_kept();
+        let _ = &self.cells;
+        match pick {
+            Pick::Course(course) => self.decisions.course = Some(course),
+            Pick::Reservation(id) => self.decisions.reservation = Some(id),
+            Pick::Config(config) => self.decisions.config = Some(config),
+            Pick::Section(section) => self.add(section, due),
         }
     }
 
@@ -190,25 +235,10 @@ impl<const N: usize> PathOf<N> {
         requires option { Contains (options_at world.now.world mv.now self.now) pick }
         ensures { result ≡ extend world.now.world self.now pick }
     {
-        self.extended_by(world, mv, pick, due(world, self.course, self.config))
-    }
-
-    /// The same, where it is known how many sections are due.
-    pub fn extended_by(&self, world: &World, mv: &Move, pick: Pick, due: usize) -> PathOf<N>
-        requires room { length mv.now.take ≤ N }
-        requires option { Contains (options_at world.now.world mv.now self.now) pick }
-        requires due { due ≡ sections_due world.now.world self.now.course self.now.config }
-        ensures { result ≡ extend world.now.world self.now pick }
-    {
-        let _ = mv;
-        world.recall_kept();
+        let ground = ground_of(world, self.course());
+        let subparts = subparts_at(world, self.course(), ground, self.config());
         let mut path = self.copied();
-        match pick {
-            Pick::Course(course) => path.course = Some(course),
-            Pick::Reservation(id) => path.reservation = Some(id),
-            Pick::Config(config) => path.config = Some(config),
-            Pick::Section(section) => path.add(section, due),
-        }
+        path.extend(world, mv, pick, subparts.len());
         path
     }
 }

@@ -6,7 +6,8 @@ ghost use Rattle.sect_people.specs.Order.{all_differ};
 ghost use Rattle.sect_model.specs.Allowed.{reservations_of};
 ghost use Rattle.sect_model.specs.World.{offering_of};
 ghost use Rattle.sect_model.specs.Choice.{config_in, subparts_of};
-ghost use Rattle.sect_model.specs.Path.{sections_due, next_subpart};
+ghost use Rattle.sect_model.specs.Path.{next_subpart};
+ghost use Rattle.sect_rules.specs.Decided.{subparts_at};
 ghost use Rattle.sect_rules.specs.Ground.{IsGroundOf};
 
 use crate::ground::Ground;
@@ -49,7 +50,7 @@ pub fn configs<'a>(world: &World, course: CourseId, ground: Option<Ground<'a>>) 
 }
 
 /// The subparts of a configuration of the course's offering.
-pub fn subparts<'a>(
+fn subparts<'a>(
     world: &World,
     course: CourseId,
     ground: Option<Ground<'a>>,
@@ -67,7 +68,7 @@ pub fn subparts<'a>(
 }
 
 /// The subparts of a configuration of the offering.
-fn subparts_in(offering: &OfferingRow, config: ConfigId) -> &[SubpartRow]
+pub fn subparts_in(offering: &OfferingRow, config: ConfigId) -> &[SubpartRow]
     ensures { result.now ≡ option_map_or (λ g. g.subparts) (config_in offering.now config) [] }
 {
     match config_of_offering(offering, config) {
@@ -76,50 +77,53 @@ fn subparts_in(offering: &OfferingRow, config: ConfigId) -> &[SubpartRow]
     }
 }
 
-/// How many sections the choice that is being made takes.
-pub fn due(
+/// The subparts of the configuration decided on, if one was.
+pub fn subparts_at<'a>(
     world: &World,
     course: Option<CourseId>,
-    ground: Option<Ground>,
+    ground: Option<Ground<'a>>,
     config: Option<ConfigId>,
-) -> usize
+) -> &'a [SubpartRow]
     requires { IsGroundOf world.now.world course ground }
-    ensures { result ≡ sections_due world.now.world course config }
+    ensures { result.now ≡ subparts_at world.now.world course config }
 {
     match (course, config) {
-        (Some(course), Some(config)) => subparts(world, course, ground, config).len(),
-        _ => 0,
+        (Some(course), Some(config)) => subparts(world, course, ground, config),
+        _ => &[],
     }
 }
 
-/// The subpart that comes after so many sections.
+/// The subpart that comes after so many sections, among those of the configuration.
 fn subpart_after<'a>(
     world: &World,
     course: CourseId,
-    ground: Option<Ground<'a>>,
     config: ConfigId,
+    subparts: &'a [SubpartRow],
     sections: &[SectionId],
 ) -> Option<&'a SubpartRow>
-    requires { IsGroundOf world.now.world (Some course) ground }
+    requires { subparts.now ≡ subparts_of world.now.world course config }
     ensures { option_copied result ≡ next_subpart world.now.world course config sections.now }
 {
-    subparts(world, course, ground, config).get(sections.len())
+    let _ = world;
+    let _ = course;
+    let _ = config;
+    subparts.get(sections.len())
 }
 
 /// The sections of the subpart that comes after those chosen, no two of one id.
 pub fn next_sections<'a>(
     world: &World,
     course: CourseId,
-    ground: Option<Ground<'a>>,
     config: ConfigId,
+    subparts: &'a [SubpartRow],
     sections: &[SectionId],
 ) -> &'a [SectionRow]
-    requires { IsGroundOf world.now.world (Some course) ground }
+    requires { subparts.now ≡ subparts_of world.now.world course config }
     ensures value { result.now ≡ option_map_or (λ p. p.sections) (next_subpart world.now.world course config sections.now) [] }
     ensures differ { IsTrue (all_differ (map (λ s. s.id.0) result.now)) }
 {
     world.recall_kept();
-    match subpart_after(world, course, ground, config, sections) {
+    match subpart_after(world, course, config, subparts, sections) {
         Some(row) => row.sections.as_slice(),
         None => &[],
     }

@@ -32,7 +32,7 @@ pub fn broken<const N: usize>(
     ensures { result ≡ leaf_of world.now.world mv.now path.now pick }
 {
     path.is_short();
-    Stage::new(world, mv, path).broken(pick)
+    Stage::new(world, mv, path).broken(path, pick)
 }
 
 /// The first rule that the decision breaks, where the want, the ground and the reservation of the path are found.

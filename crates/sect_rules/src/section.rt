@@ -21,7 +21,7 @@ use crate::ground::Ground;
 use crate::moment::Moment;
 use crate::reserved::limited;
 use sect_base::{ConfigId, CourseId, Level, Rule, SectionId, Sections, Want};
-use sect_catalog::SectionRow;
+use sect_catalog::{OfferingRow, SectionRow};
 use sect_people::Ask;
 use sect_reserve::{Reservation, admits_section};
 use sect_time::{Meeting, overlaps};
@@ -118,16 +118,18 @@ impl Moment<'_> {
     fn excludes_section(
         &self,
         r: Option<&Reservation>,
+        offering: &OfferingRow,
         course: CourseId,
         config: ConfigId,
         sections: &[SectionId],
         section: SectionId,
     ) -> bool
+        requires { offering_of self.now.at course ≡ Some offering.now }
         ensures { result ≡ option_map_or (λ r. option_map_or (λ p. not (has_section r.includes p.id section))
             (next_subpart self.now.at course config sections.now) false) (option_copied r.entry) false }
     {
         match r {
-            Some(r) => match self.subparts(course, config).get(sections.len()) {
+            Some(r) => match self.subparts(offering, course, config).get(sections.len()) {
                 Some(subpart) => !admits_section(&r.includes, subpart.id, section),
                 None => false,
             },
@@ -156,18 +158,19 @@ impl Moment<'_> {
         row: Option<&SectionRow>,
     ) -> Option<(Rule, u32)>
         requires ground { IsGround self.now.at ground.now }
+        requires offering { offering_of self.now.at course ≡ Some ground.now.offering.now }
         requires bound { length sections < 6 }
         requires row { option_copied row ≡ find_section self.now.at.catalogue.rows section }
         ensures { result ≡ first_broken (standing_rules self.now.at self.now.student
             ground.now.offering.now course (option_copied r.entry) config sections section) }
     {
         let earlier = sections.as_slice();
-        if self.excludes_section(r, course, config, earlier, section) {
+        if self.excludes_section(r, ground.offering, course, config, earlier, section) {
             return Some((Rule::NotIncluded, section.0));
         }
         let all = with(sections, section);
         if self.is_restricted(
-            ground.offering.id,
+            ground.offering,
             ground.restrictions,
             course,
             config,

@@ -11,7 +11,6 @@ use Rattle.sect_model.specs.Rules.{leaf_of}
 use Rattle.sect_model.specs.Visits.{most_decisions}
 use Rattle.sect_model.specs.Walk.{Walked, behind, found_after, below_or, go_on, by_leaf, walk_options, walk_from, walk_of, told_by}
 use Rattle.sect_model.proofs.WalkLemmas.{walks-answer}
-use Rattle.sect_model.proofs.StandLemmas.{stands}
 use Rattle.sect_search.specs.Nodes.{nodes_of, nodes_in, BlockedIsSmall}
 
 -- where nothing was found, the trees have a node for each visit

@@ -28,7 +28,6 @@ use Rattle.sect_model.proofs.ListLemmas.{any-sorted, found-all, got-all, contain
 use Rattle.sect_model.proofs.PathLemmas.{good, config-all, one-step, option-fits, no-option}
 use Rattle.sect_model.proofs.RefutationLemmas.{above, all-flat_map, none-found, count_at, nearer}
 use Rattle.sect_model.proofs.RefutedLemmas.{blocked-refutes}
-use Rattle.sect_model.proofs.StandLemmas.{stands}
 use Rattle.sect_model.proofs.StageLemmas.{open_path, stage_fits, pick_fits, asked_by, own_at}
 use Rattle.sect_model.proofs.Tests.{rows_in_order, rows_in_size, found_by_id}
 use Rattle.sect_model.specs.declared.pick.Outcome.{Outcome}

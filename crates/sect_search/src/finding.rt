@@ -72,18 +72,14 @@ fn find<const N: usize>(
     ensures numbers { IfOk result OutcomeNumbers }
     ensures found { IfOk result (λ outcome. outcome ≡ searched_outcome budget (search_of world.now.world mv.now budget)) }
 {
-    let start = PathOf::<N>::start();
-    if start.is_complete(mv) {
+    let mut path = PathOf::<N>::start();
+    if path.is_complete(mv) {
         return Ok(Outcome::Found(Items::from_vec(Vec::new(alloc)), 0));
     }
+    let stage = Stage::new(world, mv, &path);
     let mut left = budget.get();
     Ok(
-        match below(
-            alloc,
-            &Stage::new(world, mv, &start),
-            decisions(mv),
-            &mut left,
-        )? {
+        match below(alloc, &stage, &mut path, decisions(mv), &mut left)? {
             Walked::Found(choices) => Outcome::Found(choices, budget.get() - left),
             Walked::Refuted(trees) => Outcome::Blocked(Block::split(trees), budget.get() - left),
             Walked::Spent => Outcome::Spent(budget.get()),

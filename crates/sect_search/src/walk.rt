@@ -1,7 +1,7 @@
 // One walk, depth first: each option that is looked at takes one from the budget, and below a
 // decision that breaks a rule nothing is looked at. The tree is made on the way back.
 
-ghost use Rattle.std.specs.Prelude.{◌≡◌, ◌-◌, ◌≤◌, ◌<◌, [], length, Contains, IfOk};
+ghost use Rattle.std.specs.Prelude.{◌≡◌, ◌-◌, ◌≤◌, ◌<◌, [], length, Contains, IfOk, None};
 ghost use Rattle.sect_model.specs.Path.{options_at, extend, is_complete};
 ghost use Rattle.sect_model.specs.Stands.{MoveStands};
 ghost use Rattle.sect_model.specs.Rules.{leaf_of};
@@ -10,23 +10,26 @@ ghost use Rattle.sect_search.specs.Told.{told, seen, WalkedNumbers, SeenNumbers}
 
 use crate::walked::{Visited, Walked};
 use sect_base::{Block, Choice, Items, Memory};
-use sect_rules::{Pick, Stage};
+use sect_rules::{PathOf, Pick, Stage};
 use std::alloc::Global;
 
-/// The search below a path, of at most so many decisions, with what is left of the budget.
+/// The search below a path, of at most so many decisions, with what is left of the budget. The path is as it was.
 #[cycle(walking)]
 pub fn below<const N: usize>(
     alloc: Global,
     stage: &Stage<N>,
+    path: &mut PathOf<N>,
     decisions: u32,
     left: &mut u32,
 ) -> Result<Walked, Memory>
     requires stands { MoveStands stage.now.world stage.now.mv }
     requires room { length stage.now.mv.take ≤ N }
     requires limit { N ≤ 20 }
+    requires path { path.old ≡ stage.now.path }
     ensures found { IfOk result (λ r. told r left.new ≡ search_from stage.now.world stage.now.mv decisions stage.now.path left.old) }
     ensures numbers { IfOk result WalkedNumbers }
     ensures less { left.new ≤ left.old }
+    ensures path { path.new ≡ path.old }
 {
     let budget = *left;
     let mut trees = Vec::new(alloc);
@@ -39,7 +42,7 @@ pub fn below<const N: usize>(
             return Ok(Walked::Spent);
         }
         *left -= 1;
-        match visit(alloc, stage, pick, decisions, left)? {
+        match visit(alloc, stage, path, pick, decisions, left)? {
             Visited::Found(choices) => return Ok(Walked::Found(choices)),
             Visited::Refuted(tree) => trees.push(tree)?,
             Visited::Spent => return Ok(Walked::Spent),
@@ -49,11 +52,12 @@ pub fn below<const N: usize>(
     Ok(Walked::Refuted(trees))
 }
 
-/// A look at one option: it breaks a rule, or completes the path, or the search goes on below it.
+/// A look at one option: it breaks a rule, or the search goes on behind it. The path is as it was.
 #[cycle(walking)]
 fn visit<const N: usize>(
     alloc: Global,
     stage: &Stage<N>,
+    path: &mut PathOf<N>,
     pick: Pick,
     decisions: u32,
     left: &mut u32,
@@ -61,6 +65,7 @@ fn visit<const N: usize>(
     requires stands { MoveStands stage.now.world stage.now.mv }
     requires room { length stage.now.mv.take ≤ N }
     requires limit { N ≤ 20 }
+    requires path { path.old ≡ stage.now.path }
     requires option { Contains (options_at stage.now.world stage.now.mv stage.now.path) pick }
     requires some { 0 < decisions }
     ensures found { IfOk result (λ r. seen r left.new
@@ -70,15 +75,41 @@ fn visit<const N: usize>(
         (λ left. refuted [] left) left.old) }
     ensures numbers { IfOk result SeenNumbers }
     ensures less { left.new ≤ left.old }
+    ensures path { path.new ≡ path.old }
 {
-    if let Some((rule, number)) = stage.broken(pick) {
+    if let Some((rule, number)) = stage.broken(path, pick) {
         return Ok(Visited::Refuted(Block::broken(rule, number)));
     }
-    let next = stage.extended(pick);
-    if stage.is_complete_by(&next) {
-        return Ok(Visited::Found(choices(alloc, next.done())?));
+    stage.extend(path, pick);
+    let visited = behind(alloc, stage, path, decisions - 1, left);
+    stage.restore(path, pick);
+    visited
+}
+
+/// What follows an option that breaks no rule: it completes the path, or the search goes on below it. The path is as it was.
+#[cycle(walking)]
+fn behind<const N: usize>(
+    alloc: Global,
+    stage: &Stage<N>,
+    path: &mut PathOf<N>,
+    decisions: u32,
+    left: &mut u32,
+) -> Result<Visited, Memory>
+    requires stands { MoveStands stage.now.world stage.now.mv }
+    requires room { length stage.now.mv.take ≤ N }
+    requires limit { N ≤ 20 }
+    ensures found { IfOk result (λ r. seen r left.new
+        ≡ search_pick None (is_complete stage.now.mv path.old) path.old.done
+        (search_from stage.now.world stage.now.mv decisions path.old) (λ left. refuted [] left) left.old) }
+    ensures numbers { IfOk result SeenNumbers }
+    ensures less { left.new ≤ left.old }
+    ensures path { path.new ≡ path.old }
+{
+    if stage.is_complete_by(path) {
+        return Ok(Visited::Found(choices(alloc, path.done())?));
     }
-    match below(alloc, &stage.other(&next), decisions - 1, left)? {
+    let next = stage.other(path);
+    match below(alloc, &next, path, decisions, left)? {
         Walked::Found(choices) => Ok(Visited::Found(choices)),
         Walked::Refuted(trees) => Ok(Visited::Refuted(Block::split(trees))),
         Walked::Spent => Ok(Visited::Spent),

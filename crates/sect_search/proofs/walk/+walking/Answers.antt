@@ -1,7 +1,9 @@
 -- option by option, with the trees of those in front
 use Rattle.std.proofs.Common.{◌-◌, ◌+◌, sym, ◌∙◌, subst, arith}
-use Rattle.sect_model.specs.Path.{options_at}
-use Rattle.sect_model.specs.Search.{search_from}
+use Rattle.std.specs.Prelude.{◌≡◌, [], None, IfOk}
+use Rattle.sect_model.specs.Path.{options_at, extend, is_complete}
+use Rattle.sect_model.specs.Rules.{leaf_of}
+use Rattle.sect_model.specs.Search.{refuted, search_pick, search_from}
 use Rattle.sect_base.specs.Tree.{trees_of}
 use Rattle.sect_search.specs.Texts.{HaveNumbers}
 use Rattle.sect_search.specs.Told.{seen, SeenNumbers}
@@ -56,6 +58,7 @@ below-options-preserved g t c =
       whole = c.options.invariant.whole;
       numbers = subst (λ trees. HaveNumbers (trees_of trees)) (sym c.in_ok-push-in-Refuted.ensures.items)
           (more-numbers c.options.trees.items c.in-Refuted.tree c.options.invariant.numbers (subst SeenNumbers c.in-Refuted.is c.in_ok-choices.ensures.numbers));
+      path_is = c.visit.ensures.path ∙ c.options.invariant.path_is;
     }
 
 pub below-returns-clause-found : goal.below-returns-clause-found
@@ -66,3 +69,14 @@ below-returns-clause-found g t c =
     sym (search-some w mv c.args.decisions p c.args.left.now (omega (arith, c.if-decisions-eq0.false))
     ∙ c.options.invariant.same
     ∙ from-none w mv (search_from w mv (c.args.decisions - 1)) p (options_at w mv p) c.options.trees.items c.options.at c.options.left (sym c.option.ensures.value ∙ c.in_default.is))
+
+pub visit-returns-clause-found : goal.visit-returns-clause-found
+visit-returns-clause-found g t c =
+    let w = c.args.stage.now.world in
+    let mv = c.args.stage.now.mv in
+    let p = c.args.stage.now.path in
+    let e : c.extend.new.path ≡ extend w p c.args.pick = c.extend.ensures in
+    let n : None ≡ leaf_of w mv p c.args.pick = sym c.in_default.is ∙ c.broken.ensures in
+    subst (λ x. IfOk c.behind-visited.result (λ r. seen r c.behind-visited.new.left ≡ x))
+    (λ i. search_pick (n i) (is_complete mv (e i)) (e i).done (search_from w mv (c.args.decisions - 1) (e i)) (λ left. refuted [] left) c.args.left.now)
+    c.behind-visited.ensures.found

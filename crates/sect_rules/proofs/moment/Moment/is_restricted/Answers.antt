@@ -32,11 +32,11 @@ returns-then-any_applies c =
     let v = c.args.self.now.at in
     ap not c.any_admits.ensures
     ∙ and-true _ _ (sym c.any_applies.ensures ∙ c.if-any_applies.true)
-    ∙ restricted v c.args.self.now.student c.args.offering c.args.course c.args.config c.args.sections.now c.args.rows.now c.requires
+    ∙ restricted v c.args.self.now.student c.args.offering.now.id c.args.course c.args.config c.args.sections.now c.args.rows.now c.requires.rows
 
 pub returns-else-any_applies : goal.returns-else-any_applies
 returns-else-any_applies c =
     let v = c.args.self.now.at in
     c.any_applies.ensures
     ∙ and-false _ _ (sym c.any_applies.ensures ∙ c.if-any_applies.false)
-    ∙ restricted v c.args.self.now.student c.args.offering c.args.course c.args.config c.args.sections.now c.args.rows.now c.requires
+    ∙ restricted v c.args.self.now.student c.args.offering.now.id c.args.course c.args.config c.args.sections.now c.args.rows.now c.requires.rows

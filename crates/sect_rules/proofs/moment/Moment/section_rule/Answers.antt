@@ -35,6 +35,7 @@ module _ (v : World) (st : StudentId) (want : Want) (course : CourseId) (config 
 pub standing_rule-requires : goal.standing_rule-requires
 standing_rule-requires c = record {
   ground = c.requires.ground;
+  offering = c.requires.offering;
   bound = sections-few c.args.self.now.at c.recall_kept.ensures.checked c.args.course c.args.config c.args.sections c.args.section c.requires.own;
   row = c.section-row.ensures ∙ ap (λ k. find_section k.rows c.args.section) c.catalogue.ensures;
 }
