@@ -60,8 +60,8 @@ impl<'a, const N: usize> Stage<'a, N> {
         )
     }
 
-    /// The stage of another path of this move. Where its course is the same, the ground is taken over, and so is the
-    /// reservation.
+    /// The stage of another path of this move. Where its course is the same, the ground is taken over, and where its
+    /// reservation is, what was found of that.
     pub fn other(&self, path: &PathOf<N>) -> Stage<'a, N>
         ensures { result ≡ record { world = self.now.world; mv = self.now.mv; path = path.now } }
     {
