@@ -90,17 +90,19 @@ impl<O: TextObject, K: Keeper, C: Clock> Trier<O, K, C> {
         ensures answer { WouldAnswer O.stepped O.is_row id.now day command.now self.old.desk result }
         ensures same { self.new ≡ self.old }
     {
-        match self.desk.find(id, command) {
-            Ok(Seen::Place(place)) => self.repeat(place),
-            Ok(Seen::Reused(place)) => Answer::NumberReused(place),
-            Ok(Seen::New) => {
+        let Ok(seen) = self.desk.find(id, command) else {
+            return Answer::Memory;
+        };
+        match seen {
+            Seen::Place(place) => self.repeat(place),
+            Seen::Reused(place) => Answer::NumberReused(place),
+            Seen::New => {
                 if self.desk.is_full() {
                     Answer::LogFull
                 } else {
                     self.act(id, day, command)
                 }
             }
-            Err(_) => Answer::Memory,
         }
     }
 
