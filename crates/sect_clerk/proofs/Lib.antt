@@ -2,6 +2,7 @@ pub mod Kept
 pub mod Refused
 pub mod Told
 pub mod Agreed
+pub mod Repeats
 pub mod Trying
 pub mod Days
 pub mod Few

@@ -16,7 +16,7 @@ use sect_asking::{asked_on, is_passed_over, print_answer, read_request};
 use sect_base::{Id, Memory};
 use sect_command::{Command, Reply};
 use sect_edge::{Clock, Keeper};
-use sect_once::{Answer, Desk, Object, Seen};
+use sect_once::{Answer, Desk, Entry, Object, Seen};
 use sect_read::LineAsk;
 use sect_script::{Handler, LineFault};
 use sect_time::Day;
@@ -112,10 +112,10 @@ impl<O: TextObject, K: Keeper, C: Clock> Trier<O, K, C> {
         ensures { (result ≡ NoMemory) ⊎ ((e : Entry Command Reply) × (slice_get (history self.now.desk.log) place ≡ Some e) × (result ≡ Done place e.reply)) }
     {
         match self.desk.entry(place) {
-            Ok(entry) => Answer::Done {
-                place,
-                reply: entry.reply,
-            },
+            Ok(entry) => {
+                let Entry { reply, .. } = entry;
+                Answer::Done { place, reply }
+            }
             Err(_) => Answer::Memory,
         }
     }
