@@ -234,30 +234,6 @@ fn are_each_once(places: &[Vec<u32>], total: u32) -> bool {
     count_of(places) == total as usize
 }
 
-<<<<<<< HEAD
-/// Whether the request at a place acted, and has this reply.
-fn has_reply(desk: &Desk<Tally, MemKeeper>, place: u32, reply: u64) -> bool {
-    if place >= desk.acted() {
-        return false;
-    }
-    match desk.entry(place) {
-        Ok(entry) => entry.reply == reply,
-        Err(_) => false,
-    }
-}
-
-#[test]
-fn two_threads_share_one_history(rt: HostRuntime) -> Result<(), Fail> {
-    let (first, second, desk) = run_twice(&rt, rt.alloc(), &OpenGate, 2, 100)?;
-    assert!(rt; are_each_once(&first, 200));
-    assert!(rt; first == second);
-    assert_eq!(rt; desk.len(), 200);
-    assert!(rt; has_reply(&desk, 199, 200));
-    Ok(())
-}
-
-=======
->>>>>>> c
 #[test]
 fn many_threads_share_one_history(rt: HostRuntime) -> Result<(), Fail> {
     let (first, second, desk) = run_twice(&rt, rt.alloc(), &OpenGate, 64, 10)?;
