@@ -1,7 +1,9 @@
 """`desk serve` as a client sees it: a server over a keeper, requests, and connections that stay. The tools that try the
 server from outside stand on it.
 """
+import contextlib
 import json
+import random
 import signal
 import socket
 import struct
@@ -12,14 +14,16 @@ WAIT = 20
 
 
 def free_port():
-    """A port at which nobody listens, chosen by the system."""
-    with socket.socket() as free:
-        free.bind(('127.0.0.1', 0))
-        return free.getsockname()[1]
+    """A port at which nobody listens, below those that the system gives to clients, so that none of these takes it meanwhile."""
+    while True:
+        port = random.randrange(20_000, 32_000)
+        with socket.socket() as free, contextlib.suppress(OSError):
+            free.bind(('127.0.0.1', port))
+            return port
 
 
 class Server:
-    """A program that serves at a port which the system chose, started so as `subprocess.Popen` is told."""
+    """A program that serves at a free port, started so as `subprocess.Popen` is told."""
 
     def __init__(self, program, options, workers, sessions=None, **how):
         self.port = free_port()

@@ -47,6 +47,7 @@ TESTS = os.path.join(os.path.dirname(os.path.abspath(__file__)), '..', 'tests')
 DESK = ('run', 'make', 'audit', 'report', 'import', 'export', 'plan', 'survey', 'serve')
 ALONE = ('make', 'check')
 SHOWN_DAY = b'2025-09-01'
+BEGUN = datetime.datetime.now(datetime.timezone.utc).date()
 
 
 def unfolded(text):
@@ -118,20 +119,22 @@ def run(words, data, piece, folder):
     """(what was written, the status, its text) of a program."""
     with open(os.path.join(folder, 'written'), 'w+b') as written, open(os.path.join(folder, 'told'), 'w+b') as told:
         process = subprocess.Popen(words, stdin=subprocess.PIPE, stdout=written, stderr=told, cwd=folder)
-        if piece:
-            feed(process, data, piece)
-            process.wait(timeout=60)
-        else:
-            process.communicate(data, timeout=60)
+        try:
+            if piece:
+                feed(process, data, piece)
+                process.wait(timeout=60)
+            else:
+                process.communicate(data, timeout=60)
+        finally:
+            process.kill()
         written.seek(0)
         told.seek(0)
         return written.read(), process.returncode, told.read()
 
 
 def day_hidden(data):
-    """The bytes with another day in the place of today's, and of yesterday's, where a run began before midnight."""
-    today = datetime.datetime.now(datetime.timezone.utc).date()
-    for day in (today, today - datetime.timedelta(days=1)):
+    """The bytes with another day in the place of today's, and of the day on which this program was begun."""
+    for day in (datetime.datetime.now(datetime.timezone.utc).date(), BEGUN):
         data = data.replace(day.isoformat().encode(), SHOWN_DAY)
     return data
 
@@ -243,34 +246,39 @@ class Connections:
             return line.encode() + b'\n' + self.served()
         return b''
 
+    @contextlib.contextmanager
     def begun(self, workers=1):
-        """A server over the history, whose workers serve as many connections in all as there are. Where its file can't grow, a
-        write past its end fails, and no signal ends the server."""
+        """A server over the history, whose workers serve as many connections in all as there are, and which is gone behind it.
+        Where its file can't grow, a write past its end fails, and no signal ends the server."""
         with open(self.path, 'wb') as file:
             file.write(journal_of(self.rows))
         bound = os.path.getsize(self.path)
         held = {'preexec_fn': lambda: resource.setrlimit(resource.RLIMIT_FSIZE, (bound, resource.RLIM_INFINITY)),
                 'restore_signals': False} if self.held else {}
-        return Server(self.desk, ['--journal', self.path], workers, len(self.sent) // workers, **held)
+        server = Server(self.desk, ['--journal', self.path], workers, len(self.sent) // workers, **held)
+        try:
+            yield server
+        finally:
+            server.process.kill()
 
     def served(self):
         """What each connection is told, how the server ends, and what it kept."""
-        server, told = self.begun(), b''
-        for data, piece in self.sent:
-            text = heard(server, data, piece)
-            told += shown(text)
-            resource.prlimit(server.process.pid, resource.RLIMIT_FSIZE, (resource.RLIM_INFINITY, resource.RLIM_INFINITY))
-        return told + self.ended(server)
+        told = b''
+        with self.begun() as server:
+            for data, piece in self.sent:
+                told += shown(heard(server, data, piece))
+                resource.prlimit(server.process.pid, resource.RLIMIT_FSIZE, (resource.RLIM_INFINITY, resource.RLIM_INFINITY))
+            return told + self.ended(server)
 
     def served_at_once(self):
         """The same of as many workers as connections: all of them come, and then the last one sends the first of its bytes."""
-        server, told = self.begun(len(self.sent)), b''
-        with contextlib.ExitStack() as stack:
+        told = b''
+        with self.begun(len(self.sent)) as server, contextlib.ExitStack() as stack:
             came = [stack.enter_context(server.connect()) for _ in self.sent]
             for connection, (data, _) in reversed(list(zip(came, self.sent))):
-                text = answered(connection, data, len(data))
-                told += shown(text)
-        return told + self.ended(server)
+                told += shown(answered(connection, data, len(data)))
+                connection.close()
+            return told + self.ended(server)
 
     def ended(self, server):
         """How a server ends, and what it kept."""
