@@ -6,7 +6,7 @@
 PROGRAM of --bench is a crate of its own, which no gate reads: in a copy of the repository `bench/session/main.rt.txt` goes to
 crates/bench_session/src/main.rt, with args and stdout beside src/, and the line of `bench/session/line.txt` to crates.txt.
 `serve.rt`, `streams.rt` and `keepers.rt` of crates/test_commands/src go beside main.rt, and `crates/test_commands/proofs/serve` to
-crates/bench_session/proofs, with `bench_session` in place of `test_commands` in it; then `rt ci bench_session` builds it. It has
+crates/bench_session/proofs, with `bench_session` in place of `test_commands` in it; then `rt run` in that crate builds it. It has
 sessions of thirty requests over memory, timed, and its instructions counted by callgrind. Each --desk is served over one
 connection of TCP under callgrind, which counts what the program itself does. Instructions are those of N requests more, beside
 those of none, so that the start doesn't count.
