@@ -93,7 +93,7 @@ def missing_sentences():
 def outside_the_order():
     """Files of definitions that no chapter lists."""
     seen = set(INSIDE).union(path for _, _, files in CHAPTERS for path in files)
-    for crate in ('sect_base', 'sect_time', 'sect_catalog', 'sect_people', 'sect_reserve', 'sect_model'):
+    for crate in ('sect_base', 'sect_catalog', 'sect_people', 'sect_reserve', 'sect_model'):
         for name in sorted(os.listdir(os.path.join(CRATES, crate, 'specs'))):
             path = f'{crate}/specs/{name}'
             if path not in seen and definitions(path) and not name.startswith(('Lib', 'Examples')):

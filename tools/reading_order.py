@@ -28,10 +28,10 @@ CHAPTERS = [
     ('Times',
      'A day is a number from 1970-01-01. A meeting is a set of weekdays, a first slot of five minutes, a number of '
      'slots and a set of weeks.',
-     ['sect_time/specs/' + n + '.antt' for n in ('Day', 'Pattern', 'Weeks', 'Calendar')]),
+     ['sect_base/specs/' + n + '.antt' for n in ('Day', 'Pattern', 'Weeks', 'Calendar')]),
     ('Texts of times',
      'Each day and each meeting has one spelling.',
-     ['sect_time/specs/' + n + '.antt' for n in
+     ['sect_base/specs/' + n + '.antt' for n in
       ('Digits', 'DayText', 'WeekdayText', 'ClockText', 'WeekText', 'MeetingText')]),
     ('The catalogue',
      'An offering has courses, by which students ask for it, and configurations; a configuration has subparts; a '
@@ -222,16 +222,16 @@ CHAPTERS = [
      + ['sect_script/specs/' + n + '.antt' for n in ('Lines', 'Reading', 'Run', 'Gathering', 'Statuses')]
      + ['sect_asking/specs/' + n + '.antt' for n in ('AnswerLines', 'Asks', 'Desk')]
      + ['sect_tell/specs/' + n + '.antt' for n in ('Told', 'Audit', 'Views')]
-     + ['sect_intake/specs/Fitting.antt']
+     + ['sect_app/specs/Fitting.antt']
      + ['sect_return/specs/' + n + '.antt' for n in ('Asked', 'Back', 'Checked', 'States', 'Again')]
-     + ['sect_intake/specs/' + n + '.antt' for n in ('Numbers', 'Asking', 'Table', 'Opened', 'Machine')]
-     + ['sect_making/specs/' + n + '.antt' for n in ('Generated', 'Made', 'Stages')]),
+     + ['sect_app/specs/' + n + '.antt' for n in ('Numbers', 'Asking', 'Table', 'Opened', 'Import')]
+     + ['sect_app/specs/' + n + '.antt' for n in ('Generated', 'Made', 'Stages')]),
     ('Lines that are tried',
      'What a desk would answer a line now, and what it is that lines were tried.',
      ['sect_clerk/specs/' + n + '.antt' for n in ('Answered', 'Tried')]),
     ('A history as lines',
      'What names a student or a section, the log of a history, and what a run over the whole log does.',
-     ['sect_log/specs/' + n + '.antt' for n in ('Naming', 'Log', 'Laws')]),
+     ['sect_clerk/specs/' + n + '.antt' for n in ('Naming', 'Log', 'Laws')]),
     ('A place of a history, in words',
      'What is said of the entry at a place, in the world in which its command acted.',
      ['sect_clerk/specs/Explaining.antt']),
@@ -275,8 +275,8 @@ CHAPTERS = [
 READERS = ['sect_command/specs/Reading.antt'] + ['sect_read/specs/Reading' + n + '.antt' for n in ('Rows', 'Commands', 'Lines')]
 
 # what private functions' contracts cite: a body's own words, which no public contract has
-INSIDE = ['sect_time/specs/WeekScan.antt', 'sect_catalog/specs/Place.antt', 'sect_catalog/specs/Rising.antt', 'sect_catalog/specs/Apart.antt',
-          'sect_catalog/specs/Search.antt', 'sect_roster/specs/Filed.antt', 'sect_intake/specs/Underway.antt',
+INSIDE = ['sect_base/specs/WeekScan.antt', 'sect_catalog/specs/Place.antt', 'sect_catalog/specs/Rising.antt', 'sect_catalog/specs/Apart.antt',
+          'sect_catalog/specs/Search.antt', 'sect_roster/specs/Filed.antt', 'sect_app/specs/Underway.antt',
           'sect_journal/specs/Windows.antt']
 
 BASE, CATALOG, PEOPLE = 'sect_base/specs/', 'sect_catalog/specs/', 'sect_people/specs/'
@@ -308,7 +308,7 @@ SENTENCES = {
     ('sect_turn/specs/Steps.antt', 'Looked'): 'the seat has the turn where its ticket is served, and else nothing has changed',
     ('sect_turn/specs/Passes.antt', 'share'): 'the share of a pass',
     ('sect_turn/specs/Passes.antt', 'HoldsTurn'): 'the pass has the turn, and the slot stands empty in its hands',
-    ('sect_making/specs/Generated.antt', 'batch_command'): 'the batch of this number, from 0',
+    ('sect_app/specs/Generated.antt', 'batch_command'): 'the batch of this number, from 0',
     ('sect_people/specs/Changes.antt', 'students_by_id'): 'the students in rising order of their ids',
     ('sect_command/specs/TreeText.antt', 'HaveTexts'): 'each of the trees has a text with at most so many brackets',
     (BASE + 'Padded.antt', 'no_section'): 'the section of id 0, which fills cells',
@@ -322,7 +322,7 @@ SENTENCES = {
     (BASE + 'Tree.antt', 'tree_at'): 'the tree of a tree of numbers',
     (BASE + 'Tree.antt', 'trees_at'): 'the trees of a tree of numbers',
     (BASE + 'Tree.antt', 'tree_code'): 'trees are stored so without loss',
-    ('sect_time/specs/Pattern.antt', 'Pattern'): 'a meeting: weekdays (bit 0 Monday), first slot, number of slots, weeks (bit 0 week 1)',
+    ('sect_base/specs/Pattern.antt', 'Pattern'): 'a meeting: weekdays (bit 0 Monday), first slot, number of slots, weeks (bit 0 week 1)',
     (CATALOG + 'Catalogue.antt', 'Catalogue'): 'the rows of the offerings, and the cancelled sections',
     (CATALOG + 'Catalogue.antt', 'all_courses'): 'the courses of all offerings',
     (CATALOG + 'Catalogue.antt', 'all_configs'): 'the configurations of all offerings',

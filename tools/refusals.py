@@ -108,7 +108,7 @@ def copy_of(folder):
     with open(os.path.join(ROOT, 'crates.txt')) as file:
         crates = file.read()
     with open(os.path.join(folder, 'crates.txt'), 'w') as file:
-        file.write(crates + 'refusals may_wait=8: sect_base sect_time sect_edge sect_app\n')
+        file.write(crates + 'refusals may_wait=8: sect_base sect_edge sect_app\n')
     source = os.path.join(folder, 'crates', 'refusals', 'src')
     os.makedirs(source)
     for name in ('keepers.rt', 'runs.rt', 'stand.rt', 'streams.rt'):

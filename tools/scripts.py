@@ -338,7 +338,7 @@ LAYERS = 'step refusal_of batch_of settle outcome_of is_allowed leaf_of meetings
 LAYER_FILES = {
     f'{MODEL}.Step': 'step', f'{MODEL}.Refusals': 'refusal_of', f'{MODEL}.Batch': 'batch_of', f'{MODEL}.Settle': 'settle',
     f'{MODEL}.Outcome': 'outcome_of', f'{MODEL}.Allowed': 'is_allowed', f'{MODEL}.Rules': 'leaf_of',
-    'Rattle.sect_time.specs.Pattern': 'meetings_overlap some_below',
+    'Rattle.sect_base.specs.Pattern': 'meetings_overlap some_below',
 }
 
 

@@ -19,8 +19,8 @@ use Rattle.sect_wire.specs.Laws.{IsRow}
 use Rattle.sect_script.specs.Lines.{Line, text_of}
 use Rattle.sect_script.specs.Run.{Answers, AnswersEach}
 use Rattle.sect_asking.specs.Asks.{AnswersScript, AnswersText, Sitting, is_passed_over}
-use Rattle.sect_intake.specs.Asking.{AnswersNumbered}
-use Rattle.sect_intake.specs.Numbers.{Numbered}
+use Rattle.sect_app.specs.Asking.{AnswersNumbered}
+use Rattle.sect_app.specs.Numbers.{Numbered}
 use Rattle.sect_app.specs.Faulted.{AreFew, FewOfLines, FewOfTables, commands_told, is_fault, line_told, lines_told}
 
 -- ---- lists that are counted

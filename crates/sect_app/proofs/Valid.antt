@@ -24,8 +24,8 @@ use Rattle.sect_script.specs.declared.status.Status.{Status}
 use Rattle.sect_script.specs.declared.status.Status.TheVariants as statuses
 use Rattle.sect_asking.specs.Asks.{IsKnown}
 use Rattle.sect_asking.specs.Desk.{shut_status}
-use Rattle.sect_intake.specs.Table.{AtBadRow, AtEnd, AtMemory, AtReadFault, AtWriteFault, EndsTable, OpenWithoutNumber, PastLimit, TABLE_LIMIT, WithoutNumber}
-use Rattle.sect_making.specs.Made.{Prints}
+use Rattle.sect_app.specs.Table.{AtBadRow, AtEnd, AtMemory, AtReadFault, AtWriteFault, EndsTable, OpenWithoutNumber, PastLimit, TABLE_LIMIT, WithoutNumber}
+use Rattle.sect_app.specs.Made.{Prints}
 use Rattle.sect_serve.specs.Serving.{SomeRose}
 use Rattle.sect_serve.specs.declared.serving.ServeEnd.{ServeEnd}
 use Rattle.sect_serve.specs.declared.serving.ServeEnd.TheVariants as serve_ends

@@ -19,9 +19,9 @@ use Rattle.sect_script.specs.Run.{Answers, AnswersEach}
 use Rattle.sect_talk.specs.Asked.{Exchange}
 use Rattle.sect_asking.specs.Asks.{AnswersScript, AnswersText, Sitting, is_passed_over}
 use Rattle.sect_asking.specs.Desk.{RunsLines}
-use Rattle.sect_intake.specs.Asking.{AnswersNumbered}
-use Rattle.sect_intake.specs.Numbers.{Numbered, numbered}
-use Rattle.sect_intake.specs.Opened.{RunsTable}
+use Rattle.sect_app.specs.Asking.{AnswersNumbered}
+use Rattle.sect_app.specs.Numbers.{Numbered, numbered}
+use Rattle.sect_app.specs.Opened.{RunsTable}
 use Rattle.sect_serve.specs.Serving.{Worker}
 use Rattle.sect_serve.specs.Talks.{Talk}
 use Rattle.sect_app.specs.Serving.{MachineAnswers, ServesDesk}

@@ -4,3 +4,13 @@ pub mod Machine
 pub mod Serving
 pub mod Top
 pub mod Valid
+pub mod Generated
+pub mod Made
+pub mod Stages
+pub mod Asking
+pub mod Import
+pub mod Numbers
+pub mod Opened
+pub mod Table
+pub mod Underway
+pub mod Fitting

@@ -13,9 +13,9 @@ use Rattle.sect_tell.specs.Audit.{Audits}
 use Rattle.sect_tell.specs.Told.{TellsHistory}
 use Rattle.sect_tell.specs.Views.{IsPlan, IsReport, IsSurvey}
 use Rattle.sect_asking.specs.Desk.{RunsLines, StaysShut}
-use Rattle.sect_intake.specs.Machine.{Imports}
+use Rattle.sect_app.specs.Import.{Imports}
 use Rattle.sect_script.specs.Statuses.{Says}
-use Rattle.sect_making.specs.Made.{Makes}
+use Rattle.sect_app.specs.Made.{Makes}
 use Rattle.sect_app.specs.Returns.{ComesBack}
 
 module _ {K : Type 0} (rows : K → Option (List (List ℕ))) (faults : K → ℕ) where

@@ -19,7 +19,7 @@ use Rattle.sect_script.specs.Lines.{Line, bytes_of, lines_of, text_of}
 use Rattle.sect_script.specs.Reading.{LINE_LIMIT}
 use Rattle.sect_script.specs.Run.{LINES_LIMIT}
 use Rattle.sect_asking.specs.Asks.{IsKnown}
-use Rattle.sect_intake.specs.Table.{TABLE_LIMIT}
+use Rattle.sect_app.specs.Table.{TABLE_LIMIT}
 use Rattle.sect_serve.specs.Serving.{SomeRose}
 use Rattle.sect_usage.specs.declared.words.Words.{Words}
 use Rattle.sect_usage.specs.declared.words.Words.TheVariants as asked

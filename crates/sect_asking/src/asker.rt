@@ -8,12 +8,11 @@ ghost use Rattle.sect_wire.specs.Fits.{FitsCommand, FitsDay, FitsId};
 ghost use Rattle.sect_wire.specs.Lines.{IsLine};
 
 use crate::answer::print_answer;
-use sect_base::Memory;
+use sect_base::{Day, Memory};
 use sect_command::{Command, Reply};
 use sect_edge::{Clock, Keeper};
 use sect_once::{Answer, Desk, Object};
 use sect_script::{Handler, LineFault};
-use sect_time::Day;
 use sect_wire::{LineAsk, TextObject, WireFault, read_line};
 use std::alloc::Global;
 use std::marker::Model;

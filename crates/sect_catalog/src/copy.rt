@@ -3,8 +3,7 @@
 ghost use Rattle.std.specs.Prelude.{◌≡◌, IfOk};
 
 use crate::row::{ConfigRow, CourseRow, OfferingRow, SectionRow, SubpartRow};
-use sect_base::{Duplicate, Items, Memory};
-use sect_time::Meeting;
+use sect_base::{Duplicate, Items, Meeting, Memory};
 use std::alloc::Global;
 
 impl Duplicate for OfferingRow {

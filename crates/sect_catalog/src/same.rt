@@ -3,8 +3,7 @@
 ghost use Rattle.std.specs.Prelude.{◌≡◌, ◌↔◌, IsTrue};
 
 use crate::row::{ConfigRow, CourseRow, OfferingRow, SectionRow, SubpartRow};
-use sect_base::Same;
-use sect_time::Meeting;
+use sect_base::{Meeting, Same};
 
 /// Whether the meetings are equal, in one order.
 fn same_meetings(left: &[Meeting], right: &[Meeting]) -> bool

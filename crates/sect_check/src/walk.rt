@@ -8,9 +8,8 @@ ghost use Rattle.sect_check.specs.Fits.{fits as fits_form};
 ghost use Rattle.sect_check.specs.Walks.{Walk, Walks, behind_mark, each_walk, key_walk, level_walk, option_walk, pair_walk, word_walk};
 
 use crate::form::{Form, Halt};
-use sect_base::{Caller, Curriculum, Items, Limit, Memory};
+use sect_base::{Caller, Curriculum, Day, Items, Limit, Meeting, Memory};
 use sect_reserve::Audience;
-use sect_time::{Day, Meeting};
 use sect_words::{Fault, Parts, Readable, read_between};
 use std::alloc::Global;
 

@@ -7,3 +7,10 @@ pub mod Trying
 pub mod Days
 pub mod Few
 pub mod Explained
+pub mod Cuts
+pub mod Entries
+pub mod LogLines
+pub mod Plain
+pub mod PlainCommands
+pub mod PlainReplies
+pub mod Taken

@@ -11,7 +11,7 @@ use Rattle.sect_script.specs.declared.status.Status.{Status}
 use Rattle.sect_script.specs.Statuses.{Says}
 use Rattle.sect_asking.specs.Desk.{StaysShut}
 use Rattle.sect_clerk.specs.Explaining.{IsExplanation}
-use Rattle.sect_log.specs.Log.{IsLog}
+use Rattle.sect_clerk.specs.Log.{IsLog}
 use Rattle.sect_tell.specs.Told.{TellsHistory}
 use Rattle.sect_clerk.specs.Tried.{Tries}
 use Rattle.sect_clerk_words.specs.declared.words.Words.{Words}

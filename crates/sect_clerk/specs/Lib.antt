@@ -4,3 +4,6 @@ pub mod Shows
 pub mod Answered
 pub mod Tried
 pub mod Explaining
+pub mod Laws
+pub mod Log
+pub mod Naming

@@ -14,11 +14,11 @@ ghost use Rattle.sect_clerk.specs.Tried.{Tries};
 ghost use Rattle.sect_clerk.specs.Clerk.{ClerkDoes, TellsOf, reads as reads_source};
 
 use crate::checker::check;
+use crate::log::Log;
 use crate::showing::{Demand, Timetable};
 use crate::{Explanation, try_lines};
 use sect_clerk_words::{VERSION, Words, help_of};
 use sect_edge::{Clock, Keeper, Sink, Source};
-use sect_log::Log;
 use sect_machine::Machine;
 use sect_script::{Status, say};
 use sect_tell::{Teller, tell};

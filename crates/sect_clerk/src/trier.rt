@@ -13,13 +13,12 @@ ghost use Rattle.sect_clerk.specs.Answered.{WouldAnswer};
 ghost use Rattle.sect_clerk.specs.Tried.{TriesLine};
 
 use sect_asking::{asked_on, is_passed_over, print_answer, read_request};
-use sect_base::{Id, Memory};
+use sect_base::{Day, Id, Memory};
 use sect_command::{Command, Reply};
 use sect_edge::{Clock, Keeper};
 use sect_once::{Answer, Desk, Entry, Object, Seen};
 use sect_read::LineAsk;
 use sect_script::{Handler, LineFault};
-use sect_time::Day;
 use sect_wire::TextObject;
 use std::marker::Model;
 

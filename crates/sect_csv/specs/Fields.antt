@@ -2,7 +2,7 @@
 use Rattle.std.specs.Prelude.{ℕ, List, decimal}
 use Rattle.sect_csv.specs.declared.field.Field.{Field}
 use Rattle.sect_csv.specs.declared.field.Field.TheVariants.{Name, Number, Parent, Places, Flag, Date, Courses, Meets, Times, Groups, Curricula, Any, For, Configs, Sections}
-use Rattle.sect_time.specs.MeetingText.{meeting_text}
+use Rattle.sect_base.specs.MeetingText.{meeting_text}
 use Rattle.sect_words.specs.Days.{day_text}
 use Rattle.sect_words.specs.Words.{audience_text, course_row_text, course_text, curriculum_text, flag_text, limit_text, list_text, optional_text, section_text}
 

@@ -15,7 +15,7 @@ use Rattle.sect_command.specs.declared.view.Table.{Table}
 use Rattle.sect_command.specs.declared.view.Table.TheVariants.{Offerings as offerings, Students as students, Requests as requests, Reservations as reservations}
 use Rattle.sect_command.specs.declared.view.View.{View}
 use Rattle.sect_command.specs.declared.view.View.TheVariants.{Offerings, Students, Requests, Reservations}
-use Rattle.sect_time.specs.MeetingText.{meeting_text}
+use Rattle.sect_base.specs.MeetingText.{meeting_text}
 use Rattle.sect_words.specs.Days.{day_text}
 use Rattle.sect_words.specs.Words.{audience_text, course_row_text, course_text, curriculum_text, flag_text, limit_text, list_text, optional_text, section_text}
 

@@ -3,10 +3,9 @@
 ghost use Rattle.std.specs.Prelude.{◌≡◌, ◌++◌, OnOk};
 ghost use Rattle.sect_csv.specs.Fields.{field_text};
 
-use sect_base::{ConfigId, CourseId, Curriculum, GroupId, Limit, Memory, SectionId};
+use sect_base::{ConfigId, CourseId, Curriculum, Day, GroupId, Limit, Meeting, Memory, SectionId};
 use sect_catalog::CourseRow;
 use sect_reserve::{Audience, Place};
-use sect_time::{Day, Meeting};
 use sect_words::{Spelled, print_list, print_number, print_text};
 
 /// A field of a row.

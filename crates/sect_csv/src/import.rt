@@ -5,10 +5,9 @@ ghost use Rattle.sect_csv.specs.Intake.{GivesTheNew, after, answer_to, beginning
 
 use crate::Records;
 use crate::rows::{take_last_rows, take_rows};
-use sect_base::Memory;
+use sect_base::{Day, Memory};
 use sect_command::Table;
 use sect_tables::{CsvFault, Given, Reading};
-use sect_time::Day;
 use std::alloc::Global;
 use std::marker::Model;
 

@@ -3,7 +3,7 @@ use Rattle.std.specs.Prelude.{ℕ, List, ◌++◌, Option, Some, None, codes, de
 use Rattle.std.specs.Option.{option_and_then}
 use Rattle.sect_base.specs.declared.rule.Rule.{Rule}
 use Rattle.sect_base.specs.declared.rule.Rule.TheVariants.{InOffering, Credits, NotApplicable, Expired, UsedUp, MustUse, CourseFull, OfferingFull, OfferingReserved, ConfigFull, ConfigReserved, NotIncluded, Restricted, Cancelled, Parent, SectionFull, SectionReserved, Overlap, FreeTime, NotAsked}
-use Rattle.sect_time.specs.MeetingText.{meeting_text}
+use Rattle.sect_base.specs.MeetingText.{meeting_text}
 use Rattle.sect_model.specs.Data.{ReservationId, SectionId}
 use Rattle.sect_model.specs.declared.pick.Pick.{Pick}
 use Rattle.sect_model.specs.declared.pick.Pick.TheVariants as picks

@@ -1,7 +1,7 @@
 // What is said of a decision that breaks a rule.
 
 ghost use Rattle.std.specs.Prelude.{◌≡◌, ◌++◌, OnOk, decimal, length, take};
-ghost use Rattle.sect_time.specs.MeetingText.{meeting_text};
+ghost use Rattle.sect_base.specs.MeetingText.{meeting_text};
 ghost use Rattle.sect_model.specs.World.{meetings_of};
 ghost use Rattle.sect_words.specs.Words.{list_text};
 ghost use Rattle.sect_explain.specs.Reason.{days_text, numbered, overlap_text, pick_text, reason_text};

@@ -9,7 +9,7 @@ use Rattle.std.proofs.lemmas.Bool.Decides.{nat_tests}
 use Rattle.std.proofs.lemmas.Int.{ints}
 use Rattle.sect_base.specs.declared.rule.Rule.TheVariants.{InOffering, Credits, NotApplicable, Expired, UsedUp, MustUse, CourseFull, OfferingFull, OfferingReserved, ConfigFull, ConfigReserved, NotIncluded, Restricted, Cancelled, Parent, SectionFull, SectionReserved, Overlap, FreeTime, NotAsked}
 use Rattle.sect_base.specs.declared.limit.Level.TheVariants.{Course, Offering, Config, Section}
-use Rattle.sect_time.specs.Pattern.{lists_overlap}
+use Rattle.sect_base.specs.Pattern.{lists_overlap}
 use Rattle.sect_catalog.specs.Catalogue.{is_cancelled, places}
 use Rattle.sect_reserve.specs.Audience.{active, applies, admits_config, admits_section, empty_or_any}
 use Rattle.sect_model.specs.Data.{StudentId, CourseId, OfferingId, ConfigId, SectionId, ReservationId, Audience, OfferingRow, Level, Reservation, Want}

@@ -6,10 +6,9 @@ ghost use Rattle.sect_model.specs.Fits.{Fits, changed};
 ghost use Rattle.sect_space.specs.Back.{back_of};
 ghost use Rattle.sect_space.specs.Undo.{Since, Undoable};
 
-use sect_base::Memory;
+use sect_base::{Day, Memory};
 use sect_model::Change;
 use sect_space::{Undo, World};
-use sect_time::Day;
 
 /// Makes a change that fits. Where memory runs out, the world is as before.
 pub fn make(world: &mut World, change: Change, undo: &mut Undo) -> Result<(), Memory>

@@ -4,7 +4,7 @@ ghost use Rattle.std.specs.Prelude.{◌≡◌};
 ghost use Rattle.sect_machine.specs.Standing.{state_in};
 
 use crate::machine::Machine;
-use sect_time::Day;
+use sect_base::Day;
 
 impl Machine {
     /// The day of the world. It takes no memory.

@@ -7,11 +7,10 @@ ghost use Rattle.sect_model.specs.declared.change.Change.TheVariants.{Day as Nex
 ghost use Rattle.sect_wait.specs.Marked.{MarksMore};
 ghost use Rattle.sect_machine.specs.Opening.{flip_opens, flip_opens_of};
 
-use sect_base::Memory;
+use sect_base::{Day, Memory};
 use sect_catalog::OfferingRow;
 use sect_reserve::{Reservation, active};
 use sect_space::World;
-use sect_time::Day;
 use sect_wait::{Marks, Queue, mark};
 
 /// Marks the entries that want an offering of which a reservation begins or ends on the way to the later of the two days.

@@ -16,11 +16,10 @@ ghost use Rattle.sect_machine.specs.Standing.{state_in};
 use crate::change::set_day;
 use crate::machine::Machine;
 use crate::moves::enrol_move;
-use sect_base::{Block, Duplicate, Memory, Move};
+use sect_base::{Block, Day, Duplicate, Memory, Move};
 use sect_command::Command;
 use sect_search::verify;
 use sect_space::{Undo, World};
-use sect_time::Day;
 use std::alloc::Global;
 
 impl Machine {

@@ -6,12 +6,11 @@ ghost use Rattle.sect_model.specs.Fits.{Fits};
 ghost use Rattle.sect_space.specs.Undo.{Since, Undoable};
 
 use crate::change::make;
-use sect_base::{Duplicate, Items, Memory, ReservationId, RestrictionId, StudentId};
+use sect_base::{Day, Duplicate, Items, Memory, ReservationId, RestrictionId, StudentId};
 use sect_catalog::OfferingRow;
 use sect_model::Change;
 use sect_people::{Ask, StudentRow};
 use sect_space::{Undo, World};
-use sect_time::Day;
 use std::alloc::Global;
 
 /// Adds an offering that fits.

@@ -6,10 +6,9 @@ ghost use Rattle.sect_turn.specs.Rule.{whole_share};
 ghost use Rattle.sect_once.specs.History.{IsLegal, NeverFull, state_after, history};
 ghost use Rattle.sect_office.specs.Offices.{Shows};
 
-use sect_base::{Chronicle, Id, Memory};
+use sect_base::{Chronicle, Day, Id, Memory};
 use sect_edge::Keeper;
 use sect_once::{Answer, Desk, Object};
-use sect_time::Day;
 use sect_turn::{Pass, Turn};
 use std::alloc::Global;
 use std::sync::Wait;

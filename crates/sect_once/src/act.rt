@@ -12,9 +12,8 @@ use crate::entry::Entry;
 use crate::object::Object;
 use crate::past::{Past, add, remove};
 use crate::texts::Texts;
-use sect_base::{Caller, Id, Memory};
+use sect_base::{Caller, Day, Id, Memory};
 use sect_edge::{KeepFault, Keeper};
-use sect_time::Day;
 use std::collections::HashMap;
 
 /// Prints the row of the entry into the buffer, where it stands alone.

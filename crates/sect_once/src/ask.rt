@@ -8,9 +8,8 @@ use crate::answer::Answer;
 use crate::desk::Desk;
 use crate::entry::{Entry, Note, Unkept};
 use crate::object::Object;
-use sect_base::{Chronicle, Id, Memory};
+use sect_base::{Chronicle, Day, Id, Memory};
 use sect_edge::{KeepFault, Keeper};
-use sect_time::Day;
 
 /// What a command is answered whose id the entry has: its reply where it is the same command.
 fn repeat<O: Object>(

@@ -1,7 +1,6 @@
 // Entries, and the notes of a log.
 
-use sect_base::Id;
-use sect_time::Day;
+use sect_base::{Day, Id};
 
 /// A request that acted, with its reply. The day is the one that was handed in with it.
 #[derive(Drop)]

@@ -7,8 +7,7 @@ ghost use Rattle.sect_once.specs.Desks.{NextHasRow};
 ghost use Rattle.sect_once.specs.History.{HasRow};
 
 use crate::entry::Entry;
-use sect_base::{Caller, Memory};
-use sect_time::Day;
+use sect_base::{Caller, Day, Memory};
 use std::alloc::Global;
 
 /// An object whose commands act one at a time, and whose entries have rows as texts.

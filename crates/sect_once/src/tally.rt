@@ -7,8 +7,7 @@ ghost use Rattle.sect_once.specs.Tallies.{IsTallyRow, MayAsk, caller_number, cal
 
 use crate::entry::Entry;
 use crate::object::Object;
-use sect_base::{Caller, Id, Memory, StudentId};
-use sect_time::Day;
+use sect_base::{Caller, Day, Id, Memory, StudentId};
 use std::alloc::Global;
 
 /// A sum, which stays at the greatest number where it would pass it. A command adds its number.

@@ -5,13 +5,13 @@ use Rattle.std.specs.List.{AllByRecursion, join_with_byte}
 use Rattle.std.specs.Str.{bytes_eq}
 use Rattle.std.proofs.lemmas.Fmt.{decimal_by_steps}
 use Rattle.std.proofs.lemmas.Bool.{ne_eqb, and_left}
-use Rattle.sect_time.specs.Digits.{two_digits, short_digits}
-use Rattle.sect_time.specs.Pattern.{Pattern, has_bit}
-use Rattle.sect_time.specs.WeekdayText.{days_text, letters_of, WEEKDAY_LETTERS}
-use Rattle.sect_time.specs.ClockText.{clock_text, time_text}
-use Rattle.sect_time.specs.WeekText.{Run, run_text, runs_from, weeks_text}
-use Rattle.sect_time.specs.MeetingText.{meeting_text}
-use Rattle.sect_time.specs.DayText.{date_text, IsDayText}
+use Rattle.sect_base.specs.Digits.{two_digits, short_digits}
+use Rattle.sect_base.specs.Pattern.{Pattern, has_bit}
+use Rattle.sect_base.specs.WeekdayText.{days_text, letters_of, WEEKDAY_LETTERS}
+use Rattle.sect_base.specs.ClockText.{clock_text, time_text}
+use Rattle.sect_base.specs.WeekText.{Run, run_text, runs_from, weeks_text}
+use Rattle.sect_base.specs.MeetingText.{meeting_text}
+use Rattle.sect_base.specs.DayText.{date_text, IsDayText}
 use Rattle.sect_words.specs.Parts.{behind, joined}
 use Rattle.sect_words.specs.Words.{dash}
 use Rattle.sect_words.proofs.Pieces.{Lacks}

@@ -34,7 +34,7 @@ use Rattle.sect_read.proofs.ValueLaws.{exact_day, exact_caller}
 use Rattle.sect_read.proofs.CommandLaws.{regroup, arguments_found, command_back, verb_found, verb_again, command_found, command_again}
 use Rattle.sect_read.proofs.ReplyLaws.{takes_reply, IsEnd}
 use Rattle.sect_words.proofs.Dates.{has_day}
-use Rattle.sect_time.specs.DayText.{date_text}
+use Rattle.sect_base.specs.DayText.{date_text}
 use Rattle.std.specs.Str.{bytes_eq}
 
 -- ---- what stands before a verb

@@ -15,8 +15,8 @@ use Rattle.sect_people.specs.declared.row.StudentRow.{StudentRow}
 use Rattle.sect_people.specs.declared.row.CourseAsk.{CourseAsk}
 use Rattle.sect_people.specs.declared.row.Ask.{Ask}
 use Rattle.sect_people.specs.declared.row.Ask.TheVariants as asks
-use Rattle.sect_time.specs.Pattern.{Pattern}
-use Rattle.sect_time.specs.MeetingText.{meeting_text}
+use Rattle.sect_base.specs.Pattern.{Pattern}
+use Rattle.sect_base.specs.MeetingText.{meeting_text}
 use Rattle.sect_words.specs.Words.{list_text, course_text}
 use Rattle.sect_text.specs.Commands.{section_words, subpart_words, config_words, course_words, group_words, curriculum_words, mark_words, ask_words, config_id_words, section_id_words, give_words}
 use Rattle.sect_read.specs.Fits.{FitsSectionRow, FitsSubpartRow, FitsConfigRow, FitsCourseRow, FitsOfferingRow, FitsStudentRow, FitsAsk, FitsList, FitsGroup, FitsCurriculum, FitsConfig, FitsSection, FitsCourse}

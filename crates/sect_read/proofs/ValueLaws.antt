@@ -10,8 +10,8 @@ use Rattle.sect_base.specs.declared.limit.Limit.{Limit}
 use Rattle.sect_base.specs.declared.limit.Limit.TheVariants.{Unlimited, Places}
 use Rattle.sect_base.specs.declared.limit.Caller.{Caller}
 use Rattle.sect_base.specs.declared.limit.Caller.TheVariants as callers
-use Rattle.sect_time.specs.Pattern.{IsPattern}
-use Rattle.sect_time.specs.MeetingText.{meeting_text}
+use Rattle.sect_base.specs.Pattern.{IsPattern}
+use Rattle.sect_base.specs.MeetingText.{meeting_text}
 use Rattle.sect_words.specs.Days.{day_text}
 use Rattle.sect_words.specs.Parts.{joined, pieces}
 use Rattle.sect_words.specs.Words.{dash, list_text, optional_text, limit_text, caller_text, sections_text, section_text, course_text, reservation_text, student_text, class_text, major_text}

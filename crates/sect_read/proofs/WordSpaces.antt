@@ -12,8 +12,8 @@ use Rattle.sect_base.specs.declared.limit.Caller.TheVariants as callers
 use Rattle.sect_base.specs.declared.rule.Rule.{Rule}
 use Rattle.sect_base.specs.declared.rule.Rule.TheVariants as rules
 use Rattle.sect_base.specs.Tree.{Tree, Trees, broken, split, none, more, rule_number}
-use Rattle.sect_time.specs.Pattern.{Pattern}
-use Rattle.sect_time.specs.MeetingText.{meeting_text}
+use Rattle.sect_base.specs.Pattern.{Pattern}
+use Rattle.sect_base.specs.MeetingText.{meeting_text}
 use Rattle.sect_reserve.specs.declared.row.Audience.{Audience}
 use Rattle.sect_reserve.specs.declared.row.Audience.TheVariants as audiences
 use Rattle.sect_command.specs.TreeText.{tree_text, others_text, HasText, HaveTexts}

@@ -24,8 +24,8 @@ use Rattle.sect_base.specs.declared.limit.Cap.{Cap}
 use Rattle.sect_base.specs.declared.limit.Cap.TheVariants as caps
 use Rattle.sect_base.specs.declared.limit.Id.{Id}
 use Rattle.sect_base.specs.Tree.{Tree}
-use Rattle.sect_time.specs.Day.{LAST_DAY}
-use Rattle.sect_time.specs.Pattern.{IsPattern}
+use Rattle.sect_base.specs.Day.{LAST_DAY}
+use Rattle.sect_base.specs.Pattern.{IsPattern}
 use Rattle.sect_catalog.specs.declared.row.OfferingRow.{OfferingRow}
 use Rattle.sect_catalog.specs.declared.row.CourseRow.{CourseRow}
 use Rattle.sect_catalog.specs.declared.row.ConfigRow.{ConfigRow}

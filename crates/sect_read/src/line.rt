@@ -13,9 +13,8 @@ use crate::commands::{read_arguments, read_command_words};
 use crate::fault::WireFault;
 use crate::row::read_id;
 use crate::verb::verb_of;
-use sect_base::Id;
+use sect_base::{Day, Id};
 use sect_command::Command;
-use sect_time::Day;
 use sect_words::{Fault, Parts, Readable};
 use std::alloc::Global;
 

@@ -14,11 +14,10 @@ ghost use Rattle.sect_read.specs.ReadingCommands.{
 };
 
 use crate::read_phrase::read_each;
-use sect_base::Cap;
+use sect_base::{Cap, Day};
 use sect_catalog::OfferingRow;
 use sect_command::{ReserveRow, RestrictRow};
 use sect_people::StudentRow;
-use sect_time::Day;
 use sect_words::{Fault, Parts};
 use std::alloc::Global;
 

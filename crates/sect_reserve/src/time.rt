@@ -5,7 +5,7 @@ ghost use Rattle.sect_reserve.specs.Audience.{active as is_active};
 ghost use Rattle.sect_reserve.specs.Lasting.{lasts as is_lasting, begun as is_begun, ExpiryAlone};
 
 use crate::row::Reservation;
-use sect_time::Day;
+use sect_base::Day;
 
 /// From the first day, if there is one, up to and including the expiry day, if there is one. It
 /// takes no memory.

@@ -22,9 +22,9 @@ use Rattle.sect_tables.specs.Requests.{RequestsSoFar, requests_begun, requests_w
 use Rattle.sect_tables.specs.Rows.{given_of, requests_first, requests_next, requests_row, row_read, same_student, table_row}
 use Rattle.sect_tables.specs.declared.hand.AtHand.{AtHand}
 use Rattle.sect_tables.specs.declared.hand.Group.TheVariants as groups
-use Rattle.sect_time.specs.Pattern.{IsPattern, Pattern}
+use Rattle.sect_base.specs.Pattern.{IsPattern, Pattern}
 use Rattle.sect_words.proofs.Exact.{word_same}
-use Rattle.sect_time.specs.MeetingText.{meeting_text}
+use Rattle.sect_base.specs.MeetingText.{meeting_text}
 use Rattle.sect_words.specs.Reading.{only_where}
 use Rattle.sect_words.specs.ReadingWords.{course_of, flag_of, list_of, meeting_of, student_of}
 use Rattle.sect_words.specs.Words.{course_text, flag_text, list_text}

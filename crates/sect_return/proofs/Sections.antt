@@ -21,8 +21,8 @@ use Rattle.sect_read.proofs.ValueLaws.{exact_config, exact_course, exact_limit, 
 use Rattle.sect_read.proofs.WordLaws.{exact_between}
 use Rattle.sect_read.specs.Fits.{Fits32, FitsConfig, FitsCourseRow, FitsLimit, FitsList, FitsOffering, FitsSectionRow, FitsSubpart}
 use Rattle.sect_csv.specs.Tables.{section_fields as section_texts}
-use Rattle.sect_time.specs.MeetingText.{meeting_text}
-use Rattle.sect_time.specs.Pattern.{IsPattern, Pattern}
+use Rattle.sect_base.specs.MeetingText.{meeting_text}
+use Rattle.sect_base.specs.Pattern.{IsPattern, Pattern}
 use Rattle.sect_words.proofs.Pieces.{Lacks, pieces_joined}
 use Rattle.sect_words.specs.Parts.{pieces}
 use Rattle.sect_words.specs.Reading.{all_of, whole}

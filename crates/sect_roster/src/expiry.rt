@@ -5,9 +5,8 @@ ghost use Rattle.std.specs.Option.{option_map};
 ghost use Rattle.sect_model.specs.Change.{expire};
 
 use crate::listing::{Listing, first_of};
-use sect_base::ReservationId;
+use sect_base::{Day, ReservationId};
 use sect_reserve::Reservation;
-use sect_time::Day;
 
 impl Listing<Reservation> {
     /// Sets another expiry day of a reservation, and gives the old one back. It takes no memory.

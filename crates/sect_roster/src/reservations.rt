@@ -30,9 +30,8 @@ ghost use Rattle.sect_roster.specs.Slots.{rows_of, number_of, put_among, capacit
 ghost use Rattle.sect_model.specs.Change.{expire};
 
 use crate::listing::Listing;
-use sect_base::{Memory, OfferingId, ReservationId};
+use sect_base::{Day, Memory, OfferingId, ReservationId};
 use sect_reserve::Reservation;
-use sect_time::Day;
 use std::alloc::Global;
 use std::marker::Model;
 

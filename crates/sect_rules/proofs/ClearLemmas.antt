@@ -8,8 +8,8 @@ use Rattle.sect_base.specs.declared.ids.SectionId.{SectionId}
 use Rattle.sect_base.specs.declared.ids.StudentId.{StudentId}
 use Rattle.sect_base.specs.declared.ids.CourseId.{CourseId}
 use Rattle.sect_catalog.specs.Catalogue.{find_section}
-use Rattle.sect_time.specs.Pattern.{Pattern, some_below, has_bit, takes_slot, meetings_overlap, lists_overlap}
-use Rattle.sect_time.specs.Calendar.{is_set, takes_pair, IsClearFor}
+use Rattle.sect_base.specs.Pattern.{Pattern, some_below, has_bit, takes_slot, meetings_overlap, lists_overlap}
+use Rattle.sect_base.specs.Calendar.{is_set, takes_pair, IsClearFor}
 use Rattle.sect_model.specs.declared.held.Enrolment.{Enrolment}
 use Rattle.sect_model.specs.World.{World, held_by, meetings_of}
 use Rattle.sect_model.specs.Allowed.{permits_overlap}

@@ -8,7 +8,7 @@ use Rattle.std.proofs.lemmas.Bool.Decides.{nat_tests}
 use Rattle.std.proofs.lemmas.List.{append-nil}
 use Rattle.sect_people.specs.declared.row.Ask.TheVariants.{Course as asks_course, Free}
 use Rattle.sect_reserve.specs.Audience.{empty_or_any}
-use Rattle.sect_time.specs.Pattern.{Pattern, lists_overlap}
+use Rattle.sect_base.specs.Pattern.{Pattern, lists_overlap}
 use Rattle.std.specs.Option.{option_map, option_map_or}
 use Rattle.sect_model.specs.Data.{Ask, Rule, Student}
 use Rattle.sect_model.specs.Allowed.{free_before}

@@ -1,7 +1,7 @@
 -- The first free time that a section meets.
 use Rattle.std.specs.Prelude.{ℕ, ◌+◌, Bool, false, ◌&&◌, nat_lt, cond, List, [], ◌∷◌, Option, Some, None}
 use Rattle.sect_people.specs.declared.row.Ask.TheVariants.{Course as asks_course, Free}
-use Rattle.sect_time.specs.Pattern.{Pattern, lists_overlap}
+use Rattle.sect_base.specs.Pattern.{Pattern, lists_overlap}
 use Rattle.sect_model.specs.Data.{Ask}
 
 -- the section of these meetings meets at the time that the request keeps free

@@ -1,6 +1,6 @@
 -- The least of two, where there are any.
 use Rattle.std.specs.Prelude.{ℕ, Bool, false, nat_le, ◌||◌, cond, List, [], map, filter, Option, Some, None}
-use Rattle.sect_time.specs.Pattern.{lists_overlap}
+use Rattle.sect_base.specs.Pattern.{lists_overlap}
 use Rattle.sect_model.specs.Data.{SectionId, Choice, Reservation, Pattern}
 use Rattle.sect_model.specs.World.{World, meetings_of}
 use Rattle.sect_model.specs.Allowed.{permits_overlap}

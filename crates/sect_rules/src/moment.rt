@@ -26,13 +26,14 @@ use crate::held::{
 use crate::overlap::{is_clear, lesser_of};
 use crate::path::PathOf;
 use crate::rows::subparts_in;
-use sect_base::{Choice, ConfigId, CourseId, Level, Move, ReservationId, SectionId, StudentId};
+use sect_base::{
+    Choice, ConfigId, CourseId, Day, Level, Meeting, Move, ReservationId, SectionId, StudentId,
+};
 use sect_catalog::{Catalogue, CourseRow, OfferingRow, SubpartRow};
 use sect_model::Enrolment;
 use sect_people::People;
 use sect_reserve::Reservation;
 use sect_space::World;
-use sect_time::{Day, Meeting};
 use std::marker::Model;
 
 /// The world after the courses given up have left and the choices made so far were added, as the

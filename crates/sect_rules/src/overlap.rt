@@ -4,8 +4,8 @@ ghost use Rattle.std.specs.Prelude.{◌≡◌, ◌++◌, map, filter, cond, flat
 ghost use Rattle.std.specs.Prelude.{[], ◌||◌, false, IsTrue};
 ghost use Rattle.std.specs.List.{list_any, All};
 ghost use Rattle.std.specs.Option.{option_map_or};
-ghost use Rattle.sect_time.specs.Pattern.{meetings_overlap, lists_overlap};
-ghost use Rattle.sect_time.specs.Calendar.{IsClearFor};
+ghost use Rattle.sect_base.specs.Pattern.{meetings_overlap, lists_overlap};
+ghost use Rattle.sect_base.specs.Calendar.{IsClearFor};
 ghost use Rattle.sect_model.specs.World.{meetings_of};
 ghost use Rattle.sect_model.specs.Allowed.{permits_overlap as choice_permits};
 ghost use Rattle.sect_model.specs.Rules.{least, held_overlaps, own_overlaps};
@@ -14,10 +14,9 @@ ghost use Rattle.sect_rules.specs.Overlapped.{lesser_of as lesser_option, overla
 
 use crate::held::is_given;
 use crate::moment::Moment;
-use sect_base::{Choice, CourseId, SectionId};
+use sect_base::{Calendar, Choice, CourseId, Meeting, SectionId, overlaps};
 use sect_model::Enrolment;
 use sect_reserve::Reservation;
-use sect_time::{Calendar, Meeting, overlaps};
 
 /// Whether a meeting of the one overlaps a meeting of the other.
 pub fn any_overlap(meetings: &[Meeting], others: &[Meeting]) -> bool

@@ -10,7 +10,7 @@ ghost use Rattle.sect_model.specs.Allowed.{free_times, meets_at};
 ghost use Rattle.sect_model.specs.Path.{next_subpart};
 ghost use Rattle.sect_model.specs.Rules.{first_broken, least, section_rules};
 ghost use Rattle.sect_base.specs.declared.limit.Level.TheVariants.{Section};
-ghost use Rattle.sect_time.specs.Pattern.{lists_overlap};
+ghost use Rattle.sect_base.specs.Pattern.{lists_overlap};
 ghost use Rattle.sect_rules.specs.Ground.{IsGround};
 ghost use Rattle.sect_rules.specs.Reserved.{are_own};
 ghost use Rattle.sect_rules.specs.Standing.{own_section};
@@ -20,11 +20,10 @@ ghost use Rattle.sect_rules.specs.FreeTimes.{meets_free, first_free as first_fre
 use crate::ground::Ground;
 use crate::moment::Moment;
 use crate::reserved::limited;
-use sect_base::{ConfigId, CourseId, Level, Rule, SectionId, Sections, Want};
+use sect_base::{ConfigId, CourseId, Level, Meeting, Rule, SectionId, Sections, Want, overlaps};
 use sect_catalog::{OfferingRow, SectionRow};
 use sect_people::Ask;
 use sect_reserve::{Reservation, admits_section};
-use sect_time::{Meeting, overlaps};
 
 /// Whether the meetings overlap the time that the request keeps free.
 fn meets_ask(meetings: &[Meeting], ask: &Ask) -> bool

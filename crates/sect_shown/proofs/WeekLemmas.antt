@@ -4,7 +4,7 @@ use Rattle.std.proofs.Common.{◌≤◌, ◌∙◌, ap, sym, subst, arith, appen
 use Rattle.std.proofs.lemmas.List.{append-nil}
 use Rattle.std.proofs.lemmas.Nat.{one_shl, pow_pos}
 use Rattle.std.proofs.Math.Pow.{pow-lt}
-use Rattle.sect_time.specs.Pattern.{Pattern, IsPattern}
+use Rattle.sect_base.specs.Pattern.{Pattern, IsPattern}
 use Rattle.sect_shown.specs.declared.hour.Hour.{Hour}
 use Rattle.sect_shown.specs.Week.{slot_text, slots_text}
 

@@ -3,8 +3,8 @@ use Rattle.std.specs.Prelude.{ℕ, suc, zero, ◌+◌, ◌/◌, ◌%◌, ◌^◌
 use Rattle.sect_base.specs.declared.choice.Choice.{Choice}
 use Rattle.sect_base.specs.declared.ids.StudentId.{StudentId}
 use Rattle.sect_catalog.specs.declared.row.OfferingRow.{OfferingRow}
-use Rattle.sect_time.specs.MeetingText.{meeting_text}
-use Rattle.sect_time.specs.Pattern.{Pattern, has_bit}
+use Rattle.sect_base.specs.MeetingText.{meeting_text}
+use Rattle.sect_base.specs.Pattern.{Pattern, has_bit}
 use Rattle.sect_report.specs.Line.{line_text}
 use Rattle.sect_shown.specs.declared.hour.Hour.{Hour}
 use Rattle.sect_shown.specs.Hours.{hours_of}

@@ -1,7 +1,6 @@
 // A time at which a student is taught.
 
-use sect_base::{CourseId, SectionId};
-use sect_time::Meeting;
+use sect_base::{CourseId, Meeting, SectionId};
 
 /// A meeting of a section that a student attends, with the course by which it is held.
 #[derive(Clone, Copy, PartialEq, Eq)]

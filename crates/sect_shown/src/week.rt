@@ -1,15 +1,14 @@
 // The week of a student, in order of time.
 
 ghost use Rattle.std.specs.Prelude.{◌≡◌, ◌<◌, ◌≤◌, ◌++◌, OnOk, length, take};
-ghost use Rattle.sect_time.specs.Pattern.{has_bit};
+ghost use Rattle.sect_base.specs.Pattern.{has_bit};
 ghost use Rattle.sect_shown.specs.Week.{begins_at, begun_text, hour_text, on_weekday, slot_text, slots_text, timetable_text};
 
 use crate::hour::Hour;
 use crate::hours::hours_of;
-use sect_base::{Choice, Memory, StudentId};
+use sect_base::{Choice, Meeting, Memory, StudentId};
 use sect_catalog::OfferingRow;
 use sect_report::{Word, print_line};
-use sect_time::Meeting;
 use sect_words::Spelled;
 use std::alloc::Global;
 

@@ -1,12 +1,11 @@
 // What is kept of a change so that it can be taken back, and what a change concerns.
 
 use sect_base::{
-    Cap, Items, Limit, OfferingId, ReservationId, RestrictionId, SectionId, StudentId,
+    Cap, Day, Items, Limit, OfferingId, ReservationId, RestrictionId, SectionId, StudentId,
 };
 use sect_model::Enrolment;
 use sect_people::{Ask, StudentRow};
 use sect_reserve::{Reservation, Restriction};
-use sect_time::Day;
 
 /// A change that was made, with what stood there before it.
 #[derive(Drop)]

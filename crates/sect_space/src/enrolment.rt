@@ -11,9 +11,8 @@ ghost use Rattle.sect_space.specs.Room.{free_for};
 
 use crate::back::Back;
 use crate::parts::Parts;
-use sect_base::{CourseId, Memory, OfferingId, StudentId};
+use sect_base::{CourseId, Day, Memory, OfferingId, StudentId};
 use sect_model::{Change, Enrolment};
-use sect_time::Day;
 
 impl Parts {
     /// Enrols a student. Where memory runs out, nothing is changed; it takes none where there is room.

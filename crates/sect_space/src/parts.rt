@@ -1,9 +1,9 @@
 // The parts of a world, each a list with its index. Which worlds there can be is told where the parts are one.
 
+use sect_base::Day;
 use sect_catalog::Catalogue;
 use sect_people::People;
 use sect_roster::{Reservations, Restrictions, Roster};
-use sect_time::Day;
 
 /// The parts of a world.
 pub struct Parts {

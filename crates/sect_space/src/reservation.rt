@@ -7,10 +7,9 @@ ghost use Rattle.sect_space.specs.Parts.{roomed_of};
 
 use crate::back::Back;
 use crate::parts::Parts;
-use sect_base::{Memory, OfferingId, ReservationId};
+use sect_base::{Day, Memory, OfferingId, ReservationId};
 use sect_model::Change;
 use sect_reserve::Reservation;
-use sect_time::Day;
 
 impl Parts {
     /// Adds a reservation of a new id. Where memory runs out, nothing is changed.

@@ -5,8 +5,7 @@ ghost use Rattle.std.specs.Option.{option_map};
 ghost use Rattle.sect_space.specs.Back.{mark_of};
 
 use crate::back::{Back, Mark};
-use sect_base::{Memory, OfferingId, StudentId};
-use sect_time::Day;
+use sect_base::{Day, Memory, OfferingId, StudentId};
 use std::alloc::Global;
 use std::marker::Model;
 

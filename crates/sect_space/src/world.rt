@@ -12,14 +12,13 @@ ghost use Rattle.sect_model.specs.Kept.{KeptWorld};
 ghost use Rattle.sect_weeks.specs.Busy.{IsWeekOf};
 
 use crate::parts::Parts;
-use sect_base::{Memory, OfferingId, ReservationId, RestrictionId, StudentId};
+use sect_base::{Calendar, Day, Memory, OfferingId, ReservationId, RestrictionId, StudentId};
 use sect_catalog::Catalogue;
 use sect_model::Enrolment;
 use sect_numbers::Numbers;
 use sect_people::{Ask, People};
 use sect_reserve::{Reservation, Restriction};
 use sect_roster::{Reservations, Restrictions, Roster};
-use sect_time::{Calendar, Day};
 use sect_weeks::Weeks;
 use std::alloc::Global;
 use std::marker::Model;

@@ -1,8 +1,8 @@
 // The day by the machine's clock.
 ghost use Rattle.std.specs.Prelude.{None};
 
+use sect_base::Day;
 use sect_edge::Clock;
-use sect_time::Day;
 use std::time::{SystemTime, UNIX_EPOCH};
 
 const SECONDS_A_DAY: u64 = 86_400;

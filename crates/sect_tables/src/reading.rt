@@ -31,9 +31,8 @@ use crate::offering::OpenOffering;
 use crate::requests::OpenRequests;
 use crate::{LineFault, read_ask, read_reservation, read_section, read_student};
 use csv::ByteRecord;
-use sect_base::Memory;
+use sect_base::{Day, Memory};
 use sect_command::{Command, Table};
-use sect_time::Day;
 use std::alloc::Global;
 use std::marker::Model;
 

@@ -12,9 +12,8 @@ use crate::fields::field;
 use crate::line::{Before, LineFault, SectionLine};
 use crate::values::{fault_at, value_at};
 use csv::ByteRecord;
-use sect_base::{ConfigId, Items, Limit, Memory};
+use sect_base::{ConfigId, Day, Items, Limit, Meeting, Memory};
 use sect_catalog::{CourseRow, SectionRow};
-use sect_time::{Day, Meeting};
 use sect_words::{read_all, read_meetings, same_bytes};
 use std::alloc::Global;
 

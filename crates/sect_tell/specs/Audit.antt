@@ -11,7 +11,7 @@ use Rattle.sect_model.specs.Step.{on_day}
 use Rattle.sect_model.specs.World.{State, empty_state}
 use Rattle.sect_once.specs.declared.entry.Entry.{Entry}
 use Rattle.sect_once.specs.History.{history}
-use Rattle.sect_time.specs.DayText.{IsDayText}
+use Rattle.sect_base.specs.DayText.{IsDayText}
 use Rattle.sect_script.specs.declared.status.Status.{Status}
 use Rattle.sect_tell.specs.Told.{TellsHistory}
 use Rattle.sect_history.specs.Step.{stepped, state_of}

@@ -21,7 +21,7 @@ use Rattle.sect_command.specs.declared.command.ReserveRow.{ReserveRow}
 use Rattle.sect_command.specs.declared.command.RestrictRow.{RestrictRow}
 use Rattle.sect_command.specs.declared.command.Command.{Command}
 use Rattle.sect_command.specs.declared.command.Command.TheVariants as commands
-use Rattle.sect_time.specs.MeetingText.{meeting_text}
+use Rattle.sect_base.specs.MeetingText.{meeting_text}
 use Rattle.sect_words.specs.Parts.{sentence}
 use Rattle.sect_words.specs.Days.{day_text}
 use Rattle.sect_words.specs.Words.{list_text, optional_text, limit_text, course_text, section_text, student_text, curriculum_text, audience_text}

@@ -30,13 +30,12 @@ use crate::phrase::{
     Phrase, print_each, print_key, print_mark, print_named, print_pair, print_three, print_word,
 };
 use sect_base::{
-    Budget, Cap, CourseId, Items, Limit, Memory, OfferingId, SectionId, StudentId, Want,
+    Budget, Cap, CourseId, Day, Items, Limit, Memory, OfferingId, SectionId, StudentId, Want,
 };
 use sect_catalog::OfferingRow;
 use sect_command::{Command, ReserveRow, RestrictRow};
 use sect_people::StudentRow;
 use sect_reserve::Audience;
-use sect_time::Day;
 use sect_words::{Spelled, print_bytes};
 
 /// The row of an offering, with its courses and its configurations.

@@ -10,10 +10,9 @@ ghost use Rattle.sect_text.specs.Rows.{is_marked as has_mark, row_front, row_res
 use crate::command_text::print_verb;
 use crate::phrase::{print_key, print_pair, print_word};
 use crate::reply_text::print_answer_words;
-use sect_base::{Id, Memory};
+use sect_base::{Day, Id, Memory};
 use sect_command::{Command, Reply};
 use sect_once::Entry;
-use sect_time::Day;
 use sect_words::{Spelled, print_bytes};
 
 /// Whether the command has a first day, or a class other than 5. It takes no memory.

@@ -3,8 +3,8 @@ use Rattle.std.proofs.Common.{◌≡◌, ◌==◌, ◌+◌, ◌<◌, ◌≤◌, 
 use Rattle.std.specs.Str.{bytes_eq}
 use Rattle.std.proofs.lemmas.Bool.Decides.{nat_tests}
 use Rattle.std.proofs.lemmas.Fmt.{decimal_by_steps}
-use Rattle.sect_time.specs.Day.{LAST_DAY}
-use Rattle.sect_time.specs.DayText.{date_text}
+use Rattle.sect_base.specs.Day.{LAST_DAY}
+use Rattle.sect_base.specs.DayText.{date_text}
 use Rattle.sect_command.specs.declared.view.Table.{Table}
 use Rattle.sect_command.specs.declared.view.Table.TheVariants as tables
 use Rattle.sect_command.specs.declared.view.Query.TheVariants as queries

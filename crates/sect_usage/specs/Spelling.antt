@@ -1,6 +1,6 @@
 -- The plain words by which something is asked for: no option in the other spelling, in another order or beside the need.
 use Rattle.std.specs.Prelude.{◌≡◌, ℕ, ◌≤◌, ◌<◌, ◌^◌, List, [], ◌∷◌, ⊤, Option, None, Some, codes, decimal}
-use Rattle.sect_time.specs.Day.{LAST_DAY}
+use Rattle.sect_base.specs.Day.{LAST_DAY}
 use Rattle.sect_command.specs.declared.view.Table.{Table}
 use Rattle.sect_command.specs.declared.view.Table.TheVariants as tables
 use Rattle.sect_command.specs.declared.view.Query.{Query}

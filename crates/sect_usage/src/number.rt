@@ -4,7 +4,7 @@ ghost use Rattle.std.specs.Prelude.{◌≡◌, ◌≤◌, IfSome, option_map};
 ghost use Rattle.sect_usage.specs.Grammar.{usual_or};
 ghost use Rattle.sect_words.specs.ReadingWords.{between_of, day_of, number_of};
 
-use sect_time::{Day, read_day};
+use sect_base::{Day, read_day};
 use sect_words::number_up_to;
 
 /// The number of 32 bits that is written in digits. None exactly where the word is none.

@@ -23,9 +23,8 @@ use crate::number::{between, day, id, usual};
 use crate::options::{alone, only};
 use crate::program::{Commands, read_program};
 use crate::verb::{Topic, Verb, read_verb, takes};
-use sect_base::{Budget, OfferingId, SectionId, StudentId};
+use sect_base::{Budget, Day, OfferingId, SectionId, StudentId};
 use sect_command::{Query, Table};
-use sect_time::Day;
 use sect_words::{number_up_to, same_bytes};
 
 /// What the words ask for.

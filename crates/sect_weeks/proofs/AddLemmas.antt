@@ -2,7 +2,7 @@
 use Rattle.std.specs.Prelude.{◌≡◌, ℕ, zero, suc, ◌+◌, ◌<◌, Bool, true, false, ◌||◌, List, [], ◌∷◌, length, slice_index_or, refl}
 use Rattle.std.specs.List.{list_any}
 use Rattle.std.proofs.Common.{take, sym, ◌∙◌, ap, arith}
-use Rattle.sect_time.specs.Calendar.{is_set}
+use Rattle.sect_base.specs.Calendar.{is_set}
 use Rattle.sect_weeks.specs.Taken.{Adds}
 
 or_false : (b : Bool) → b || false ≡ b

@@ -11,7 +11,7 @@ use Rattle.sect_base.specs.declared.ids.SectionId.{SectionId}
 use Rattle.sect_base.specs.declared.ids.StudentId.{StudentId}
 use Rattle.sect_base.specs.declared.limit.Cap.{Cap}
 use Rattle.sect_base.specs.declared.limit.Limit.{Limit}
-use Rattle.sect_time.specs.Calendar.{takes_pair}
+use Rattle.sect_base.specs.Calendar.{takes_pair}
 use Rattle.sect_catalog.specs.declared.row.OfferingRow.{OfferingRow}
 use Rattle.sect_catalog.specs.declared.row.CourseRow.{CourseRow}
 use Rattle.sect_catalog.specs.declared.row.SectionRow.{SectionRow}

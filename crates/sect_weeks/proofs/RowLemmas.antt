@@ -6,7 +6,7 @@ use Rattle.std.proofs.Common.{sym, ◌∙◌, ap, arith}
 use Rattle.std.proofs.lemmas.Bool.{eqb-true, eq-eqb}
 use Rattle.std.proofs.lemmas.Bool.Decides.{nat_tests}
 use Rattle.std.proofs.lemmas.Option.{none-some}
-use Rattle.sect_time.specs.Calendar.{is_set}
+use Rattle.sect_base.specs.Calendar.{is_set}
 use Rattle.sect_weeks.specs.declared.weeks.Row.{Row}
 use Rattle.sect_weeks.specs.declared.weeks.Weeks.{Weeks}
 use Rattle.sect_weeks.specs.Rows.{own_row, own_place, row_of, Puts, Keeps}

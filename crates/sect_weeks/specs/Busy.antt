@@ -3,7 +3,7 @@ use Rattle.std.specs.Prelude.{◌≡◌, ◌*◌, ◌<◌, ◌≤◌, ℕ, Bool,
 use Rattle.std.specs.List.{list_any}
 use Rattle.std.specs.Option.{is_some}
 use Rattle.sect_base.specs.declared.ids.StudentId.{StudentId}
-use Rattle.sect_time.specs.Calendar.{is_set, takes_pair}
+use Rattle.sect_base.specs.Calendar.{is_set, takes_pair}
 use Rattle.sect_people.specs.Student.{find_student}
 use Rattle.sect_model.specs.World.{World, held_by, meetings_of}
 use Rattle.sect_model.specs.Allowed.{credits_held}

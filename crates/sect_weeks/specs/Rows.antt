@@ -3,7 +3,7 @@ use Rattle.std.specs.Prelude.{◌≡◌, ℕ, Bool, true, false, ◌==◌, cond,
 use Rattle.std.specs.Option.{is_some, option_map, option_map_or, option_and_then}
 use Rattle.std.specs.Bool.{then_some}
 use Rattle.sect_base.specs.Table.{value_at}
-use Rattle.sect_time.specs.Calendar.{is_set}
+use Rattle.sect_base.specs.Calendar.{is_set}
 use Rattle.sect_weeks.specs.declared.weeks.Row.{Row}
 use Rattle.sect_weeks.specs.declared.weeks.Weeks.{Weeks}
 

@@ -3,8 +3,8 @@ use Rattle.std.specs.Prelude.{◌≡◌, ◌<◌, ℕ, Bool, ◌||◌, List, []}
 use Rattle.std.specs.List.{list_any}
 use Rattle.std.specs.Option.{option_map_or}
 use Rattle.sect_base.specs.declared.ids.SectionId.{SectionId}
-use Rattle.sect_time.specs.Pattern.{Pattern}
-use Rattle.sect_time.specs.Calendar.{is_set, takes_pair}
+use Rattle.sect_base.specs.Pattern.{Pattern}
+use Rattle.sect_base.specs.Calendar.{is_set, takes_pair}
 use Rattle.sect_catalog.specs.declared.row.OfferingRow.{OfferingRow}
 use Rattle.sect_catalog.specs.Catalogue.{find_section}
 use Rattle.sect_model.specs.declared.held.Enrolment.{Enrolment}

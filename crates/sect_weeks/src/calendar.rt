@@ -1,13 +1,12 @@
 // The slots of sections, taken in a calendar.
 
 ghost use Rattle.std.specs.Prelude.{◌≡◌, ◌<◌, ℕ};
-ghost use Rattle.sect_time.specs.Calendar.{is_set};
+ghost use Rattle.sect_base.specs.Calendar.{is_set};
 ghost use Rattle.sect_weeks.specs.Taken.{Adds, meetings_in, meetings_take, sections_take, enrolments_take};
 
-use sect_base::SectionId;
+use sect_base::{Calendar, Meeting, SectionId};
 use sect_catalog::Catalogue;
 use sect_model::Enrolment;
-use sect_time::{Calendar, Meeting};
 
 /// The calendar in which the slots of these enrolments are taken, and no others.
 pub fn calendar_of(catalogue: &Catalogue, held: &[Enrolment]) -> Calendar

@@ -1,17 +1,16 @@
 // Calendars and credits after an enrolment is made or taken away.
 
 ghost use Rattle.std.specs.Prelude.{◌≡◌, ◌*◌, ◌≤◌, ℕ, true, length};
-ghost use Rattle.sect_time.specs.Calendar.{is_set};
+ghost use Rattle.sect_base.specs.Calendar.{is_set};
 ghost use Rattle.sect_weeks.specs.Rows.{has_row, is_taken, credits_at};
 ghost use Rattle.sect_weeks.specs.Enrolled.{TakesMore, TakesAnew};
 
 use crate::calendar::{add_sections, calendar_of};
 use crate::credits::{credits, credits_in};
 use crate::weeks::Weeks;
-use sect_base::StudentId;
+use sect_base::{Calendar, StudentId};
 use sect_catalog::Catalogue;
 use sect_model::Enrolment;
-use sect_time::Calendar;
 
 impl Weeks {
     /// Takes the slots of an enrolment that was made, and counts its credits. Its student has a calendar. It takes no memory.

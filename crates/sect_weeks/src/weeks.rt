@@ -6,8 +6,7 @@ ghost use Rattle.sect_model.specs.Allowed.{credits_held};
 ghost use Rattle.sect_weeks.specs.Busy.{ToldWeeks};
 ghost use Rattle.sect_weeks.specs.Rows.{calendar_of, credits_at, row_of, place_of, has_row, Puts, Keeps};
 
-use sect_base::{Memory, StudentId, Table};
-use sect_time::Calendar;
+use sect_base::{Calendar, Memory, StudentId, Table};
 use std::alloc::Global;
 
 /// The calendar of a student, and the credits of what the student holds.

@@ -6,7 +6,7 @@ use Rattle.std.proofs.lemmas.Bool.{cases_lt, cases_eq}
 use Rattle.jiff_core.specs.Calendar.{days_in_month, days_from_civil}
 use Rattle.jiff_core.proofs.CalendarLemmas.{day_count-epoch, days_in_month_bounds, days_from_civil-day_count}
 use Rattle.jiff_core.proofs.DateLemmas.{days_from_civil-day, days_from_civil-next_month, days_from_civil-next_year, days_from_civil-max}
-use Rattle.sect_time.specs.DayText.{date_text, IsDayText}
+use Rattle.sect_base.specs.DayText.{date_text, IsDayText}
 use Rattle.sect_words.specs.Days.{day_text}
 use Rattle.sect_words.proofs.DayLaws.{says_day}
 

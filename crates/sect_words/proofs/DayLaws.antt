@@ -8,8 +8,8 @@ use Rattle.std.proofs.lemmas.Bool.{and_parts, and_from, cases_lt}
 use Rattle.std.proofs.lemmas.Option.{cond_some}
 use Rattle.jiff_core.specs.Calendar.{IsDate, days_in_month, days_from_civil}
 use Rattle.jiff_core.proofs.CalendarLemmas.{days_in_month_bounds}
-use Rattle.sect_time.specs.DayText.{date_text, IsDayText}
-use Rattle.sect_time.proofs.DayTexts.{one_spelling}
+use Rattle.sect_base.specs.DayText.{date_text, IsDayText}
+use Rattle.sect_base.proofs.DayTexts.{one_spelling}
 use Rattle.sect_words.specs.Days.{either_of, found_below, has_number, text_if, or_nothing, day_text}
 
 le_test : (a b : ℕ) → nat_le a b ≡ true → a ≤ b

@@ -5,10 +5,10 @@ use Rattle.std.specs.Int.{bit_at}
 use Rattle.std.proofs.lemmas.Bool.{and_parts}
 use Rattle.std.proofs.lemmas.Bool.Decides.{nat_tests}
 use Rattle.std.proofs.lemmas.Nat.Bits.{bit_at-lt, same_from_bits_below}
-use Rattle.sect_time.specs.Pattern.{has_bit}
-use Rattle.sect_time.specs.Weeks.{AreDaysOfTerm, MeetsWeek, week_range}
-use Rattle.sect_time.proofs.BitLemmas.{has_bit-one}
-use Rattle.sect_time.proofs.WeekLemmas.{meets_week, has_bit-week_range, week_range_sixty}
+use Rattle.sect_base.specs.Pattern.{has_bit}
+use Rattle.sect_base.specs.Weeks.{AreDaysOfTerm, MeetsWeek, week_range}
+use Rattle.sect_base.proofs.BitLemmas.{has_bit-one}
+use Rattle.sect_base.proofs.WeekLemmas.{meets_week, has_bit-week_range, week_range_sixty}
 use Rattle.sect_words.specs.Reading.{only_where}
 use Rattle.sect_words.specs.Times.{weeks_between}
 

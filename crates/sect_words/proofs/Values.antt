@@ -5,12 +5,12 @@ use Rattle.std.specs.Str.{bytes_eq}
 use Rattle.std.proofs.lemmas.Option.{cond_some}
 use Rattle.std.proofs.lemmas.Bool.{leb-true, le-leb, and_parts, and_from, ltb-true, lt-ltb}
 use Rattle.sect_base.specs.Tree.{Tree}
-use Rattle.sect_time.specs.Day.{LAST_DAY}
-use Rattle.sect_time.specs.DayText.{IsDayText}
-use Rattle.sect_time.specs.MeetingText.{meeting_text}
-use Rattle.sect_time.specs.Pattern.{Pattern, IsPattern}
-use Rattle.sect_time.proofs.DayTexts.{one_day}
-use Rattle.sect_time.proofs.MeetingTexts.{says_days, says_time, says_weeks, read_is}
+use Rattle.sect_base.specs.Day.{LAST_DAY}
+use Rattle.sect_base.specs.DayText.{IsDayText}
+use Rattle.sect_base.specs.MeetingText.{meeting_text}
+use Rattle.sect_base.specs.Pattern.{Pattern, IsPattern}
+use Rattle.sect_base.proofs.DayTexts.{one_day}
+use Rattle.sect_base.proofs.MeetingTexts.{says_days, says_time, says_weeks, read_is}
 use Rattle.sect_command.specs.Reading.{tree_in}
 use Rattle.sect_command.specs.TreeText.{HasText, tree_text}
 use Rattle.sect_command.proofs.TreeLaws.{found_whole, again_tree}

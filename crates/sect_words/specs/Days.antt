@@ -2,7 +2,7 @@
 use Rattle.std.specs.Prelude.{ℕ, zero, suc, Bool, ◌&&◌, nat_le, List, [], if◌then◌else◌, Option, Some, None, pos}
 use Rattle.std.specs.Ordering.{int_eq}
 use Rattle.jiff_core.specs.Calendar.{days_in_month, days_from_civil}
-use Rattle.sect_time.specs.DayText.{date_text}
+use Rattle.sect_base.specs.DayText.{date_text}
 
 -- the first of the two that is there
 abbrev pub either_of : {X : Type 0} → Option X → Option X → Option X

@@ -21,8 +21,8 @@ use Rattle.sect_base.specs.declared.limit.Limit.TheVariants.{Unlimited, Places}
 use Rattle.sect_base.specs.declared.limit.Caller.{Caller}
 use Rattle.sect_base.specs.declared.limit.Caller.TheVariants as callers
 use Rattle.sect_base.specs.Tree.{Tree}
-use Rattle.sect_time.specs.Pattern.{Pattern}
-use Rattle.sect_time.specs.MeetingText.{meeting_text}
+use Rattle.sect_base.specs.Pattern.{Pattern}
+use Rattle.sect_base.specs.MeetingText.{meeting_text}
 use Rattle.sect_command.specs.Reading.{tree_in}
 use Rattle.sect_catalog.specs.declared.row.CourseRow.{CourseRow}
 use Rattle.sect_reserve.specs.declared.row.Audience.{Audience}

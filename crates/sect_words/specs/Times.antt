@@ -1,8 +1,8 @@
 -- Meetings whose weeks may be said by days of a term.
 use Rattle.std.specs.Prelude.{ℕ, ◌+◌, ◌-◌, ◌/◌, ◌&&◌, nat_le, List, [], ◌∷◌, Option, None, Some}
 use Rattle.std.specs.Option.{option_or}
-use Rattle.sect_time.specs.Pattern.{Pattern}
-use Rattle.sect_time.specs.Weeks.{week_range}
+use Rattle.sect_base.specs.Pattern.{Pattern}
+use Rattle.sect_base.specs.Weeks.{week_range}
 use Rattle.sect_words.specs.Parts.{joined, pieces}
 use Rattle.sect_words.specs.Reading.{◌>>=◌, any_word, key_at, only_where, whole, word_at}
 use Rattle.sect_words.specs.ReadingWords.{day_of, meeting_of}

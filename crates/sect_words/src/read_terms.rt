@@ -10,8 +10,7 @@ use crate::fault::Fault;
 use crate::parts::Parts;
 use crate::readable::Readable;
 use crate::same::same_bytes;
-use sect_base::{Items, Memory};
-use sect_time::{Day, Meeting, weeks_of};
+use sect_base::{Day, Items, Meeting, Memory, weeks_of};
 use std::alloc::Global;
 
 /// The meetings of words joined by pluses, or none for a dash. Their weeks may be said as `DAY..DAY` where there is

@@ -39,11 +39,11 @@ use crate::fault::Fault;
 use crate::parts::Parts;
 use crate::same::same_bytes;
 use sect_base::{
-    AreaId, Block, Caller, ClassId, ConfigId, CourseId, GroupId, Items, Limit, MajorId, OfferingId,
-    ReservationId, RestrictionId, SectionId, Sections, StudentId, SubpartId,
+    AreaId, Block, Caller, ClassId, ConfigId, CourseId, Day, GroupId, Items, Limit, MajorId,
+    Meeting, OfferingId, ReservationId, RestrictionId, SectionId, Sections, StudentId, SubpartId,
+    read_day, read_meeting,
 };
 use sect_command::read_block;
-use sect_time::{Day, Meeting, read_day, read_meeting};
 use std::alloc::Global;
 
 /// A value that is read from one word.

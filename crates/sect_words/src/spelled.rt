@@ -2,7 +2,7 @@
 
 ghost use Rattle.std.specs.Prelude.{◌≡◌, ℕ, List, [], ◌++◌, ◌∷◌, OnOk, OnErr, decimal, length, take, map, codes, drop};
 ghost use Rattle.sect_base.specs.declared.limit.Limit.{Limit};
-ghost use Rattle.sect_time.specs.MeetingText.{meeting_text};
+ghost use Rattle.sect_base.specs.MeetingText.{meeting_text};
 ghost use Rattle.sect_command.specs.TreeText.{tree_text};
 ghost use Rattle.sect_words.specs.Parts.{joined, behind};
 ghost use Rattle.sect_words.specs.Days.{day_text};
@@ -26,12 +26,12 @@ ghost use Rattle.sect_words.specs.Words.{
 
 use itoa::{Buffer, Integer};
 use sect_base::{
-    Block, Caller, Choice, ClassId, ConfigId, CourseId, Curriculum, GroupId, Items, Limit, MajorId,
-    Memory, ReservationId, SectionId, Sections, StudentId,
+    Block, Caller, Choice, ClassId, ConfigId, CourseId, Curriculum, Day, GroupId, Items, Limit,
+    MajorId, Meeting, Memory, ReservationId, SectionId, Sections, StudentId, print_day,
+    print_meeting,
 };
 use sect_command::print_block;
 use sect_reserve::Audience;
-use sect_time::{Day, Meeting, print_day, print_meeting};
 
 /// A value that stands in one word.
 pub trait Spelled {

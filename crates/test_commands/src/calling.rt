@@ -2,13 +2,12 @@
 // is in the section, and closes the desk.
 
 use sect_asking::{asked_on, is_passed_over, print_answer, read_request};
-use sect_base::{Memory, SectionId};
+use sect_base::{Day, Memory, SectionId};
 use sect_command::Query;
 use sect_edge::{MemClock, MemKeeper};
 use sect_machine::Machine;
 use sect_once::Desk;
 use sect_report::report;
-use sect_time::Day;
 use std::alloc::Global;
 
 /// One section with one place, and two students; the first asks for it again, as where the answer was lost.

@@ -1,9 +1,8 @@
 // Sources, sinks and clocks in memory.
 
 use crate::keepers::number_alone;
-use sect_base::Memory;
+use sect_base::{Day, Memory};
 use sect_edge::{MemClock, MemSink, MemSource};
-use sect_time::Day;
 use std::alloc::Global;
 
 /// A source of these bytes, of which a read gives so many at most. The read with this number, from 1, fails; 0 is none.

@@ -1,11 +1,10 @@
 // A line acts.
 
-use sect_base::Memory;
+use sect_base::{Day, Memory, read_day};
 use sect_command::Reply;
 use sect_machine::Machine;
 use sect_once::Object;
 use sect_text::print_reply;
-use sect_time::{Day, read_day};
 use sect_wire::{LineAsk, read_line};
 use sect_words::print_text;
 use std::alloc::Global;

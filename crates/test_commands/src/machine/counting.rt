@@ -3,11 +3,10 @@
 ghost use Rattle.std.specs.Prelude.{◌≡◌, ◌<◌};
 
 use crate::machine::acting::day_of;
-use sect_base::{Caller, Memory, Steps};
+use sect_base::{Caller, Day, Memory, Steps};
 use sect_command::{Command, Reply};
 use sect_machine::{Machine, ToldStep};
 use sect_text::print_reply;
-use sect_time::Day;
 use sect_wire::{LineAsk, read_line};
 use sect_words::{print_number, print_text};
 use std::alloc::Global;

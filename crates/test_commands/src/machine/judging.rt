@@ -5,12 +5,11 @@ ghost use Rattle.sect_model.specs.Step.{step as step_of};
 ghost use Rattle.sect_machine.specs.Standing.{state_in};
 
 use crate::machine::acting::day_of;
-use sect_base::{Block, Caller, Memory};
+use sect_base::{Block, Caller, Day, Memory};
 use sect_command::{Command, Reply, read_block};
 use sect_machine::Machine;
 use sect_machine::laws::blocked_commands_are_taken;
 use sect_once::Object;
-use sect_time::Day;
 use sect_wire::{LineAsk, read_line};
 use std::alloc::Global;
 

@@ -7,8 +7,7 @@ mod alone;
 mod full;
 mod shared;
 
-use sect_base::{Caller, Id};
-use sect_time::Day;
+use sect_base::{Caller, Day, Id};
 
 /// The id with this number.
 fn id(number: u64) -> Id

@@ -1,5 +1,5 @@
 -- By how the rows of a log open.
-use Rattle.sect_app.proofs.Opened.{rows_open}
+use Rattle.sect_app.proofs.Openings.{rows_open}
 use Rattle.sect_app.proofs.laws.the_rows_of_a_log_are_taken.Goals as goal
 
 pub returns : goal.returns

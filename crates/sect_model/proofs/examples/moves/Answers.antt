@@ -7,7 +7,7 @@ use Rattle.sect_model.specs.Settle.{settle}
 use Rattle.sect_model.specs.Outcome.{outcome_of}
 use Rattle.sect_model.specs.Allowed.{is_allowed}
 use Rattle.sect_model.specs.Rules.{leaf_of}
-use Rattle.sect_time.specs.Pattern.{meetings_overlap, some_below}
+use Rattle.sect_base.specs.Pattern.{meetings_overlap, some_below}
 use Rattle.sect_model.proofs.examples.moves.Goals as goal
 
 pub returns-clause-swap : goal.returns-clause-swap

@@ -7,7 +7,7 @@ use Rattle.sect_model.specs.Settle.{settle}
 use Rattle.sect_model.specs.Outcome.{outcome_of}
 use Rattle.sect_model.specs.Allowed.{is_allowed}
 use Rattle.sect_model.specs.Rules.{leaf_of}
-use Rattle.sect_time.specs.Pattern.{meetings_overlap, some_below}
+use Rattle.sect_base.specs.Pattern.{meetings_overlap, some_below}
 use Rattle.sect_model.proofs.examples.refutations.Goals as goal
 
 pub returns-clause-trees_of_a_full_section : goal.returns-clause-trees_of_a_full_section

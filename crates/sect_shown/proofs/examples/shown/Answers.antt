@@ -8,11 +8,11 @@ use Rattle.sect_model.specs.Settle.{settle}
 use Rattle.sect_model.specs.Outcome.{outcome_of}
 use Rattle.sect_model.specs.Allowed.{is_allowed}
 use Rattle.sect_model.specs.Rules.{leaf_of}
-use Rattle.sect_time.specs.Pattern.{meetings_overlap, some_below}
-use Rattle.sect_time.specs.ClockText.{time_text}
-use Rattle.sect_time.specs.MeetingText.{meeting_text}
-use Rattle.sect_time.specs.WeekdayText.{days_text}
-use Rattle.sect_time.specs.WeekText.{runs_from, weeks_text}
+use Rattle.sect_base.specs.Pattern.{meetings_overlap, some_below}
+use Rattle.sect_base.specs.ClockText.{time_text}
+use Rattle.sect_base.specs.MeetingText.{meeting_text}
+use Rattle.sect_base.specs.WeekdayText.{days_text}
+use Rattle.sect_base.specs.WeekText.{runs_from, weeks_text}
 use Rattle.sect_shown.specs.Shown.{courses_of}
 use Rattle.sect_shown.specs.Week.{slots_text}
 use Rattle.sect_shown.proofs.examples.shown.Goals as goal

@@ -1,6 +1,6 @@
 -- The day of a word is the one whose text it is.
 use Rattle.std.proofs.Common.{subst, sym}
-use Rattle.sect_time.specs.DayText.{IsDayText}
+use Rattle.sect_base.specs.DayText.{IsDayText}
 use Rattle.sect_words.proofs.DayLaws.{text_of_day}
 use Rattle.sect_words.proofs.Dates.{has_day}
 use Rattle.sect_words.proofs.Exact.{by_found, by_none}

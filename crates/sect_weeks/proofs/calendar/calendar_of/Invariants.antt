@@ -1,6 +1,6 @@
 -- the slots of the enrolments so far are taken
 use Rattle.std.proofs.Common.{◌≡◌, ◌<◌, ℕ, take}
-use Rattle.sect_time.specs.Calendar.{is_set}
+use Rattle.sect_base.specs.Calendar.{is_set}
 use Rattle.sect_weeks.specs.Taken.{enrolments_take}
 use Rattle.sect_weeks.proofs.calendar.calendar_of.Given as goal
 

@@ -1,10 +1,9 @@
 // It is asked, over a keeper in memory that may fail.
 
 use super::{first_day, id};
-use sect_base::Chronicle;
+use sect_base::{Chronicle, Day};
 use sect_edge::MemKeeper;
 use sect_once::{Answer, Desk, OpenFault, Tally};
-use sect_time::Day;
 use std::alloc::Global;
 use std::test::Fail;
 

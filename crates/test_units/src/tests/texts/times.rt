@@ -1,6 +1,6 @@
 // Why a text is no meeting, which no line tells.
 
-use sect_time::{TimeFault, read_meeting};
+use sect_base::{TimeFault, read_meeting};
 
 #[test]
 fn a_meeting_that_is_none_tells_its_fault(rt: HostRuntime) {

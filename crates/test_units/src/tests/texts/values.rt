@@ -1,13 +1,12 @@
 // What no line shows: copies that no command makes, the slots of a calendar, and the days of a clock.
 
 use sect_base::{
-    ConfigId, CourseId, Duplicate, Items, Limit, Memory, Move, OfferingId, RestrictionId, Same,
-    SectionId, StudentId,
+    Calendar, ConfigId, CourseId, Day, Duplicate, Items, Limit, Meeting, Memory, Move, OfferingId,
+    RestrictionId, Same, SectionId, StudentId,
 };
 use sect_command::{RollView, View};
 use sect_edge::{Clock, MemClock};
 use sect_reserve::{Audience, Includes, Restriction};
-use sect_time::{Calendar, Day, Meeting};
 use std::alloc::Global;
 use std::test::Fail;
 

@@ -1,6 +1,6 @@
 -- a section that doesn't overlap is passed over
 use Rattle.std.proofs.Common.{sym, ap, ◌∙◌}
-use Rattle.sect_time.specs.Pattern.{lists_overlap}
+use Rattle.sect_base.specs.Pattern.{lists_overlap}
 use Rattle.sect_model.specs.World.{meetings_of}
 use Rattle.sect_rules.proofs.LeastLemmas.{least-skip}
 use Rattle.sect_rules.proofs.moment.Moment.+least_of.Goals as goal

@@ -3,7 +3,7 @@ use Rattle.std.proofs.Common.{sym, ◌∙◌, ◌∷◌, []}
 use Rattle.std.specs.Prelude.{map, filter}
 use Rattle.std.specs.Option.{option_map}
 use Rattle.sect_people.specs.Student.{find_student}
-use Rattle.sect_time.specs.Pattern.{lists_overlap}
+use Rattle.sect_base.specs.Pattern.{lists_overlap}
 use Rattle.sect_model.specs.World.{meetings_of}
 use Rattle.sect_model.specs.Rules.{least}
 use Rattle.sect_rules.specs.FreeTimes.{first_free}

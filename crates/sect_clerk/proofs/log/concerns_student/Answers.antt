@@ -1,0 +1,12 @@
+-- The student that is named.
+use Rattle.std.proofs.Common.{ap, sym, ◌∙◌, true}
+use Rattle.std.specs.Prelude.{Option}
+use Rattle.std.specs.Option.{option_map_or}
+use Rattle.sect_base.specs.declared.ids.StudentId.{StudentId}
+use Rattle.sect_clerk.specs.Log.{concerns_student}
+use Rattle.sect_clerk.proofs.log.concerns_student.Goals as goal
+
+pub returns-in-Some : goal.returns-in-Some
+returns-in-Some c = λ place.
+    c.names_student.ensures place
+    ∙ sym (ap (λ (o : Option StudentId). option_map_or (concerns_student (record { place = place; entry = c.args.entry.now; placed = c.args.placed.now })) o true) c.in-Some.is)

@@ -1,6 +1,0 @@
--- By the rows, one after the other.
-use Rattle.sect_intake.proofs.Tables.{tables_fit}
-use Rattle.sect_intake.proofs.laws.each_command_of_a_table_has_a_text.Goals as goal
-
-pub returns : goal.returns
-returns c = tables_fit

@@ -1,6 +1,0 @@
--- A meeting has no weekday past the seventh.
-use Rattle.sect_time.proofs.CalendarLemmas.{added}
-use Rattle.sect_time.proofs.calendar.Calendar.add.Goals as goal
-
-pub returns : goal.returns
-returns c = λ d slot within. added c.args.m.now _ _ c.loop-day.day d slot c.days.ensures.meeting c.loop-day-test.false (c.loop-day.invariant d slot within)

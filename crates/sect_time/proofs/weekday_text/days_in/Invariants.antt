@@ -1,6 +1,0 @@
-use Rattle.std.specs.Prelude.{◌≡◌, ◌<◌, ◌^◌, take}
-use Rattle.sect_time.proofs.WeekdayLemmas.{days_in}
-use Rattle.sect_time.proofs.weekday_text.days_in.Given as goal
-
-abbrev pub invariant-loop-letter : goal.invariant-loop-letter
-invariant-loop-letter l = (l.days ≡ days_in (take l.letter-index l.text)) × (l.days < 2 ^ 7)
