@@ -1,6 +1,7 @@
 pub mod Cuts
 pub mod Dates
 pub mod DayLaws
+pub mod DigitCounts
 pub mod Exact
 pub mod Loops
 pub mod Numbers

@@ -1,6 +1,7 @@
 //! What stands in one word, both ways: numbers, ids, lists, limits, days, meetings and those a row is made of.
 #![tactic(auto)]
 
+mod digits;
 mod fault;
 mod parts;
 mod read_parts;

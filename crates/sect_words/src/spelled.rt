@@ -114,7 +114,11 @@ pub fn print_marked<T: Spelled>(mark: u8, value: &T, into: &mut Vec<u8>) -> Resu
 }
 
 /// Appends the elements, each behind the mark. After `Memory` a part of them may stand at the end.
-fn print_behind<T: Spelled>(mark: u8, items: &[T], into: &mut Vec<u8>) -> Result<(), Memory>
+pub(crate) fn print_behind<T: Spelled>(
+    mark: u8,
+    items: &[T],
+    into: &mut Vec<u8>,
+) -> Result<(), Memory>
     ensures text { OnOk result (into.new.items ≡ into.old.items ++ behind mark (map T.spelling items.now)) }
     ensures front { take (length into.old.items) into.new.items ≡ into.old.items }
 {
@@ -328,6 +332,13 @@ impl<T: Spelled> Spelled for Option<T> {
             None => print_bytes(b"-", into),
         }
     }
+
+    fn print_after(&self, mark: u8, into: &mut Vec<u8>) -> Result<(), Memory> {
+        match self {
+            Some(value) => value.print_after(mark, into),
+            None => print_bytes(&[mark, b'-'], into),
+        }
+    }
 }
 
 impl<T: Spelled> Spelled for Items<T> {
@@ -335,6 +346,16 @@ impl<T: Spelled> Spelled for Items<T> {
 
     fn print(&self, into: &mut Vec<u8>) -> Result<(), Memory> {
         print_list(b'+', self.as_slice(), into)
+    }
+
+    fn print_after(&self, mark: u8, into: &mut Vec<u8>) -> Result<(), Memory> {
+        match self.as_slice() {
+            [] => print_bytes(&[mark, b'-'], into),
+            [first, rest @ ..] => {
+                first.print_after(mark, into)?;
+                print_behind(b'+', rest, into)
+            }
+        }
     }
 }
 
@@ -347,6 +368,13 @@ impl Spelled for Limit {
             Limit::Places(places) => print_number(*places, into),
         }
     }
+
+    fn print_after(&self, mark: u8, into: &mut Vec<u8>) -> Result<(), Memory> {
+        match self {
+            Limit::Unlimited => print_bytes(&[mark, b'-'], into),
+            Limit::Places(places) => print_number_after(mark, u64::from(*places), into),
+        }
+    }
 }
 
 impl Spelled for Caller {
@@ -354,14 +382,8 @@ impl Spelled for Caller {
 
     fn print(&self, into: &mut Vec<u8>) -> Result<(), Memory> {
         match self {
-            Caller::Registrar(number) => {
-                print_bytes(b"r", into)?;
-                print_number(*number, into)
-            }
-            Caller::Student(student) => {
-                print_bytes(b"s", into)?;
-                print_number(student.0, into)
-            }
+            Caller::Registrar(number) => print_number_after(b'r', u64::from(*number), into),
+            Caller::Student(student) => print_number_after(b's', u64::from(student.0), into),
         }
     }
 }

@@ -1,10 +1,24 @@
 // What is printed in one word with marks in it.
 
-ghost use Rattle.std.specs.Prelude.{◌≡◌, ◌++◌, ◌∷◌, [], OnOk, decimal, length, take, codes};
-ghost use Rattle.sect_words.specs.Words.{course_row_text, curriculum_text, audience_text, choice_text};
+ghost use Rattle.std.specs.Prelude.{◌≡◌, ◌≤◌, ◌+◌, ◌++◌, ◌∷◌, [], OnOk, decimal, drop, length, map, take, codes};
+ghost use Rattle.sect_words.specs.Parts.{behind};
+ghost use Rattle.sect_words.specs.Words.{
+  course_row_text,
+  curriculum_text,
+  audience_text,
+  choice_text,
+  choice_front,
+  first_section_text,
+  section_text,
+  reservation_text,
+  optional_text,
+};
 
-use crate::spelled::{Spelled, print_bytes, print_marked};
-use sect_base::{AreaId, Choice, ClassId, Curriculum, Items, MajorId, Memory};
+use crate::digits::{put, put_marked, put_number};
+use crate::spelled::{Spelled, print_behind, print_bytes, print_marked};
+use sect_base::{
+    AreaId, Choice, ClassId, Curriculum, Items, MajorId, Memory, ReservationId, SectionId,
+};
 use sect_catalog::CourseRow;
 use sect_reserve::{Audience, Place};
 
@@ -79,13 +93,77 @@ impl Spelled for Audience {
     }
 }
 
+/// Writes the mark and a reservation's number, or a dash, before a place, and returns where they start.
+fn put_reservation(
+    mark: u8,
+    reservation: Option<ReservationId>,
+    bytes: &mut [u8],
+    end: usize,
+) -> usize
+    requires { (11 ≤ end) × (end ≤ length bytes.old) }
+    ensures start { (end ≤ result + 11) × (result ≤ end) }
+    ensures written { drop result bytes.new ≡ (mark ∷ optional_text reservation_text reservation) ++ drop end bytes.old }
+    ensures long { length bytes.new ≡ length bytes.old }
+{
+    match reservation {
+        Some(id) => put_marked(mark, id.0, bytes, end),
+        None => {
+            let dash = put(b'-', bytes, end);
+            put(mark, bytes, dash)
+        }
+    }
+}
+
+/// Writes the mark and the first section before a place, and returns where they start.
+fn put_first_section(mark: u8, sections: &[SectionId], bytes: &mut [u8], end: usize) -> usize
+    requires { (11 ≤ end) × (end ≤ length bytes.old) }
+    ensures start { (end ≤ result + 11) × (result ≤ end) }
+    ensures written { drop result bytes.new ≡ (mark ∷ first_section_text sections.now) ++ drop end bytes.old }
+    ensures long { length bytes.new ≡ length bytes.old }
+{
+    match sections {
+        [] => put(mark, bytes, end),
+        [first, ..] => put_marked(mark, first.0, bytes, end),
+    }
+}
+
+/// Writes a choice up to its first section at the end of the bytes, and returns where it starts.
+fn put_choice_front(choice: &Choice, bytes: &mut [u8; 44]) -> usize
+    ensures start { (1 ≤ result) × (result ≤ 44) }
+    ensures written { drop result bytes.new ≡ choice_front choice.now }
+{
+    let start = put_first_section(b'/', choice.sections.as_slice(), bytes, 44);
+    let start = put_marked(b'/', choice.config.0, bytes, start);
+    let start = put_reservation(b'/', choice.reservation, bytes, start);
+    put_number(choice.course.0, bytes, start)
+}
+
+/// Appends the front of a choice, and the sections behind its first. After `Memory` a part of them may stand at the end.
+fn print_front(front: &[u8], sections: &[SectionId], into: &mut Vec<u8>) -> Result<(), Memory>
+    ensures text { OnOk result (into.new.items ≡ into.old.items ++ (front.now ++ behind 43 (map section_text (drop 1 sections.now)))) }
+    ensures front { take (length into.old.items) into.new.items ≡ into.old.items }
+{
+    print_bytes(front, into)?;
+    match sections {
+        [] => Ok(()),
+        [_, rest @ ..] => print_behind(b'+', rest, into),
+    }
+}
+
+/// All up to the first section is appended in one piece.
 impl Spelled for Choice {
     ghost spelling = { choice_text };
 
     fn print(&self, into: &mut Vec<u8>) -> Result<(), Memory> {
-        self.course.print(into)?;
-        print_marked(b'/', &self.reservation, into)?;
-        print_marked(b'/', &self.config.0, into)?;
-        print_marked(b'/', &self.sections, into)
+        let mut bytes = [0; 44];
+        let start = put_choice_front(self, &mut bytes);
+        print_front(&bytes[start..], self.sections.as_slice(), into)
+    }
+
+    fn print_after(&self, mark: u8, into: &mut Vec<u8>) -> Result<(), Memory> {
+        let mut bytes = [0; 44];
+        let start = put_choice_front(self, &mut bytes);
+        let start = put(mark, &mut bytes, start);
+        print_front(&bytes[start..], self.sections.as_slice(), into)
     }
 }
