@@ -60,6 +60,7 @@ impl<'a> Parts<'a> {
     }
 
     /// The first part that is left. None exactly where none is.
+    #[inline(always)]
     pub fn first(&self) -> Option<&'a [u8]>
         ensures { option_map (λ part. part.now) result ≡ first_part self.now }
     {
@@ -118,6 +119,7 @@ impl<'a> Parts<'a> {
     }
 
     /// Whether the next part is this word.
+    #[inline(always)]
     pub fn begins(&self, word: &[u8]) -> bool
         ensures { result ≡ begins word.now self.now }
     {
@@ -128,6 +130,7 @@ impl<'a> Parts<'a> {
     }
 
     /// Takes the next part where it is this word, and tells whether it was.
+    #[inline(always)]
     pub fn takes(&mut self, word: &[u8]) -> bool
         ensures found { result ≡ begins word.now self.old }
         ensures rest { self.new ≡ (marked_if (begins word.now self.old) self.old).1 }
