@@ -58,11 +58,6 @@ pub record Steps (t u : Tally) (turn : Turn) (over : Bool) (hit : ℕ → Bool) 
   pub counts : (q : ℕ) → counts_at u q ≡ cond (hit q) (stepped turn over (counts_at t q)) (counts_at t q)
   pub rows : (q : ℕ) → has_row u q ≡ has_row t q
 
--- the id has these counts, and the others have what they had
-pub record Puts (t u : Tally) (id : ℕ) (c : Counts) : Type 0 where
-  pub counts : (q : ℕ) → counts_at u q ≡ cond (id == q) c (counts_at t q)
-  pub rows : (q : ℕ) → has_row u q ≡ has_row t q
-
 -- the id is one of these
 abbrev pub is_among : List SectionId → ℕ → Bool
 is_among ids q = list_any (λ s. s.0 == q) ids
