@@ -1,5 +1,5 @@
 -- One student's row, new or in place of the old one.
-use Rattle.std.specs.Prelude.{◌≡◌, ℕ, zero, suc, ◌==◌, Bool, true, false, cond, List, [], ◌∷◌, ◌++◌, length, slice_get, slice_set, Option, Some, None, refl}
+use Rattle.std.specs.Prelude.{◌≡◌, ℕ, zero, suc, ◌==◌, Bool, true, false, cond, List, [], ◌∷◌, ◌++◌, length, slice_get, slice_set, slice_index_or, Option, Some, None, refl}
 use Rattle.std.specs.Option.{is_some, option_map, option_map_or, option_and_then}
 use Rattle.std.specs.Bool.{then_some}
 use Rattle.std.proofs.Common.{sym, ◌∙◌, ap, arith}
@@ -130,6 +130,26 @@ stands rows id place (Some i) h = by_row (slice_get rows i) refl h
     by_row : (o : Option Row) → slice_get rows i ≡ o → option_and_then (λ r. then_some (r.student.0 == id) i) o ≡ Some place → Stands rows id place (Some i)
     by_row None e h = absurd (none-some place h)
     by_row (Some old) e h = by_own old e (old.student.0 == id) refl h
+
+-- what is read at a place stands there
+get-or : (xs : List Row) (i : ℕ) (d old : Row) → slice_get xs i ≡ Some old → slice_index_or xs i d ≡ old
+get-or [] i d old h = absurd (none-some old h)
+get-or (x ∷ xs) zero d old h = some-same x old h
+get-or (x ∷ xs) (suc i) d old h = get-or xs i d old h
+
+-- a row that is read at a student's place is the student's
+pub row-at : (rows : List Row) (id place : ℕ) (o : Option ℕ) (r : Row) → own_place rows id o ≡ Some place → r ≡ slice_index_or rows place r → own_row rows id o ≡ Some r
+row-at rows id place o r is at =
+    let s : Stands rows id place o = stands rows id place o is in
+    ap (own_row rows id) s.at
+    ∙ ap (option_and_then (λ x. then_some (x.student.0 == id) x)) s.is_old
+    ∙ ap (λ b. then_some b s.old) s.own
+    ∙ ap (λ x. Some x) (sym (at ∙ get-or rows place r s.old s.is_old))
+
+pub owner-at : (rows : List Row) (id place : ℕ) (o : Option ℕ) (r : Row) → own_place rows id o ≡ Some place → r ≡ slice_index_or rows place r → r.student.0 ≡ id
+owner-at rows id place o r is at =
+    let s : Stands rows id place o = stands rows id place o is in
+    ap (λ (x : Row). x.student.0) (at ∙ get-or rows place r s.old s.is_old) ∙ eqb-true s.old.student.0 id s.own
 
 pub row-put : (rows : List Row) (p : ℕ → Option ℕ) (id place : ℕ) (r : Row) → r.student.0 ≡ id → own_place rows id (p id) ≡ Some place
     → (q : ℕ) → own_row (slice_set rows place r) q (p q) ≡ cond (id == q) (Some r) (own_row rows q (p q))

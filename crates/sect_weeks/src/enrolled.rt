@@ -1,14 +1,13 @@
 // Calendars and credits after an enrolment is made or taken away.
 
-ghost use Rattle.std.specs.Prelude.{◌≡◌, ◌*◌, ◌≤◌, ℕ, true, length};
-ghost use Rattle.sect_base.specs.Calendar.{is_set};
-ghost use Rattle.sect_weeks.specs.Rows.{has_row, is_taken, credits_at};
-ghost use Rattle.sect_weeks.specs.Enrolled.{TakesMore, TakesAnew};
+ghost use Rattle.std.specs.Prelude.{◌≡◌, ◌*◌, ◌≤◌, true, length};
+ghost use Rattle.sect_weeks.specs.Rows.{has_row, credits_at};
+ghost use Rattle.sect_weeks.specs.Enrolled.{TakesChoice, TakesMore, TakesAnew};
 
 use crate::calendar::{add_sections, calendar_of};
 use crate::credits::{credits, credits_in};
-use crate::weeks::Weeks;
-use sect_base::{Calendar, StudentId};
+use crate::weeks::{Row, Weeks};
+use sect_base::{Choice, StudentId};
 use sect_catalog::Catalogue;
 use sect_model::Enrolment;
 
@@ -19,12 +18,9 @@ impl Weeks {
         requires bound { credits_at self.old enrolment.now.student.0 ≤ 255 * 1000000000 }
         ensures { TakesMore self.old self.new catalogue.now.rows enrolment.now }
     {
-        let mut calendar = self.copied(enrolment.student);
-        let sections = enrolment.choice.sections.as_slice();
-        add_sections(&mut calendar, catalogue, sections);
-        let own = credits(catalogue, enrolment.choice.course);
-        let credits = self.credits(enrolment.student) + usize::from(own);
-        self.put(enrolment.student, calendar, credits);
+        if let Some(place) = self.place(enrolment.student) {
+            self.rows[place].take(catalogue, &enrolment.choice);
+        }
     }
 
     /// Makes the calendar of a student whom an enrolment left again, from those that are still held, and counts their
@@ -37,14 +33,15 @@ impl Weeks {
         let calendar = calendar_of(catalogue, held);
         self.put(student, calendar, credits_in(catalogue, held));
     }
+}
 
-    /// The calendar of a student, an empty one where there is none.
-    fn copied(&self, student: StudentId) -> Calendar
-        ensures { (day slot : ℕ) → is_set result day slot ≡ is_taken self.now student.0 day slot }
+impl Row {
+    /// Takes the slots of the sections of a choice, and counts its credits.
+    fn take(&mut self, catalogue: &Catalogue, choice: &Choice)
+        requires { self.old.credits ≤ 255 * 1000000000 }
+        ensures { TakesChoice self.old self.new catalogue.now.rows choice.now }
     {
-        match self.get(student) {
-            Some(calendar) => *calendar,
-            None => Calendar::empty(),
-        }
+        add_sections(&mut self.calendar, catalogue, choice.sections.as_slice());
+        self.credits += usize::from(credits(catalogue, choice.course));
     }
 }

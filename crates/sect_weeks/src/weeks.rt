@@ -11,17 +11,17 @@ use std::alloc::Global;
 
 /// The calendar of a student, and the credits of what the student holds.
 #[derive(Clone, Copy)]
-struct Row {
-    student: StudentId,
-    calendar: Calendar,
-    credits: usize,
+pub(crate) struct Row {
+    pub(crate) student: StudentId,
+    pub(crate) calendar: Calendar,
+    pub(crate) credits: usize,
 }
 
 /// The calendars and credits of students. The rows stand in the order of their coming; each names its student, and a look-up tests it,
 /// so that nothing need be kept of the table.
 pub struct Weeks {
     places: Table<usize>,
-    rows: Vec<Row>,
+    pub(crate) rows: Vec<Row>,
 }
 
 /// It is written out, so that a caller does not prove again how each part is dropped.
@@ -94,7 +94,7 @@ impl Weeks {
     }
 
     /// The place of a student's row, if it has one.
-    fn place(&self, student: StudentId) -> Option<usize>
+    pub(crate) fn place(&self, student: StudentId) -> Option<usize>
         ensures { result ≡ place_of self.now student.0 }
     {
         let place = self.places.get(student.0)?;
