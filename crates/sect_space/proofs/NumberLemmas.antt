@@ -36,7 +36,7 @@ use Rattle.sect_weeks.proofs.QuietLemmas.{quiet-is-told, back-is-told}
 use Rattle.sect_space.specs.declared.back.Back.{Back}
 use Rattle.sect_space.specs.declared.back.Back.TheVariants.{Enrolled, Left}
 use Rattle.sect_space.specs.declared.parts.Parts.{Parts}
-use Rattle.sect_space.specs.Back.{back_of, taken_back, no_change, offering_id, is_of_quiet}
+use Rattle.sect_space.specs.Back.{back_of, taken_back, no_change, offering_id, is_of_quiet, mark_of}
 use Rattle.sect_space.specs.Counting.{OneBehind, OneAhead}
 use Rattle.sect_space.specs.Made.{Made, Unchanged, Taken, Ready}
 use Rattle.sect_space.specs.Parts.{roomed_of, numbered_of, Numbered, Followed}
@@ -92,6 +92,10 @@ pub weeks-quiet : (p q : Parts) (n : Numbers) (k l : Weeks) (c : Change) (result
 weeks-quiet p q n k l c (Ok b) i f quiet keeps new made same =
     subst (ToldWeeks l) (sym made.world) (quiet-is-told k l (roomed_of p).world c i.numbered.kept f quiet i.weeks keeps new)
 weeks-quiet p q n k l c (Err e) i f quiet keeps new made same = subst (ToldWeeks l) (sym same.world) (kept-is-told k l (roomed_of p).world i.weeks keeps)
+
+-- the offering that is kept of an enrolment is its course's, as before
+pub its-offering : (r s : Roomed) (e : Enrolment) (offering : Option OfferingId) → Made r s (Enrol e) (Enrolled e.student offering) → offering ≡ offering_id s.world e.choice.course
+its-offering r s e offering made = ap (λ b. (mark_of b).offering) made.recorded ∙ sym (ap (λ w. offering_id w e.choice.course) made.world)
 
 pub enrolled-behind : (p q : Parts) (n : Numbers) (k : Weeks) (e : Enrolment) (b : Back) → Followed p n k → Fits (roomed_of p).world (Enrol e) → Made (roomed_of p) (roomed_of q) (Enrol e) b
     → OneBehind n k (roomed_of q).world e

@@ -32,8 +32,7 @@ impl World {
         ensures undoable { Undoable self.old undo.old.backs → Undoable self.new undo.new.backs }
     {
         undo.reserve(1)?;
-        let back = self.change(change)?;
-        undo.push(back);
+        self.make(change, undo)?;
         Ok(())
     }
 

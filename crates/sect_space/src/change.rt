@@ -34,7 +34,11 @@ impl Parts {
             Change::Cap(cap, limit) => Ok(self.put_limit(cap, limit)),
             Change::Cancelled(id) => self.cancel(id),
             Change::Day(day) => Ok(self.put_day(day)),
-            Change::Enrol(enrolment) => self.enrol(enrolment),
+            Change::Enrol(enrolment) => {
+                let student = enrolment.student;
+                let offering = self.enrol(enrolment)?;
+                Ok(Back::Enrolled(student, offering))
+            }
             Change::Leave(student, course) => {
                 let (place, enrolment, offering) = self.leave(student, course);
                 Ok(Back::Left(place, enrolment, offering))

@@ -6,24 +6,31 @@ ghost use Rattle.sect_model.specs.World.{used_by, reservation_of};
 ghost use Rattle.sect_model.specs.Counts.{permits_over};
 ghost use Rattle.sect_numbers.specs.Numbers.{Told, has_uses};
 ghost use Rattle.sect_weeks.specs.Busy.{ToldWeeks};
+ghost use Rattle.sect_space.specs.Back.{offering_id};
 ghost use Rattle.sect_space.specs.Counting.{OneBehind, OneAhead};
 ghost use Rattle.sect_space.specs.Parts.{roomed_of};
 
 use crate::parts::Parts;
-use sect_base::{Choice, ReservationId};
+use sect_base::{Choice, OfferingId, ReservationId};
 use sect_model::Enrolment;
 use sect_numbers::Numbers;
 use sect_weeks::Weeks;
 
 impl Parts {
-    /// Counts an enrolment that was made, with its credits, and takes its slots. It takes no memory.
-    pub fn count_in(&self, numbers: &mut Numbers, weeks: &mut Weeks, enrolment: &Enrolment)
-        requires { OneBehind numbers.old weeks.old (roomed_of self.now).world enrolment.now }
+    /// Counts an enrolment that was made, in this offering, with its credits, and takes its slots. It takes no memory.
+    pub fn count_in(
+        &self,
+        numbers: &mut Numbers,
+        weeks: &mut Weeks,
+        enrolment: &Enrolment,
+        offering: Option<OfferingId>,
+    )
+        requires behind { OneBehind numbers.old weeks.old (roomed_of self.now).world enrolment.now }
+        requires its { offering ≡ offering_id (roomed_of self.now).world enrolment.now.choice.course }
         ensures told { Told numbers.new (roomed_of self.now).world }
         ensures weeks { ToldWeeks weeks.new (roomed_of self.now).world }
         ensures rows { (id : Reservation_id) → has_uses numbers.new id ≡ has_uses numbers.old id }
     {
-        let offering = self.course_offering(enrolment.choice.course);
         let over = self.is_over_limit(&enrolment.choice);
         numbers.enrolled(enrolment, offering, over);
         weeks.enrolled(&self.catalogue, enrolment);

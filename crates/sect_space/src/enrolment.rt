@@ -15,19 +15,17 @@ use sect_base::{CourseId, Day, Memory, OfferingId, StudentId};
 use sect_model::{Change, Enrolment};
 
 impl Parts {
-    /// Enrols a student. Where memory runs out, nothing is changed; it takes none where there is room.
-    pub fn enrol(&mut self, enrolment: Enrolment) -> Result<Back, Memory>
-        ensures ok { IfOk result (λ back. Made (roomed_of self.old) (roomed_of self.new) (Change.Enrol enrolment) back) }
+    /// Enrols a student, and hands back the offering. Where memory runs out, nothing is changed; it takes none where there is
+    /// room.
+    pub fn enrol(&mut self, enrolment: Enrolment) -> Result<Option<OfferingId>, Memory>
+        ensures ok { IfOk result (λ offering. Made (roomed_of self.old) (roomed_of self.new) (Change.Enrol enrolment) (Back.Enrolled enrolment.student offering)) }
         ensures err { OnErr result (Unchanged (roomed_of self.old) (roomed_of self.new)) }
         ensures enough { 0 < free_for (roomed_of self.old) enrolment.student.0 → IsOk result }
     {
-        let back = Back::Enrolled(
-            enrolment.student,
-            self.course_offering(enrolment.choice.course),
-        );
+        let offering = self.course_offering(enrolment.choice.course);
         self.roster.reserve(enrolment.student, 1)?;
         self.roster.insert(enrolment);
-        Ok(back)
+        Ok(offering)
     }
 
     /// Takes the last enrolment of the student off. There is one.

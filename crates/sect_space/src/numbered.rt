@@ -1,33 +1,50 @@
 // Each change of the world, and each taken back, with the numbers and weeks that tell of it.
 
-ghost use Rattle.std.specs.Prelude.{◌≡◌, ◌<◌, true, IfOk, IsOk, OnErr, IsTrue};
+ghost use Rattle.std.specs.Prelude.{◌≡◌, ◌<◌, ◌≤◌, ◌+◌, ◌++◌, ◌∷◌, [], true, IfOk, IsOk, OnOk, OnErr, IsTrue};
 ghost use Rattle.sect_model.specs.Fits.{Fits};
 ghost use Rattle.sect_numbers.specs.Quiet.{is_quiet as enrols_nobody};
-ghost use Rattle.sect_space.specs.Back.{is_of_quiet};
+ghost use Rattle.sect_space.specs.Back.{back_of, is_of_quiet};
 ghost use Rattle.sect_space.specs.Made.{Made, Unchanged, Taken};
 ghost use Rattle.sect_space.specs.Room.{HasPlace, KeepsUses, free_for};
 ghost use Rattle.sect_space.specs.Undo.{takes_none};
 ghost use Rattle.sect_space.specs.Undoing.{MadeBy};
 
 use crate::back::Back;
+use crate::undo::Undo;
 use crate::world::World;
 use sect_base::{CourseId, Memory, OfferingId, StudentId};
 use sect_model::{Change, Enrolment};
 
 impl World {
-    /// Makes a change that fits, and hands back what is kept of it. Where memory runs out, nothing is changed.
-    pub(crate) fn change(&mut self, change: Change) -> Result<Back, Memory>
-        requires { Fits self.old.world change }
-        ensures ok { IfOk result (λ back. Made self.old self.new change back) }
+    /// Makes a change that fits, and records it behind the others, where there is room. Where memory runs out, nothing is
+    /// changed, and nothing recorded.
+    pub(crate) fn make(&mut self, change: Change, undo: &mut Undo) -> Result<(), Memory>
+        requires fits { Fits self.old.world change }
+        requires room { 0 < undo.old.spare }
+        ensures ok { OnOk result (Made self.old self.new change (back_of self.old.world change)) }
+        ensures recorded { OnOk result (undo.new.backs ≡ undo.old.backs ++ back_of self.old.world change ∷ []) }
         ensures err { OnErr result (Unchanged self.old self.new) }
+        ensures err_recorded { OnErr result (undo.new.backs ≡ undo.old.backs) }
         ensures uses { KeepsUses self.old self.new }
+        ensures spare { undo.old.spare ≤ undo.new.spare + 1 }
         ensures enough { IsTrue (takes_none change) → HasPlace self.old change → IsOk result }
     {
         match change {
-            Change::Enrol(enrolment) => self.enrol(enrolment),
-            Change::Leave(student, course) => Ok(self.leave(student, course)),
-            quiet => self.change_quietly(quiet),
+            Change::Enrol(enrolment) => {
+                let student = enrolment.student;
+                let offering = self.enrol(enrolment)?;
+                undo.push(Back::Enrolled(student, offering));
+            }
+            Change::Leave(student, course) => {
+                let back = self.leave(student, course);
+                undo.push(back);
+            }
+            quiet => {
+                let back = self.change_quietly(quiet)?;
+                undo.push(back);
+            }
         }
+        Ok(())
     }
 
     /// Makes a change that enrols nobody, and by which nobody leaves.
@@ -44,18 +61,18 @@ impl World {
         self.parts.change(change)
     }
 
-    /// Enrols a student, and counts it. Where memory runs out, nothing changes.
-    fn enrol(&mut self, enrolment: Enrolment) -> Result<Back, Memory>
+    /// Enrols a student, counts it, and hands back the offering. Where memory runs out, nothing changes.
+    fn enrol(&mut self, enrolment: Enrolment) -> Result<Option<OfferingId>, Memory>
         requires { Fits self.old.world (Change.Enrol enrolment) }
-        ensures ok { IfOk result (λ back. Made self.old self.new (Change.Enrol enrolment) back) }
+        ensures ok { IfOk result (λ offering. Made self.old self.new (Change.Enrol enrolment) (Back.Enrolled enrolment.student offering)) }
         ensures err { OnErr result (Unchanged self.old self.new) }
         ensures uses { KeepsUses self.old self.new }
         ensures enough { 0 < free_for self.old enrolment.student.0 → IsOk result }
     {
-        let back = self.parts.enrol(enrolment)?;
+        let offering = self.parts.enrol(enrolment)?;
         self.parts
-            .count_in(&mut self.numbers, &mut self.weeks, &enrolment);
-        Ok(back)
+            .count_in(&mut self.numbers, &mut self.weeks, &enrolment, offering);
+        Ok(offering)
     }
 
     /// Takes a student's enrolment in a course away, and counts it no more.
@@ -118,7 +135,8 @@ impl World {
         ensures uses { KeepsUses self.old self.new }
     {
         self.parts.put_enrolment_back(place, enrolment, offering);
+        let own = self.parts.course_offering(enrolment.choice.course);
         self.parts
-            .count_in(&mut self.numbers, &mut self.weeks, &enrolment);
+            .count_in(&mut self.numbers, &mut self.weeks, &enrolment, own);
     }
 }

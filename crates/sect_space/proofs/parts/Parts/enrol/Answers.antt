@@ -23,7 +23,7 @@ returns-clause-ok c =
         roster = e i;
         day = old.day;
       };
-      recorded = λ i. Enrolled c.args.enrolment.student (c.course_offering.ensures i);
+      recorded = λ i. Enrolled c.args.enrolment.student (c.course_offering-offering.ensures i);
       room = record {
         roster = λ n. room-more (roomed_of old) (roomed_of (record old { roster = c.insert.new.self })) n
             (subst (λ es. number_held n old.roster.items ≤ number_held n es) (sym e) (at-least n old.roster.items (insert_enrolment c.args.enrolment old.roster.items) c.args.enrolment (inserted c.args.enrolment old.roster.items)))

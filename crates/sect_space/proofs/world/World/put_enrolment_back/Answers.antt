@@ -9,8 +9,8 @@ put_enrolment_back-requires c =
     back-ready c.self.inside.parts c.self.inside.numbers (Left c.args.place c.args.enrolment c.args.offering)
     (made-in c.args.self.now c.self.inside.parts c.self.inside.numbers (Left c.args.place c.args.enrolment c.args.offering) c.self.view_is c.requires)
 
-pub count_in-requires : goal.count_in-requires
-count_in-requires c =
+pub count_in-requires-clause-behind : goal.count_in-requires-clause-behind
+count_in-requires-clause-behind c =
     put-behind c.self.inside.parts c.put_enrolment_back.new.self c.self.inside.numbers c.self.inside.weeks c.args.place c.args.enrolment c.args.offering c.self.invariant
     (made-in c.args.self.now c.self.inside.parts c.self.inside.numbers (Left c.args.place c.args.enrolment c.args.offering) c.self.view_is c.requires)
     c.put_enrolment_back.ensures
