@@ -3,11 +3,11 @@ use Rattle.std.specs.Prelude.{◌≡◌, ℕ, suc, Bool, true, false, not, ◌||
 use Rattle.std.specs.List.{list_any}
 use Rattle.std.specs.Option.{option_map, option_map_or, option_and_then, is_none, is_some}
 use Rattle.std.proofs.Common.{sym, ◌∙◌, ap, subst, inl, inr, append_assoc}
-use Rattle.std.proofs.lemmas.Bool.{eq-eqb}
+use Rattle.std.proofs.lemmas.Bool.{eqb-true, eq-eqb}
 use Rattle.std.proofs.lemmas.List.{append-nil}
 use Rattle.std.proofs.lemmas.List.Elements.{filter-append}
 use Rattle.sect_catalog.specs.declared.row.CatalogFault.TheVariants.{Known}
-use Rattle.sect_catalog.specs.Catalogue.{Catalogue, all_configs, all_subparts}
+use Rattle.sect_catalog.specs.Catalogue.{Catalogue, all_configs, all_subparts, find_config}
 use Rattle.sect_catalog.specs.Fault.{same_kind, subpart_ids, config_ids, row_ids, stands_twice, known_id, are_checked_after, are_checked}
 use Rattle.sect_catalog.specs.Catalogue.{has_course}
 use Rattle.sect_people.specs.Order.{all_differ}
@@ -204,6 +204,18 @@ pub one-of-section : (rows : List OfferingRow) → are_checked rows ≡ true →
     → (a b : SectionRow) → Member (sections_of o) a → Member (sections_of p) b → a.id.0 ≡ b.id.0 → o ≡ p
 one-of-section rows h o p m n = one-piece (λ s. s.id.0) sections_of rows (subst (λ xs. keys_differ (λ s. s.id.0) xs ≡ true) (row-by-row rows) (sections-differ rows h)) o p m n
 
+-- where keys differ, an element is found by its key
+find-apart : {X : Type 0} (key : X → ℕ) (xs : List X) → keys_differ key xs ≡ true → (x : X) → Member xs x → (n : ℕ) → key x ≡ n → find (λ y. key y == n) xs ≡ Some x
+find-apart key [] h x m n e = absurd m
+find-apart key (y ∷ ys) h x (inl s) n e = (λ i. cond (eq-eqb (key y) n (ap key s ∙ e) i) (Some y) (find (λ z. key z == n) ys)) ∙ ap Some s
+find-apart {X = X} key (y ∷ ys) h x (inr m) n e = by_test (key y == n) refl (find-apart key ys (both-right (not (list_any (λ z. key y == key z) ys)) (keys_differ key ys) h) x m n e)
+  where
+    by_test : (b : Bool) → key y == n ≡ b → find (λ z. key z == n) ys ≡ Some x → cond b (Some y) (find (λ z. key z == n) ys) ≡ Some x
+    by_test true t ih =
+        absurd (not_both (list_any (λ z. key y == key z) ys) (any-of (λ z. key y == key z) ys x m (eq-eqb (key y) (key x) (eqb-true (key y) n t ∙ sym e)))
+        (not_true _ (both-left (not (list_any (λ z. key y == key z) ys)) (keys_differ key ys) h)))
+    by_test false t ih = ih
+
 -- what stands where a decision leads
 module _ (w : World) (checked : are_checked w.catalogue.rows ≡ true) where
   pub offering-member : (course : CourseId) (o : OfferingRow) → offering_of w course ≡ Some o → Member w.catalogue.rows o
@@ -211,6 +223,16 @@ module _ (w : World) (checked : are_checked w.catalogue.rows ≡ true) where
 
   pub offering-configs : (course : CourseId) (o : OfferingRow) → offering_of w course ≡ Some o → all_differ (map (λ g. g.id.0) o.configs) ≡ true
   offering-configs course o e = configs-apart w.catalogue.rows checked o (offering-member course o e)
+
+  -- a configuration of the offering is the one that the catalogue finds
+  pub config-found : (course : CourseId) (config : ConfigId) (o : OfferingRow) → offering_of w course ≡ Some o → is_some (config_in o config) ≡ true
+      → config_in o config ≡ find_config w.catalogue.rows config
+  config-found course config o e has =
+      let g = Members.known (config_in o config) has in
+      let b = Members.find-member (λ g. g.id.0 == config.0) o.configs g.0 g.1 in
+      g.1
+      ∙ sym (find-apart (λ g. g.id.0) (all_configs w.catalogue.rows) (configs-differ w.catalogue.rows checked) g.0
+      (Members.member-of_flat_map (λ o. o.configs) w.catalogue.rows o g.0 (offering-member course o e) b.0) config.0 (eqb-true g.0.id.0 config.0 b.1))
 
   -- the configuration of a subpart, and its offering
   pub subpart-stands : (course : CourseId) (config : ConfigId) (p : SubpartRow) → Member (subparts_of w course config) p

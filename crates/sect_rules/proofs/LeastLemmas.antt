@@ -137,6 +137,34 @@ free-past meetings rank n (ask ∷ asks) h =
     far : nat_lt n rank ≡ false
     far = grind (arith, nat_tests, h)
 
+drop-next : {X : Type 0} (xs : List X) (i : ℕ) (x : X) → i < length xs → x ≡ get_or xs i x → drop i xs ≡ x ∷ drop (i + 1) xs
+drop-next [] i x h e = absurd (omega (arith, h))
+drop-next (y ∷ ys) zero x h e = ap (λ z. z ∷ ys) (sym e)
+drop-next (y ∷ ys) (suc i) x h e =
+    let n : suc i + 1 ≡ suc (i + 1) = omega arith in
+    drop-next ys i x (omega (arith, h)) e ∙ (λ j. x ∷ drop (sym n j) (y ∷ ys))
+
+module _ (meetings : List Pattern) (rank n : ℕ) (asks : List Ask) (i : ℕ) (ask : Ask) (within : i < length asks) (is_it : ask ≡ get_or asks i ask) where
+  -- the one that comes next meets
+  pub free-here : n < rank → meets_free meetings ask ≡ true → first_free meetings rank n (drop i asks) ≡ Some n
+  free-here h m =
+      (λ j. first_free meetings rank n (drop-next asks i ask within is_it j))
+      ∙ (λ j. cond (near j && m j) (Some n) (first_free meetings rank (n + 1) (drop (i + 1) asks)))
+    where
+      near : nat_lt n rank ≡ true
+      near = grind (arith, nat_tests, h)
+
+  -- it doesn't
+  pub free-later : meets_free meetings ask ≡ false → first_free meetings rank n (drop i asks) ≡ first_free meetings rank (n + 1) (drop (i + 1) asks)
+  free-later m =
+      (λ j. first_free meetings rank n (drop-next asks i ask within is_it j))
+      ∙ (λ j. cond (nat_lt n rank && m j) (Some n) (first_free meetings rank (n + 1) (drop (i + 1) asks)))
+      ∙ by_test (nat_lt n rank)
+    where
+      by_test : (b : Bool) → cond (b && false) (Some n) (first_free meetings rank (n + 1) (drop (i + 1) asks)) ≡ first_free meetings rank (n + 1) (drop (i + 1) asks)
+      by_test true = refl
+      by_test false = refl
+
 -- ---- rules
 
 -- no rule of the first table is broken

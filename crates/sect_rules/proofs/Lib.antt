@@ -4,6 +4,7 @@ pub mod OptionLemmas
 pub mod MomentLemmas
 pub mod CreditLemmas
 pub mod ReservedLemmas
+pub mod RestrictedLemmas
 pub mod LeastLemmas
 pub mod OwnLemmas
 pub mod CourseLemmas

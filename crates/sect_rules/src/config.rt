@@ -2,10 +2,11 @@
 
 ghost use Rattle.std.specs.Prelude.{◌≡◌, ◌&&◌, Some, not, false, zip, option_copied, IsTrue};
 ghost use Rattle.std.specs.List.{list_any, list_all};
-ghost use Rattle.std.specs.Option.{option_map_or};
+ghost use Rattle.std.specs.Option.{option_map_or, option_and_then};
+ghost use Rattle.sect_catalog.specs.Catalogue.{places as limit_places};
 ghost use Rattle.sect_reserve.specs.Audience.{admits_config as has_config, admits_section as has_section};
 ghost use Rattle.sect_model.specs.World.{offering_of};
-ghost use Rattle.sect_model.specs.Choice.{subparts_of};
+ghost use Rattle.sect_model.specs.Choice.{subparts_of, config_in};
 ghost use Rattle.sect_model.specs.Allowed.{applies_to, restrictions_of, restrictions_for};
 ghost use Rattle.sect_model.specs.Rules.{first_broken, config_rules, is_restricted as restricted_by};
 ghost use Rattle.sect_rules.specs.Ground.{IsGround};
@@ -13,6 +14,8 @@ ghost use Rattle.sect_rules.specs.Standing.{admits_all as admits_places, own_con
 
 use crate::ground::Ground;
 use crate::moment::Moment;
+use crate::place::config_of_offering;
+use crate::reserved::limited;
 use sect_base::{ConfigId, CourseId, Level, Rule, SectionId};
 use sect_catalog::{OfferingRow, SubpartRow};
 use sect_reserve::{Includes, Reservation, Restriction, admits_config, admits_section};
@@ -102,11 +105,12 @@ impl Moment<'_> {
         ensures { result ≡ first_broken (config_rules self.now.at self.now.student ground.now.offering.now course (option_copied r.entry) config) }
     {
         self.recall_kept();
-        let closed = self.closed(
+        let closed = self.closed_with(
             ground.offering.id,
             ground.reservations,
             r,
             Level::Config(config),
+            places(ground.offering, config),
         );
         if closed.full {
             return Some((Rule::ConfigFull, config.0));
@@ -121,6 +125,16 @@ impl Moment<'_> {
             return Some((Rule::Restricted, config.0));
         }
         None
+    }
+}
+
+/// The places of a configuration of the offering, None where it has no limit or there is none.
+fn places(offering: &OfferingRow, config: ConfigId) -> Option<u64>
+    ensures { result ≡ option_and_then (λ g. limit_places g.limit) (config_in offering.now config) }
+{
+    match config_of_offering(offering, config) {
+        Some(row) => limited(row.limit),
+        None => None,
     }
 }
 

@@ -41,6 +41,7 @@ pub fn option<const N: usize>(world: &World, mv: &Move, path: &PathOf<N>, i: usi
 }
 
 /// The options of a path, on the ground of its course, with the subparts of its configuration. It takes no memory.
+#[inline(always)]
 pub fn all_options<'a, const N: usize>(
     world: &World,
     want: Option<&'a Want>,
@@ -68,6 +69,7 @@ pub fn want_of<'a, const N: usize>(mv: &'a Move, path: &PathOf<N>) -> Option<&'a
 }
 
 /// The options for this want.
+#[inline(always)]
 fn want_options<'a, const N: usize>(
     world: &World,
     want: &'a Want,
@@ -99,6 +101,7 @@ fn want_options<'a, const N: usize>(
 }
 
 /// The option at a place.
+#[inline(always)]
 pub fn option_in(options: &Options, i: usize) -> Option<Pick>
     ensures { result ≡ slice_get (listed options.now) i }
 {

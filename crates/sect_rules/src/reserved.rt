@@ -129,6 +129,7 @@ impl Moment<'_> {
     }
 
     /// The same, where the number of places at the level is known.
+    #[inline(always)]
     pub fn closed_with(
         &self,
         offering: OfferingId,

@@ -5,10 +5,10 @@ ghost use Rattle.std.specs.Option.{option_map_or, option_and_then};
 ghost use Rattle.sect_catalog.specs.Catalogue.{find_section, places as limit_places};
 ghost use Rattle.sect_reserve.specs.Audience.{admits_section as has_section, empty_or_any};
 ghost use Rattle.sect_model.specs.World.{offering_of, meetings_of};
-ghost use Rattle.sect_model.specs.Choice.{has_parent};
-ghost use Rattle.sect_model.specs.Allowed.{free_times, meets_at};
+ghost use Rattle.sect_model.specs.Choice.{has_parent, subparts_of};
+ghost use Rattle.sect_model.specs.Allowed.{free_times, meets_at, restrictions_for};
 ghost use Rattle.sect_model.specs.Path.{next_subpart};
-ghost use Rattle.sect_model.specs.Rules.{first_broken, least, section_rules};
+ghost use Rattle.sect_model.specs.Rules.{first_broken, least, section_rules, is_restricted as restricted_by};
 ghost use Rattle.sect_base.specs.declared.limit.Level.TheVariants.{Section};
 ghost use Rattle.sect_base.specs.Pattern.{lists_overlap};
 ghost use Rattle.sect_rules.specs.Ground.{IsGround};
@@ -44,22 +44,20 @@ fn overlaps_one(meetings: &[Meeting], meeting: &Meeting) -> bool
 
 /// The position of the first free time before the rank that the meetings overlap, where the first
 /// of these requests has this position.
-fn first_free(meetings: &[Meeting], rank: u32, number: u32, asks: &[Ask]) -> Option<u32>
-    ensures { result ≡ first_free_time meetings.now rank number asks.now }
+fn first_free(meetings: &[Meeting], rank: u32, first: u32, asks: &[Ask]) -> Option<u32>
+    ensures { result ≡ first_free_time meetings.now rank first asks.now }
 {
-    if rank <= number {
-        return None;
-    }
-    match asks {
-        [] => None,
-        [ask, rest @ ..] => {
-            if meets_ask(meetings, ask) {
-                Some(number)
-            } else {
-                first_free(meetings, rank, number + 1, rest)
-            }
+    let mut number = first;
+    for ask in asks {
+        if rank <= number {
+            return None;
         }
+        if meets_ask(meetings, ask) {
+            return Some(number);
+        }
+        number += 1;
     }
+    None
 }
 
 /// Whether the list is empty, or has the section.
@@ -136,6 +134,35 @@ impl Moment<'_> {
         }
     }
 
+    /// Whether restrictions apply, and none of them admits the sections with this one. Where there are none, the sections
+    /// aren't put together.
+    fn restricts_section(
+        &self,
+        ground: &Ground,
+        course: CourseId,
+        config: ConfigId,
+        sections: Sections,
+        section: SectionId,
+    ) -> bool
+        requires ground { IsGround self.now.at ground.now }
+        requires offering { offering_of self.now.at course ≡ Some ground.now.offering.now }
+        requires bound { length sections < 6 }
+        ensures { result ≡ restricted_by (subparts_of self.now.at course config) config (sections ++ section ∷ [])
+            (restrictions_for self.now.at self.now.student course ground.now.offering.now.id) }
+    {
+        if ground.restrictions.is_empty() {
+            return false;
+        }
+        let all = with(sections, section);
+        self.is_restricted(
+            ground.offering,
+            ground.restrictions,
+            course,
+            config,
+            all.as_slice(),
+        )
+    }
+
     /// The least position of a free time before the rank that the section of these meetings meets.
     fn least_free(&self, rank: u8, section: SectionId, meetings: &[Meeting]) -> Option<u32>
         requires { meetings.now ≡ meetings_of self.now.at section }
@@ -167,14 +194,7 @@ impl Moment<'_> {
         if self.excludes_section(r, ground.offering, course, config, earlier, section) {
             return Some((Rule::NotIncluded, section.0));
         }
-        let all = with(sections, section);
-        if self.is_restricted(
-            ground.offering,
-            ground.restrictions,
-            course,
-            config,
-            all.as_slice(),
-        ) {
+        if self.restricts_section(ground, course, config, sections, section) {
             return Some((Rule::Restricted, section.0));
         }
         if self.catalogue().is_cancelled(section) {

@@ -62,6 +62,7 @@ impl<'a, const N: usize> Stage<'a, N> {
 
     /// The stage of another path of this move. Where its course is the same, the ground is taken over, and where its
     /// reservation is, what was found of that.
+    #[inline(always)]
     pub fn other(&self, path: &PathOf<N>) -> Stage<'a, N>
         ensures { result ≡ record { world = self.now.world; mv = self.now.mv; path = path.now } }
     {
@@ -97,6 +98,7 @@ impl<'a, const N: usize> Stage<'a, N> {
     }
 
     /// The stage of a path on the ground of its course, by its reservation.
+    #[inline(always)]
     fn on(
         world: &'a World,
         mv: &'a Move,
@@ -132,6 +134,7 @@ impl<'a, const N: usize> Stage<'a, N> {
     }
 
     /// The option at a place.
+    #[inline(always)]
     fn option_at(&self, i: usize) -> Option<Pick>
         ensures { result ≡ slice_get (options_at self.now.world self.now.mv self.now.path) i }
     {

@@ -108,8 +108,7 @@ fn behind<const N: usize>(
     if stage.is_complete_by(path) {
         return Ok(Visited::Found(choices(alloc, path.done())?));
     }
-    let next = stage.other(path);
-    match below(alloc, &next, path, decisions, left)? {
+    match below(alloc, &stage.other(path), path, decisions, left)? {
         Walked::Found(choices) => Ok(Visited::Found(choices)),
         Walked::Refuted(trees) => Ok(Visited::Refuted(Block::split(trees))),
         Walked::Spent => Ok(Visited::Spent),
