@@ -101,7 +101,6 @@ fn want_options<'a, const N: usize>(
 }
 
 /// The option at a place.
-#[inline(always)]
 pub fn option_in(options: &Options, i: usize) -> Option<Pick>
     ensures { result ≡ slice_get (listed options.now) i }
 {

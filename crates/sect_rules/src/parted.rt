@@ -74,7 +74,6 @@ fn plain_option(rows: &[Reservation], i: usize) -> Option<Pick>
 }
 
 /// The option at a place, where so many reservations are obligatory.
-#[inline(never)]
 fn mixed_option(rows: &[Reservation], musts: usize, i: usize) -> Option<Pick>
     requires differ { IsTrue (all_differ (map (λ r. r.id.0) rows.now)) }
     requires musts { musts ≡ count_by (of_part true) rows.now }

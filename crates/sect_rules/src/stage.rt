@@ -134,7 +134,6 @@ impl<'a, const N: usize> Stage<'a, N> {
     }
 
     /// The option at a place.
-    #[inline(always)]
     fn option_at(&self, i: usize) -> Option<Pick>
         ensures { result ≡ slice_get (options_at self.now.world self.now.mv self.now.path) i }
     {
