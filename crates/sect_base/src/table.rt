@@ -44,6 +44,7 @@ impl<V: Copy> Table<V> {
     }
 
     /// The value of a number. It takes no memory.
+    #[inline(always)]
     #[tactic(auto, unfolding(crate::specs::Table::value_at))]
     pub fn get(&self, number: u32) -> Option<V>
         ensures { result ≡ value_at self.now number }

@@ -119,6 +119,7 @@ impl Catalogue {
     }
 
     /// The section of an id. It takes no memory.
+    #[inline(always)]
     pub fn section(&self, id: SectionId) -> Option<&SectionRow>
         ensures { option_copied result ≡ find_section self.now.rows id }
     {

@@ -68,6 +68,7 @@ impl Index {
     }
 
     /// The place of a section.
+    #[inline(always)]
     pub fn section(&self, id: u32) -> Option<Place>
         ensures { result ≡ place_of self.now (4, id) }
     {
