@@ -19,9 +19,9 @@ fn id(number: u64) -> Id
     }
 }
 
-/// The first day.
-fn first_day() -> Day {
-    match Day::new(0) {
+/// The day of this number.
+fn day(number: u8) -> Day {
+    match Day::new(i32::from(number)) {
         Some(day) => day,
         None => unreachable!(),
     }

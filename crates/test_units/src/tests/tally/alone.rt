@@ -1,7 +1,7 @@
 // It is asked, over a keeper in memory that may fail.
 
-use super::{first_day, id};
-use sect_base::{Chronicle, Day};
+use super::{day, id};
+use sect_base::Chronicle;
 use sect_edge::MemKeeper;
 use sect_once::{Answer, Desk, OpenFault, Tally};
 use std::alloc::Global;
@@ -31,19 +31,11 @@ fn done(answer: Answer<u64>) -> Option<(u32, u64)> {
 fn ask_ones(desk: &mut Desk<Tally, MemKeeper>, count: u64) -> u64 {
     let mut acted = 0u64;
     for number in 0..count {
-        if let Some((_, _)) = done(desk.ask(id(number), first_day(), 1)) {
+        if let Some((_, _)) = done(desk.ask(id(number), day(0), 1)) {
             acted = acted.wrapping_add(1);
         }
     }
     acted
-}
-
-/// The tenth day.
-fn later() -> Day {
-    match Day::new(9) {
-        Some(day) => day,
-        None => unreachable!(),
-    }
 }
 
 #[test]
@@ -52,10 +44,10 @@ fn a_repeat_has_its_kept_reply(rt: HostRuntime) -> Result<(), Fail> {
     let Ok(mut desk) = desk_of(alloc, Vec::new(alloc), Vec::new(alloc)) else {
         panic!(rt; "it opens")
     };
-    assert!(rt; done(desk.ask(id(0), first_day(), 5)) == Some((0, 5)));
-    assert!(rt; done(desk.ask(id(1), first_day(), 7)) == Some((1, 12)));
-    assert!(rt; done(desk.ask(id(0), later(), 5)) == Some((0, 5)));
-    assert!(rt; matches!(desk.ask(id(0), first_day(), 6), Answer::NumberReused(0)));
+    assert!(rt; done(desk.ask(id(0), day(0), 5)) == Some((0, 5)));
+    assert!(rt; done(desk.ask(id(1), day(0), 7)) == Some((1, 12)));
+    assert!(rt; done(desk.ask(id(0), day(9), 5)) == Some((0, 5)));
+    assert!(rt; matches!(desk.ask(id(0), day(0), 6), Answer::NumberReused(0)));
     assert_eq!(rt; desk.acted(), 2);
     assert!(rt; matches!(desk.look(&()), Ok(12)));
     Ok(())
@@ -68,11 +60,11 @@ fn a_fault_of_the_keeper_is_undone(rt: HostRuntime) -> Result<(), Fail> {
         panic!(rt; "it opens")
     };
     assert_eq!(rt; ask_ones(&mut desk, 3), 3);
-    assert!(rt; matches!(desk.ask(id(3), first_day(), 1), Answer::KeeperFault));
+    assert!(rt; matches!(desk.ask(id(3), day(0), 1), Answer::KeeperFault));
     assert_eq!(rt; desk.acted(), 3);
     assert_eq!(rt; desk.len(), 4);
     assert!(rt; matches!(desk.look(&()), Ok(3)));
-    assert!(rt; done(desk.ask(id(3), first_day(), 1)) == Some((3, 4)));
+    assert!(rt; done(desk.ask(id(3), day(0), 1)) == Some((3, 4)));
     assert_eq!(rt; desk.len(), 5);
     Ok(())
 }

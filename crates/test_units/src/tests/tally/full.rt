@@ -1,6 +1,6 @@
 // A log that takes no more.
 
-use super::{first_day, id};
+use super::{day, id};
 use sect_edge::MemKeeper;
 use sect_once::{Answer, Desk, Tally};
 use std::alloc::Global;
@@ -14,7 +14,7 @@ type Sums = Desk<Tally, MemKeeper>;
 
 /// Asks the registrar's request with this number to add so much.
 fn add(desk: &mut Sums, number: u64, count: u8) -> Answer<u64> {
-    desk.ask(id(number), first_day(), count)
+    desk.ask(id(number), day(0), count)
 }
 
 /// A desk that was asked to add one, with each number below the count. None where one isn't answered by its number as its

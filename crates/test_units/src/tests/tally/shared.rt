@@ -4,7 +4,7 @@ ghost use mathlib.Core.List.{IsPrefix};
 ghost use Rattle.sect_once.specs.Tallies.{caller_number};
 ghost use Rattle.sect_turn.specs.Passes.{front, own_calls, share, opening, IsIdle, IsPassOf};
 
-use super::first_day;
+use super::day;
 use sect_base::{Caller, Chronicle, Id, Memory};
 use sect_edge::{Gate, Keeper, Link, MemKeeper, MemLink, MemSink, MemSource, OpenGate};
 use sect_office::{Office, Work, run_all};
@@ -102,7 +102,7 @@ fn place_of<K: Keeper, R: Wait>(
     ensures same { (share pass.new ≡ share pass.old) × (opening pass.new ≡ opening pass.old) }
     ensures grown { IsPrefix (front pass.old) (front pass.new) }
 {
-    match office.ask(rt, pass, id, first_day(), 1) {
+    match office.ask(rt, pass, id, day(0), 1) {
         Answer::Done { place, .. } => Some(place),
         _ => None,
     }
