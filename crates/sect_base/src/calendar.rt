@@ -1,7 +1,7 @@
 // The slots of a week that are taken.
 
 ghost use Rattle.std.specs.Prelude.{◌≡◌, ◌↔◌, ◌<◌, ◌≤◌, ◌+◌, ◌*◌, ◌==◌, ◌&&◌, ◌||◌, ℕ, IsTrue, false, nat_le, nat_lt};
-ghost use Rattle.sect_base.specs.Calendar.{is_set, takes_pair, HasPairsOf, IsClearFor};
+ghost use Rattle.sect_base.specs.Calendar.{is_set, is_of_word, takes_pair, HasPairsOf, IsClearFor};
 ghost use Rattle.sect_base.specs.Pattern.{Pattern, has_bit, meetings_overlap};
 
 use crate::Meeting;
@@ -45,10 +45,8 @@ impl Calendar {
         let days = u64::from(m.days());
         let start = m.start();
         let end = start + m.slots();
-        for day in 0..DAYS {
-            if is_bit_set(days, day) {
-                self.take(day, start, end);
-            }
+        for word in start / 64..(end + 63) / 64 {
+            self.take(days, word, slots_of(start, end, word));
         }
     }
 
@@ -71,36 +69,33 @@ impl Calendar {
         let days = u64::from(m.days());
         let start = m.start();
         let end = start + m.slots();
-        for day in 0..DAYS {
-            if is_bit_set(days, day) && !self.is_free(day, start, end) {
+        for word in start / 64..(end + 63) / 64 {
+            if !self.is_free(days, word, slots_of(start, end, word)) {
                 return false;
             }
         }
         true
     }
 
-    /// Takes the slots of this day from `start` until before `end`.
-    fn take(&mut self, day: u8, start: u16, end: u16)
-        requires day { day < 7 }
-        requires order { start < end }
-        requires midnight { end ≤ 288 }
-        ensures { (d slot : ℕ) → slot < 288 → is_set self.new d slot ≡ (is_set self.old d slot || d == day && nat_le start slot && nat_lt slot end) }
+    /// Takes these slots of the word with this number on each of the days.
+    fn take(&mut self, days: u64, word: u16, slots: u64)
+        requires { word < 5 }
+        ensures { (d slot : ℕ) → slot < 288 → is_set self.new d slot ≡ (is_set self.old d slot || nat_lt d 7 && is_of_word days word slots d slot) }
     {
-        for word in start / 64..(end + 63) / 64 {
-            let at = word_at(day, word);
-            self.words[at] |= slots_of(start, end, word);
+        for day in 0..DAYS {
+            if is_bit_set(days, day) {
+                self.words[word_at(day, word)] |= slots;
+            }
         }
     }
 
-    /// Whether no slot of this day from `start` until before `end` is taken.
-    fn is_free(&self, day: u8, start: u16, end: u16) -> bool
-        requires day { day < 7 }
-        requires order { start < end }
-        requires midnight { end ≤ 288 }
-        ensures { IsTrue result ↔ ((slot : ℕ) → start ≤ slot → slot < end → is_set self.now day slot ≡ false) }
+    /// Whether none of these slots of the word with this number is taken on any of the days.
+    fn is_free(&self, days: u64, word: u16, slots: u64) -> bool
+        requires { word < 5 }
+        ensures { IsTrue result ↔ ((d slot : ℕ) → d < 7 → IsTrue (is_of_word days word slots d slot) → is_set self.now d slot ≡ false) }
     {
-        for word in start / 64..(end + 63) / 64 {
-            if share_bit(self.words[word_at(day, word)], slots_of(start, end, word)) {
+        for day in 0..DAYS {
+            if is_bit_set(days, day) && share_bit(self.words[word_at(day, word)], slots) {
                 return false;
             }
         }
