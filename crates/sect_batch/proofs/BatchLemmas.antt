@@ -1,10 +1,11 @@
 -- A line more: how the world, the lines that are kept and the batch go on together.
-use Rattle.std.specs.Prelude.{◌≡◌, ℕ, zero, suc, ◌+◌, ◌<◌, ◌≤◌, Bool, true, false, ◌==◌, nat_lt, List, [], ◌∷◌, ◌++◌, length, find, slice_get, take, Option, Some, None, Result, Ok, Err, IfOk, OnOk, OnErr, refl}
+use Rattle.std.specs.Prelude.{◌≡◌, ℕ, zero, suc, ◌+◌, ◌<◌, ◌≤◌, Bool, true, false, ◌==◌, nat_lt, List, [], ◌∷◌, ◌++◌, length, filter, find, slice_get, take, Option, Some, None, Result, Ok, Err, IfOk, OnOk, OnErr, refl}
 use Rattle.std.specs.List.{list_all, enumerate_from}
 use Rattle.std.specs.Bool.{then_some}
 use Rattle.std.specs.Option.{is_some, is_none, option_map, option_map_or, option_or}
 use Rattle.std.proofs.Common.{sym, ◌∙◌, ap, subst, arith, get_or}
 use Rattle.std.proofs.lemmas.Bool.Decides.{nat_tests}
+use Rattle.std.proofs.lemmas.List.Elements.{filter-append}
 use Rattle.std.proofs.lemmas.List.{take_more, map-append}
 use Rattle.std.proofs.lemmas.List.FromFn.{length-enumerate_from, get_or-enumerate_from}
 use Rattle.sect_base.specs.Capped.{capped}
@@ -32,7 +33,7 @@ use Rattle.sect_space.specs.Undo.{Since}
 use Rattle.sect_space.proofs.Steps.{since-none, since-more}
 use Rattle.sect_batch.specs.declared.lines.Answer.{Answer}
 use Rattle.sect_batch.specs.declared.lines.Lines.{Lines}
-use Rattle.sect_batch.specs.Lines.{Tells, line_by, mark_by, mark_of, answer_by, answer_to_ask, ask_fits}
+use Rattle.sect_batch.specs.Lines.{Tells, line_by, mark_by, mark_of, is_counted, answer_by, answer_to_ask, ask_fits}
 
 -- ---- what a change led to
 
@@ -105,11 +106,13 @@ on-err (Err x) p = p
 -- ---- a line more
 
 pub told-more : (w v : World) (l m : Lines) (student : StudentId) (rank : ℕ) (answer : Answer) → v ≡ world_after w student answer.result → m.lines.items ≡ l.lines.items ++ line_by student rank answer ∷ []
-    → m.marks.items ≡ l.marks.items ++ mark_by student answer ∷ [] → (b : Batched) (ask : CourseAsk) (line : LineResult) → Tells w l b → answer ≡ answer_by line ask → Tells v m (add_line b student rank ask line)
+    → m.marks.items ≡ l.marks.items ++ filter is_counted (mark_by student answer ∷ []) → (b : Batched) (ask : CourseAsk) (line : LineResult) → Tells w l b → answer ≡ answer_by line ask → Tells v m (add_line b student rank ask line)
 told-more w v l m student rank answer world lines marks b ask line t is = record {
   world = world ∙ (λ i. world_after (t.world i) student (is i).result);
   lines = lines ∙ (λ i. t.lines i ++ line_by student rank (is i) ∷ []) ∙ sym (map-append (λ a. a.line) b.answered (record { line = record { student = student; rank = rank; result = line }; ask = ask } ∷ []));
-  marks = marks ∙ (λ i. t.marks i ++ mark_by student (is i) ∷ []) ∙ sym (map-append mark_of b.answered (record { line = record { student = student; rank = rank; result = line }; ask = ask } ∷ []));
+  marks = marks ∙ (λ i. t.marks i ++ filter is_counted (mark_by student (is i) ∷ []))
+      ∙ sym (filter-append is_counted (map mark_of b.answered) (mark_by student (answer_by line ask) ∷ []))
+      ∙ ap (filter is_counted) (sym (map-append mark_of b.answered (record { line = record { student = student; rank = rank; result = line }; ask = ask } ∷ [])));
 }
 
 -- no line, where the request is a free time

@@ -2,6 +2,7 @@
 use Rattle.std.specs.Prelude.{◌≡◌, ℕ, Bool, true, false, not, ◌&&◌, ◌||◌, ◌==◌, nat_le, cond, List, [], ◌∷◌, length, map, filter, find, count_by, Option, Some, None, Result, Ok, Err, IfOk, refl}
 use Rattle.std.specs.Option.{is_some}
 use Rattle.std.proofs.Common.{sym, ◌∙◌, ap, arith}
+use Rattle.std.proofs.lemmas.Bool.{both_ways}
 use Rattle.std.proofs.lemmas.List.Sums.{length-filter}
 use Rattle.sect_base.specs.declared.ids.StudentId.{StudentId}
 use Rattle.sect_base.specs.declared.ids.CourseId.{CourseId}
@@ -20,7 +21,8 @@ use Rattle.sect_model.specs.Batch.{Answered, Batched, answer_to, held_or, skippe
 use Rattle.sect_model.proofs.Members.{both-left}
 use Rattle.sect_model.proofs.KeptMoves.{found-allowed}
 use Rattle.sect_batch.specs.declared.lines.Lines.{Lines}
-use Rattle.sect_batch.specs.Lines.{Tells, MetFits, mark_of, unmet_of, met_of}
+use Rattle.sect_batch.specs.declared.lines.Mark.{Mark}
+use Rattle.sect_batch.specs.Lines.{Tells, MetFits, mark_of, is_counted, unmet_of, met_of}
 
 -- ---- what marks count
 
@@ -40,6 +42,36 @@ grouped : (a b c : Bool) → a && (b && c) ≡ a && b && c
 grouped true b c = refl
 grouped false b c = refl
 
+both-kept : {X : Type 0} (p q : X → Bool) → ((x : X) → q x ≡ false → p x ≡ false) → (xs : List X) → length (filter p (filter q xs)) ≡ length (filter p xs)
+both-kept p q only [] = refl
+both-kept p q only (x ∷ xs) = by_test (q x) refl (both-kept p q only xs)
+  where
+    one_more : (b : Bool) → length (filter p (filter q xs)) ≡ length (filter p xs) → length (cond b (x ∷ filter p (filter q xs)) (filter p (filter q xs))) ≡ length (cond b (x ∷ filter p xs) (filter p xs))
+    one_more true ih = omega (arith, ih)
+    one_more false ih = ih
+
+    by_test : (b : Bool) → q x ≡ b → length (filter p (filter q xs)) ≡ length (filter p xs)
+        → length (filter p (cond b (x ∷ filter q xs) (filter q xs))) ≡ length (cond (p x) (x ∷ filter p xs) (filter p xs))
+    by_test true e ih = one_more (p x) ih
+    by_test false e ih = ih ∙ (λ i. length (cond (sym (only x e) i) (x ∷ filter p xs) (filter p xs)))
+
+-- marks that aren't counted may be left out
+counted-same : (p : Mark → Bool) → ((m : Mark) → is_counted m ≡ false → p m ≡ false) → (ms : List Mark) → count_by p (filter is_counted ms) ≡ count_by p ms
+counted-same p only ms = sym (length-filter p (filter is_counted ms)) ∙ both-kept p is_counted only ms ∙ length-filter p ms
+
+no_first : (a b c : Bool) → b || c ≡ false → a && b ≡ false
+no_first a true true e = absurd (both_ways true e refl)
+no_first a true false e = absurd (both_ways true e refl)
+no_first true false c e = refl
+no_first false false c e = refl
+
+no_second : (a b c : Bool) → b || c ≡ false → a && c ≡ false
+no_second a true true e = absurd (both_ways true e refl)
+no_second a true false e = absurd (both_ways true e refl)
+no_second a false true e = absurd (both_ways true e refl)
+no_second true false false e = refl
+no_second false false false e = refl
+
 unmet-same : (student : StudentId) (answered : List Answered) → unmet_of student (map mark_of answered) ≡ unmet_requests student answered
 unmet-same student answered =
     count-same (λ a. a.line.student.0 == student.0 && is_unmet a.line.result && not (a.ask.substitute || a.ask.wait)) (λ m. m.student.0 == student.0 && m.unmet) mark_of
@@ -56,10 +88,14 @@ skipped-same : (w : World) (l : Lines) (b : Batched) (student : StudentId) (ask 
 skipped-same w l b student ask t = λ i. ask.substitute && nat_le (unmet i) (met i)
   where
     unmet : unmet_of student l.marks.items ≡ unmet_requests student b.answered
-    unmet = ap (unmet_of student) t.marks ∙ unmet-same student b.answered
+    unmet = ap (unmet_of student) t.marks
+        ∙ counted-same (λ m. m.student.0 == student.0 && m.unmet) (λ m. no_first (m.student.0 == student.0) m.unmet m.met) (map mark_of b.answered)
+        ∙ unmet-same student b.answered
 
     met : met_of student l.marks.items ≡ met_substitutes student b.answered
-    met = ap (met_of student) t.marks ∙ met-same student b.answered
+    met = ap (met_of student) t.marks
+        ∙ counted-same (λ m. m.student.0 == student.0 && m.met) (λ m. no_second (m.student.0 == student.0) m.unmet m.met) (map mark_of b.answered)
+        ∙ met-same student b.answered
 
 -- ---- the line
 

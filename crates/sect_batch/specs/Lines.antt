@@ -1,5 +1,5 @@
 -- The lines of a batch so far, as they are kept.
-use Rattle.std.specs.Prelude.{◌≡◌, ℕ, Bool, true, not, ◌&&◌, ◌||◌, ◌==◌, List, map, count_by, Option, Some, None}
+use Rattle.std.specs.Prelude.{◌≡◌, ℕ, Bool, true, not, ◌&&◌, ◌||◌, ◌==◌, List, map, filter, count_by, Option, Some, None}
 use Rattle.sect_base.specs.declared.ids.StudentId.{StudentId}
 use Rattle.sect_command.specs.declared.reply.Line.{Line}
 use Rattle.sect_command.specs.declared.reply.LineResult.{LineResult}
@@ -36,6 +36,10 @@ answer_by result ask = record { result = result; wait = ask.wait; substitute = a
 abbrev pub mark_of : Answered → Mark
 mark_of a = mark_by a.line.student (answer_by a.line.result a.ask)
 
+-- later lines count the mark
+abbrev pub is_counted : Mark → Bool
+is_counted mark = mark.unmet || mark.met
+
 -- how many of the student's marks are unmet
 abbrev pub unmet_of : StudentId → List Mark → ℕ
 unmet_of student marks = count_by (λ m. m.student.0 == student.0 && m.unmet) marks
@@ -44,11 +48,11 @@ unmet_of student marks = count_by (λ m. m.student.0 == student.0 && m.unmet) ma
 abbrev pub met_of : StudentId → List Mark → ℕ
 met_of student marks = count_by (λ m. m.student.0 == student.0 && m.met) marks
 
--- the world and the lines kept are those of the batch so far
+-- the world and the lines kept are those of the batch so far, and so are the marks that count
 pub record Tells (w : World) (l : Lines) (b : Batched) : Type 0 where
   pub world : w ≡ b.world
   pub lines : l.lines.items ≡ map (λ a. a.line) b.answered
-  pub marks : l.marks.items ≡ map mark_of b.answered
+  pub marks : l.marks.items ≡ filter is_counted (map mark_of b.answered)
 
 -- where the line is met, its choice may be enrolled
 abbrev pub MetFits : World → StudentId → LineResult → Type 0

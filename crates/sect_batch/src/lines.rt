@@ -1,8 +1,8 @@
 // The lines of a batch so far, and what later lines count of them.
 
-ghost use Rattle.std.specs.Prelude.{◌≡◌, ◌&&◌, ◌==◌, ◌++◌, [], ◌∷◌, nat_le, count_by, OnOk};
+ghost use Rattle.std.specs.Prelude.{◌≡◌, ◌&&◌, ◌==◌, ◌++◌, [], ◌∷◌, nat_le, filter, count_by, OnOk};
 ghost use Rattle.sect_model.specs.Batch.{is_unmet as is_line_unmet, is_met as is_line_met};
-ghost use Rattle.sect_batch.specs.Lines.{line_by, mark_by, unmet_of, met_of};
+ghost use Rattle.sect_batch.specs.Lines.{is_counted, line_by, mark_by, unmet_of, met_of};
 
 use sect_base::{Items, Memory, StudentId};
 use sect_command::{Line, LineResult};
@@ -26,7 +26,7 @@ pub struct Mark {
     pub met: bool,
 }
 
-/// The lines of a batch so far, with a mark of each.
+/// The lines of a batch so far, with the marks of those that count.
 #[derive(Drop)]
 pub struct Lines {
     pub lines: Vec<Line>,
@@ -48,9 +48,9 @@ impl Lines {
     /// Puts a line behind the others.
     pub fn push(&mut self, student: StudentId, rank: u8, answer: Answer) -> Result<(), Memory>
         ensures lines { OnOk result (self.new.lines.items ≡ self.old.lines.items ++ line_by student rank answer ∷ []) }
-        ensures marks { OnOk result (self.new.marks.items ≡ self.old.marks.items ++ mark_by student answer ∷ []) }
+        ensures marks { OnOk result (self.new.marks.items ≡ self.old.marks.items ++ filter is_counted (mark_by student answer ∷ [])) }
     {
-        self.marks.push(marked(student, &answer))?;
+        self.keep(marked(student, &answer))?;
         let Answer {
             result,
             wait: _,
@@ -61,6 +61,17 @@ impl Lines {
             rank,
             result,
         })?;
+        Ok(())
+    }
+
+    /// Keeps a mark where later lines count it.
+    fn keep(&mut self, mark: Mark) -> Result<(), Memory>
+        ensures lines { self.new.lines.items ≡ self.old.lines.items }
+        ensures marks { OnOk result (self.new.marks.items ≡ self.old.marks.items ++ filter is_counted (mark ∷ [])) }
+    {
+        if mark.unmet || mark.met {
+            self.marks.push(mark)?;
+        }
         Ok(())
     }
 
