@@ -171,12 +171,12 @@ module _ (ss : List Student) (ids : List StudentId) (places : List ℕ) (k : Kee
       by_entry None h = cc
       by_entry (Some e) h = let same : e.0 ≡ d = cc in sym (λ i. cond (((λ j. (same j).0 == id) ∙ own) i) (Some e.1) None)
 
-  pub found-at : (d : StudentId) → slice_get ids r ≡ Some d → d.0 == id ≡ true → (p : ℕ) → p ≡ get_or places r p → Some p ≡ place_of (λ s. s.row.id.0) ss id
-  found-at d e own p is = sym (slice_get_read places (length places) r p refl within is) ∙ found-own d e own
+  pub found-within : (d : StudentId) → slice_get ids r ≡ Some d → r < length places
+  found-within d e = let y = by_entry entry (sym id_of_entry ∙ e) in slice_get_within places r y.0 (place_of_entry ∙ y.1)
     where
       by_entry : (o : Option (StudentId × ℕ)) → option_map (λ e. e.0) o ≡ Some d → (y : ℕ) × (option_map (λ e. e.1) o ≡ Some y)
       by_entry None h = cc
       by_entry (Some e) h = (e.1, refl)
 
-      within : r < length places
-      within = let y = by_entry entry (sym id_of_entry ∙ e) in slice_get_within places r y.0 (place_of_entry ∙ y.1)
+  pub found-at : (d : StudentId) → slice_get ids r ≡ Some d → d.0 == id ≡ true → (p : ℕ) → p ≡ get_or places r p → Some p ≡ place_of (λ s. s.row.id.0) ss id
+  found-at d e own p is = sym (slice_get_read places (length places) r p refl (found-within d e) is) ∙ found-own d e own

@@ -26,7 +26,7 @@ ghost use Rattle.sect_people.specs.Student.{find_student};
 ghost use Rattle.sect_people.specs.Changes.{put_row, put_asks, with_row, ids_of};
 ghost use Rattle.sect_people.specs.Index.{place_of};
 
-use crate::rank::rank;
+use crate::rank::{guess, rank, stands_at};
 use crate::row::{Ask, StudentRow};
 use crate::student::Student;
 use sect_base::{Items, Memory, StudentId};
@@ -201,8 +201,19 @@ impl People {
         self.students.get(place)
     }
 
-    /// Where the student stands in order of arrival.
+    /// Where the student stands in order of arrival. A right guess is told at once.
     fn place(&self, id: StudentId) -> Option<usize>
+        ensures { result ≡ place_of (λ s. s.row.id.0) self.now id.0 }
+    {
+        let place = guess(self.ids.as_slice(), id);
+        if stands_at(self.ids.as_slice(), id, place) {
+            return Some(self.places[place]);
+        }
+        self.searched_place(id)
+    }
+
+    /// Where the student stands in order of arrival, by a search.
+    fn searched_place(&self, id: StudentId) -> Option<usize>
         ensures { result ≡ place_of (λ s. s.row.id.0) self.now id.0 }
     {
         let rank = rank(self.ids.as_slice(), id);

@@ -1,6 +1,6 @@
 // Searches in lists of ids in rising order.
 
-ghost use Rattle.std.specs.Prelude.{◌≡◌, ◌==◌, ◌≤◌, length, IsTrue};
+ghost use Rattle.std.specs.Prelude.{◌≡◌, ◌==◌, ◌≤◌, length, slice_get, IsTrue, Some};
 ghost use Rattle.std.specs.List.{list_any};
 ghost use Rattle.std.specs.List.Sorted.{IsNonDecreasingBy};
 ghost use Rattle.sect_people.specs.Index.{rank as rank_of};
@@ -22,7 +22,7 @@ pub fn rank(ids: &[StudentId], id: StudentId) -> usize
 }
 
 /// Where the id stands if each between the first and this one is there, but no farther than the end.
-fn guess(ids: &[StudentId], id: StudentId) -> usize
+pub fn guess(ids: &[StudentId], id: StudentId) -> usize
     ensures { result ≤ length ids.now }
 {
     match ids {
@@ -46,6 +46,19 @@ fn passes(ids: &[StudentId], id: StudentId, place: usize) -> bool
     ensures { IsTrue result → place ≤ rank_of (λ d. d.0) id.0 ids.now }
 {
     place == 0 || ids[place - 1].0 < id.0
+}
+
+/// Whether the id stands at the place, and those before it are below.
+pub fn stands_at(ids: &[StudentId], id: StudentId, place: usize) -> bool
+    requires rising { IsNonDecreasingBy (λ d. d.0) ids.now }
+    requires within { place ≤ length ids.now }
+    ensures there { IsTrue result → Some id ≡ slice_get ids.now place }
+    ensures rank { IsTrue result → place ≡ rank_of (λ d. d.0) id.0 ids.now }
+{
+    match ids.get(place) {
+        Some(own) => *own == id && passes(ids, id, place),
+        None => false,
+    }
 }
 
 /// The number of ids below this one, found by halves.

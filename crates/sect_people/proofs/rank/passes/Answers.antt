@@ -1,5 +1,5 @@
 -- An id that is below lies before the rank.
-use Rattle.std.proofs.Common.{◌≤◌, ◌<◌, ◌-◌, length, arith}
+use Rattle.std.proofs.Common.{◌<◌, ◌-◌, length, arith}
 use Rattle.std.proofs.lemmas.Bool.Decides.{nat_tests}
 use Rattle.std.specs.Prelude.{get_or}
 use Rattle.sect_people.proofs.RankLemmas.{lt_rank}
