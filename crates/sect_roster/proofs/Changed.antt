@@ -1,5 +1,5 @@
 -- The elements of all slots after a change of one.
-use Rattle.std.specs.Prelude.{◌≡◌, ℕ, zero, suc, ◌≤◌, ◌==◌, true, List, [], ◌∷◌, ◌++◌, length, insert, refl, slice_set, Result, Ok, Err, OnOk}
+use Rattle.std.specs.Prelude.{◌≡◌, ℕ, zero, suc, ◌≤◌, ◌==◌, true, List, [], ◌∷◌, ◌++◌, length, insert, refl, slice_set, Result, Ok, Err, OnOk, OnErr}
 use Rattle.std.specs.List.{list_all}
 use Rattle.std.proofs.Common.{sym, ◌∙◌, ap, subst, get_or}
 use Rattle.std.proofs.lemmas.Bool.{eq-eqb}
@@ -14,6 +14,10 @@ use Rattle.sect_roster.proofs.SlotLemmas.{Around, around, held-with}
 pub on-ok : {T E P Q : Type 0} (r : Result T E) → (P → Q) → OnOk r P → OnOk r Q
 on-ok (Ok t) f p = f p
 on-ok (Err e) f p = tt
+
+pub on-err : {T E P Q : Type 0} (r : Result T E) → (P → Q) → OnErr r P → OnErr r Q
+on-err (Ok t) f p = tt
+on-err (Err e) f p = f p
 
 -- the slot that a search told and a look-up read
 pub at : {X : Type 0} (key : X → ℕ) (ss read : List (Slotted X)) (n k : ℕ) (s : Slotted X) → are_slots key ss ≡ true → read ≡ ss → HasSlot read n k → s ≡ get_or ss k s → Around key ss n k s
@@ -67,6 +71,11 @@ module _ {X : Type 0} (key : X → ℕ) (ss : List (Slotted X)) (n k : ℕ) (s :
 
   pub put-own : (t : Slotted X) (e : X) → key e ≡ n → t.items ≡ s.items ++ e ∷ [] → list_all (is_of key n) t.items ≡ true
   put-own t e mine is = ap (list_all (is_of key n)) is ∙ list_all-append (is_of key n) s.items (e ∷ []) ∙ both (list_all (is_of key n) s.items) _ a.own (both (is_of key n e) true (eq-eqb (key e) n mine) refl)
+
+  -- the same, or nothing where it went wrong
+  pub pushed-own : {A E : Type 0} (r : Result A E) (t : Slotted X) (e : X) → key e ≡ n → OnOk r (t.items ≡ s.items ++ e ∷ []) → OnErr r (t.items ≡ s.items) → list_all (is_of key n) t.items ≡ true
+  pushed-own (Ok x) t e mine is same = put-own t e mine is
+  pushed-own (Err x) t e mine is same = same-own t same
 
   -- ---- one among the others
 

@@ -112,6 +112,16 @@ impl<R: Filed> Listing<R> {
         Ok(())
     }
 
+    /// Gives an offering a slot, with no room, where there is none: so offerings that come in rising order stand behind one
+    /// another. Where memory runs out, nothing is changed.
+    pub fn add_slot(&mut self, key: u32) -> Result<(), Memory>
+        ensures items { self.new.items ≡ self.old.items }
+        ensures rooms { (m : ℕ) → capacity_of self.old.rooms m ≤ capacity_of self.new.rooms m }
+        ensures spare { self.new.spare ≡ self.old.spare }
+    {
+        self.slots.add_slot(key)
+    }
+
     /// Puts a row behind the others of its offering. Where memory runs out, the rows are as before.
     pub fn insert(&mut self, row: R) -> Result<(), Memory>
         requires { IsNone (find (λ r. R.id_of r == R.id_of row) self.old.items) }

@@ -89,6 +89,16 @@ impl Restrictions {
         self.listing.reserve(offering.0, n)
     }
 
+    /// Gives an offering a slot, with no room, where there is none: so offerings that come in rising order stand behind one
+    /// another. Where memory runs out, nothing is changed.
+    pub fn add_slot(&mut self, offering: OfferingId) -> Result<(), Memory>
+        ensures items { self.new.items ≡ self.old.items }
+        ensures rooms { (m : ℕ) → capacity_of self.old.rooms m ≤ capacity_of self.new.rooms m }
+        ensures spare { self.new.spare ≡ self.old.spare }
+    {
+        self.listing.add_slot(offering.0)
+    }
+
     /// Puts a restriction behind the others of its offering. Where memory runs out, the restrictions
     /// are as before.
     pub fn insert(&mut self, row: Restriction) -> Result<(), Memory>

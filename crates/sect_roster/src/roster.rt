@@ -18,6 +18,7 @@ ghost use Rattle.std.specs.Prelude.{
   IsOk,
   IsTrue,
   OnOk,
+  OnErr,
 };
 ghost use Rattle.std.specs.List.{list_any, position_or_len};
 ghost use Rattle.sect_model.specs.World.{insert_enrolment, is_in};
@@ -98,12 +99,15 @@ impl Roster {
         self.slots.add_slot(student.0)
     }
 
-    /// Puts the enrolment behind the others of its student. It takes no memory.
-    pub fn insert(&mut self, enrolment: Enrolment)
-        requires { number_held enrolment.student.0 self.old.items < capacity_of self.old.rooms enrolment.student.0 }
-        ensures { self.new ≡ record self.old { items = insert_enrolment enrolment self.old.items } }
+    /// Puts the enrolment behind the others of its student. Where memory runs out, the enrolments are as before; it takes none where
+    /// there is room.
+    pub fn push(&mut self, enrolment: Enrolment) -> Result<(), Memory>
+        ensures ok { OnOk result (self.new.items ≡ insert_enrolment enrolment self.old.items) }
+        ensures err { OnErr result (self.new.items ≡ self.old.items) }
+        ensures grows { (m : ℕ) → capacity_of self.old.rooms m ≤ capacity_of self.new.rooms m }
+        ensures enough { number_held enrolment.student.0 self.old.items < capacity_of self.old.rooms enrolment.student.0 → IsOk result }
     {
-        self.slots.insert(enrolment);
+        self.slots.push(enrolment)
     }
 
     /// Takes the student's enrolment in the course out, and gives it back with its place among those of the student. It

@@ -14,6 +14,7 @@ ghost use Rattle.std.specs.Prelude.{
   Some,
   IsOk,
   OnOk,
+  OnErr,
 };
 
 use crate::filed::Keyed;
@@ -87,6 +88,18 @@ impl<R: Keyed + Drop> Slot<R> {
         ensures { self.new ≡ record self.old { items = self.old.items ++ row ∷ [] } }
     {
         self.rows.push_reserved(row);
+    }
+
+    /// Puts a row behind the others, with room made where there is none. Where memory runs out, the rows are as before.
+    pub fn push(&mut self, row: R) -> Result<(), Memory>
+        ensures number { self.new.number ≡ self.old.number }
+        ensures ok { OnOk result (self.new.items ≡ self.old.items ++ row ∷ []) }
+        ensures err { OnErr result (self.new.items ≡ self.old.items) }
+        ensures grows { self.old.capacity ≤ self.new.capacity }
+        ensures enough { length self.old.items < self.old.capacity → IsOk result }
+    {
+        self.rows.push(row)?;
+        Ok(())
     }
 
     /// Takes the row at a place out. It takes no memory.

@@ -16,6 +16,7 @@ ghost use Rattle.std.specs.Prelude.{
   IfNone,
   IfSome,
   OnOk,
+  OnErr,
   false,
   true,
 };
@@ -124,6 +125,18 @@ impl<R: Keyed + Drop> Slots<R> {
             Some(place) => self.slots[place].insert(row),
             None => unreachable!(),
         }
+    }
+
+    /// Puts a row behind the others of its number. Where memory runs out, the rows are as before; it takes none where there is
+    /// room.
+    pub fn push(&mut self, row: R) -> Result<(), Memory>
+        ensures ok { OnOk result (self.new.items ≡ put_behind R.key_of row self.old.items) }
+        ensures err { OnErr result (self.new.items ≡ self.old.items) }
+        ensures grows { (m : ℕ) → capacity_of self.old.rooms m ≤ capacity_of self.new.rooms m }
+        ensures enough { number_of R.key_of (R.key_of row) self.old.items < capacity_of self.old.rooms (R.key_of row) → IsOk result }
+    {
+        let place = slot_for(&mut self.slots, row.key())?;
+        self.slots[place].push(row)
     }
 
     /// Takes the row at a place among those of a number out. It takes no memory.

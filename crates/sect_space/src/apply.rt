@@ -31,7 +31,6 @@ impl World {
         ensures enough { IsTrue (takes_none change) → HasPlace self.old change → 0 < undo.old.spare → IsOk result }
         ensures undoable { Undoable self.old undo.old.backs → Undoable self.new undo.new.backs }
     {
-        undo.reserve(1)?;
         self.make(change, undo)?;
         Ok(())
     }

@@ -23,7 +23,7 @@ impl Parts {
         ensures enough { IsTrue (takes_none change) → HasPlace (roomed_of self.old) change → IsOk result }
     {
         match change {
-            Change::Offering(row) => self.add_offering(row),
+            Change::Offering(row) => self.put_offering(row),
             Change::Student(row) => self.put_student(row),
             Change::Requests(student, asks) => Ok(self.put_requests(student, asks)),
             Change::Reserve(row) => self.add_reservation(row),

@@ -23,8 +23,7 @@ impl Parts {
         ensures enough { 0 < free_for (roomed_of self.old) enrolment.student.0 → IsOk result }
     {
         let offering = self.course_offering(enrolment.choice.course);
-        self.roster.reserve(enrolment.student, 1)?;
-        self.roster.insert(enrolment);
+        self.roster.push(enrolment)?;
         Ok(offering)
     }
 

@@ -16,30 +16,32 @@ use sect_base::{CourseId, Memory, OfferingId, StudentId};
 use sect_model::{Change, Enrolment};
 
 impl World {
-    /// Makes a change that fits, and records it behind the others, where there is room. Where memory runs out, nothing is
-    /// changed, and nothing recorded.
+    /// Makes a change that fits, and records it behind the others. Where memory runs out, nothing is changed, and nothing
+    /// recorded.
     pub(crate) fn make(&mut self, change: Change, undo: &mut Undo) -> Result<(), Memory>
-        requires fits { Fits self.old.world change }
-        requires room { 0 < undo.old.spare }
+        requires { Fits self.old.world change }
         ensures ok { OnOk result (Made self.old self.new change (back_of self.old.world change)) }
         ensures recorded { OnOk result (undo.new.backs ≡ undo.old.backs ++ back_of self.old.world change ∷ []) }
         ensures err { OnErr result (Unchanged self.old self.new) }
         ensures err_recorded { OnErr result (undo.new.backs ≡ undo.old.backs) }
         ensures uses { KeepsUses self.old self.new }
         ensures spare { undo.old.spare ≤ undo.new.spare + 1 }
-        ensures enough { IsTrue (takes_none change) → HasPlace self.old change → IsOk result }
+        ensures enough { IsTrue (takes_none change) → HasPlace self.old change → 0 < undo.old.spare → IsOk result }
     {
         match change {
             Change::Enrol(enrolment) => {
+                undo.reserve(1)?;
                 let student = enrolment.student;
                 let offering = self.enrol(enrolment)?;
                 undo.push(Back::Enrolled(student, offering));
             }
             Change::Leave(student, course) => {
+                undo.reserve(1)?;
                 let back = self.leave(student, course);
                 undo.push(back);
             }
             quiet => {
+                undo.reserve(1)?;
                 let back = self.change_quietly(quiet)?;
                 undo.push(back);
             }

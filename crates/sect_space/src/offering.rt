@@ -14,8 +14,27 @@ use sect_catalog::{AddFault, OfferingRow};
 use sect_model::Change;
 
 impl Parts {
-    /// Adds an offering that passes its check. Where memory runs out, nothing is changed.
-    pub fn add_offering(&mut self, row: OfferingRow) -> Result<Back, Memory>
+    /// Adds an offering that passes its check. Where memory runs out, nothing is changed. Its reservations and restrictions get
+    /// slots, so that those of offerings that come in order of id stand behind one another.
+    pub fn put_offering(&mut self, row: OfferingRow) -> Result<Back, Memory>
+        requires { Fits (roomed_of self.old).world (Change.Offering row) }
+        ensures ok { IfOk result (λ back. Made (roomed_of self.old) (roomed_of self.new) (Change.Offering row) back) }
+        ensures err { OnErr result (Unchanged (roomed_of self.old) (roomed_of self.new)) }
+    {
+        self.make_slots(row.id)?;
+        self.add_offering(row)
+    }
+
+    /// Makes slots for the reservations and the restrictions of an offering. Where memory runs out, there may be one more.
+    fn make_slots(&mut self, id: OfferingId) -> Result<(), Memory>
+        ensures { Unchanged (roomed_of self.old) (roomed_of self.new) }
+    {
+        self.reservations.add_slot(id)?;
+        self.restrictions.add_slot(id)
+    }
+
+    /// Adds an offering that passes its check, with no slots made. Where memory runs out, nothing is changed.
+    fn add_offering(&mut self, row: OfferingRow) -> Result<Back, Memory>
         requires { Fits (roomed_of self.old).world (Change.Offering row) }
         ensures ok { IfOk result (λ back. Made (roomed_of self.old) (roomed_of self.new) (Change.Offering row) back) }
         ensures err { OnErr result (self.new ≡ self.old) }

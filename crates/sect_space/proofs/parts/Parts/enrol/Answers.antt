@@ -1,8 +1,7 @@
 -- One enrolment more, where there was room or room was made.
-use Rattle.std.proofs.Common.{◌≤◌, ◌∙◌, ap, sym, subst, arith}
+use Rattle.std.proofs.Common.{◌≤◌, sym, subst, arith}
 use Rattle.sect_model.specs.World.{insert_enrolment}
 use Rattle.sect_numbers.proofs.MoreLemmas.{inserted}
-use Rattle.sect_roster.specs.Slots.{capacity_of}
 use Rattle.sect_roster.specs.Rostered.{number_held}
 use Rattle.sect_space.specs.declared.back.Back.TheVariants.{Enrolled}
 use Rattle.sect_space.specs.Parts.{roomed_of}
@@ -12,8 +11,7 @@ use Rattle.sect_space.proofs.parts.Parts.enrol.Goals as goal
 pub returns-clause-ok : goal.returns-clause-ok
 returns-clause-ok c =
     let old = c.args.self.now in
-    let e = ap (λ v. v.items) c.insert.ensures ∙ ap (insert_enrolment c.args.enrolment) c.reserve.ensures.items in
-    let rooms = ap (λ v. v.rooms) c.insert.ensures in
+    let e = c.in_ok-push.ensures.ok in
     record {
       world = λ i. record {
         catalogue = old.catalogue;
@@ -25,9 +23,9 @@ returns-clause-ok c =
       };
       recorded = λ i. Enrolled c.args.enrolment.student (c.course_offering-offering.ensures i);
       room = record {
-        roster = λ n. room-more (roomed_of old) (roomed_of (record old { roster = c.insert.new.self })) n
+        roster = λ n. room-more (roomed_of old) (roomed_of (record old { roster = c.push.new.self })) n
             (subst (λ es. number_held n old.roster.items ≤ number_held n es) (sym e) (at-least n old.roster.items (insert_enrolment c.args.enrolment old.roster.items) c.args.enrolment (inserted c.args.enrolment old.roster.items)))
-            (subst (λ rs. capacity_of old.roster.rooms n ≤ capacity_of rs n) (sym rooms) (c.reserve.ensures.grows n));
+            (c.push.ensures.grows n);
         reservations = λ n. omega arith;
         restrictions = λ n. omega arith;
         reservation_ids = omega arith;
