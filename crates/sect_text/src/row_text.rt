@@ -2,17 +2,16 @@
 
 ghost use Rattle.std.specs.Prelude.{◌≡◌, ◌≤◌, ◌+◌, ◌++◌, ◌∷◌, [], OnOk, OnErr, drop, length, take};
 ghost use Rattle.sect_words.specs.Parts.{sentence};
-ghost use Rattle.sect_words.specs.Words.{caller_text};
 ghost use Rattle.sect_text.specs.Commands.{command_text};
 ghost use Rattle.sect_text.specs.Replies.{reply_text};
 ghost use Rattle.sect_text.specs.Rows.{is_marked as has_mark, behind_mark, row_front, id_words, row_text};
 
 use crate::command_text::print_verb;
 use crate::reply_text::print_answer_words;
-use sect_base::{Caller, Day, Id, Memory};
+use sect_base::{Day, Id, Memory};
 use sect_command::{Command, Reply};
 use sect_once::Entry;
-use sect_words::{print_bytes, put, put_day, put_long, put_marked};
+use sect_words::{print_bytes, put, put_caller, put_day, put_long};
 
 /// Whether the command has a first day, or a class other than 5. It takes no memory.
 pub fn is_marked(command: &Command) -> bool
@@ -37,19 +36,6 @@ fn put_mark(marked: bool, bytes: &mut [u8], end: usize) -> usize
         put(b'2', bytes, space)
     } else {
         end
-    }
-}
-
-/// Writes a caller before a place, and returns where it starts.
-fn put_caller(caller: Caller, bytes: &mut [u8], end: usize) -> usize
-    requires { (11 ≤ end) × (end ≤ length bytes.old) }
-    ensures start { (end ≤ result + 11) × (result ≤ end) }
-    ensures written { drop result bytes.new ≡ caller_text caller ++ drop end bytes.old }
-    ensures long { length bytes.new ≡ length bytes.old }
-{
-    match caller {
-        Caller::Registrar(number) => put_marked(b'r', number, bytes, end),
-        Caller::Student(student) => put_marked(b's', student.0, bytes, end),
     }
 }
 

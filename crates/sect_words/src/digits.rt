@@ -1,10 +1,11 @@
-// Numbers, marks and days written from the last to the first into bytes on the stack, so that they are appended in one piece.
+// What is written from the last byte to the first into bytes on the stack, so that it is appended in one piece.
 
 ghost use Rattle.std.specs.Prelude.{◌≡◌, ◌+◌, ◌≤◌, ◌∷◌, ◌++◌, decimal, length, drop};
 ghost use Rattle.sect_words.specs.Days.{day_text};
+ghost use Rattle.sect_words.specs.Words.{caller_text};
 
 use itoa::write_digits;
-use sect_base::{Day, print_day};
+use sect_base::{Caller, Day, print_day};
 
 /// Writes the byte before a place, and returns where it stands.
 pub fn put(byte: u8, bytes: &mut [u8], end: usize) -> usize
@@ -71,4 +72,17 @@ pub fn put_day(day: Day, bytes: &mut [u8], end: usize) -> usize
     ensures long { length bytes.new ≡ length bytes.old }
 {
     put_bytes(&print_day(day), bytes, end)
+}
+
+/// Writes a caller before a place, and returns where it starts.
+pub fn put_caller(caller: Caller, bytes: &mut [u8], end: usize) -> usize
+    requires { (11 ≤ end) × (end ≤ length bytes.old) }
+    ensures start { (end ≤ result + 11) × (result ≤ end) }
+    ensures written { drop result bytes.new ≡ caller_text caller ++ drop end bytes.old }
+    ensures long { length bytes.new ≡ length bytes.old }
+{
+    match caller {
+        Caller::Registrar(number) => put_marked(b'r', number, bytes, end),
+        Caller::Student(student) => put_marked(b's', student.0, bytes, end),
+    }
 }

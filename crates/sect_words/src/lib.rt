@@ -13,7 +13,7 @@ mod spelled;
 mod spelled_rows;
 mod take;
 
-pub use digits::{put, put_bytes, put_day, put_long, put_marked, put_number};
+pub use digits::{put, put_bytes, put_caller, put_day, put_long, put_marked, put_number};
 pub use fault::Fault;
 pub use parts::Parts;
 pub use printing::{print_bytes, print_number, print_text};

@@ -24,6 +24,7 @@ ghost use Rattle.sect_words.specs.Words.{
   choice_text,
 };
 
+use crate::digits::put_caller;
 use crate::printing::{print_bytes, print_number, print_number_after, print_number_named};
 use sect_base::{
     Block, Caller, Choice, ClassId, ConfigId, CourseId, Curriculum, Day, GroupId, Items, Limit,
@@ -381,10 +382,9 @@ impl Spelled for Caller {
     ghost spelling = { caller_text };
 
     fn print(&self, into: &mut Vec<u8>) -> Result<(), Memory> {
-        match self {
-            Caller::Registrar(number) => print_number_after(b'r', u64::from(*number), into),
-            Caller::Student(student) => print_number_after(b's', u64::from(student.0), into),
-        }
+        let mut bytes = [0; 16];
+        let start = put_caller(*self, &mut bytes, 16);
+        print_bytes(&bytes[start..], into)
     }
 }
 
