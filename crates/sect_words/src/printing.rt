@@ -47,6 +47,7 @@ pub(crate) fn print_number_after(mark: u8, number: u64, into: &mut Vec<u8>) -> R
 
 /// Appends the name and the bytes from a place on, in one piece where the name has 16 bytes at most. After `Memory` a
 /// part of them may stand at the end.
+#[inline(always)]
 pub(crate) fn print_behind_name(
     name: &[u8],
     bytes: &mut [u8; 64],

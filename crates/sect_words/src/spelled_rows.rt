@@ -129,6 +129,7 @@ fn put_first_section(mark: u8, sections: &[SectionId], bytes: &mut [u8], end: us
 }
 
 /// Writes a choice up to its first section at the end of the bytes, and returns where it starts.
+#[inline(always)]
 fn put_choice_front(choice: &Choice, bytes: &mut [u8; 64]) -> usize
     ensures start { (17 ≤ result) × (result ≤ 64) }
     ensures written { drop result bytes.new ≡ choice_front choice.now }
@@ -161,6 +162,7 @@ impl Spelled for Choice {
         print_later(self.sections.as_slice(), into)
     }
 
+    #[inline(always)]
     fn print_named(&self, name: &[u8], mark: u8, into: &mut Vec<u8>) -> Result<(), Memory> {
         let mut bytes = [0; 64];
         let start = put_choice_front(self, &mut bytes);
