@@ -36,6 +36,12 @@ pub of-both : {X : Type 0} (f : CourseId → OfferingRow → List X) (w : World)
     → f course o ≡ option_map_or (λ c. option_map_or (f c) (offering_of w c) []) at []
 of-both f w course at o e h = sym ((λ i. option_map_or (λ c. option_map_or (f c) (offering_of w c) []) (e i) []) ∙ (λ i. option_map_or (f course) (h i) []))
 
+pub of-both_inside : {X Y : Type 0} (f : CourseId → Y → OfferingRow → List X) (w : World) (course : CourseId) (at : Option CourseId) (y : Y) (inside : Option Y) (o : OfferingRow)
+    → at ≡ Some course → inside ≡ Some y → offering_of w course ≡ Some o
+    → f course y o ≡ option_map_or (λ c. option_map_or (λ y. option_map_or (f c y) (offering_of w c) []) inside []) at []
+of-both_inside f w course at y inside o e k h =
+    sym ((λ i. option_map_or (λ c. option_map_or (λ y. option_map_or (f c y) (offering_of w c) []) (k i) []) (e i) []) ∙ (λ i. option_map_or (f course y) (h i) []))
+
 -- where there is no offering, nothing is said
 pub of-none : {X : Type 0} (f : CourseId → OfferingRow → List X) (w : World) (at : Option CourseId) → option_and_then (offering_of w) at ≡ None
     → [] ≡ option_map_or (λ c. option_map_or (f c) (offering_of w c) []) at []

@@ -7,7 +7,7 @@ use Rattle.std.proofs.lemmas.Bool.{eqb-true, eq-eqb}
 use Rattle.std.proofs.lemmas.List.{append-nil}
 use Rattle.std.proofs.lemmas.List.Elements.{filter-append}
 use Rattle.sect_catalog.specs.declared.row.CatalogFault.TheVariants.{Known}
-use Rattle.sect_catalog.specs.Catalogue.{Catalogue, all_configs, all_subparts, find_config}
+use Rattle.sect_catalog.specs.Catalogue.{Catalogue, all_configs, all_subparts, all_sections, find_config, find_section}
 use Rattle.sect_catalog.specs.Fault.{same_kind, subpart_ids, config_ids, row_ids, stands_twice, known_id, are_checked_after, are_checked}
 use Rattle.sect_catalog.specs.Catalogue.{has_course}
 use Rattle.sect_people.specs.Order.{all_differ}
@@ -255,3 +255,22 @@ module _ (w : World) (checked : are_checked w.catalogue.rows ≡ true) where
       sections-apart w.catalogue.rows checked p
       (Members.member-of_flat_map (λ g. g.subparts) (all_configs w.catalogue.rows) s.1 p
       (Members.member-of_flat_map (λ o. o.configs) w.catalogue.rows s.0 s.1 s.3 s.4) s.5)
+
+  -- a configuration of the offering is found there by its id
+  pub config-itself : (course : CourseId) (o : OfferingRow) → offering_of w course ≡ Some o → (g : ConfigRow) → Member o.configs g → config_in o g.id ≡ Some g
+  config-itself course o e g m =
+      find-apart (λ g. g.id.0) o.configs
+      (all-at (λ o. keys_differ (λ g. g.id.0) o.configs) w.catalogue.rows (differ-each (λ g. g.id.0) (λ o. o.configs) w.catalogue.rows (configs-differ w.catalogue.rows checked)) o
+      (offering-member course o e))
+      g m g.id.0 refl
+
+  -- a section of the configuration's subparts is found in the catalogue by its id
+  pub section-itself : (course : CourseId) (config : ConfigId) (p : SubpartRow) → Member (subparts_of w course config) p → (s : SectionRow) → Member p.sections s
+      → find_section w.catalogue.rows s.id ≡ Some s
+  section-itself course config p m s n =
+      let x = subpart-stands course config p m in
+      find-apart (λ s. s.id.0) (all_sections w.catalogue.rows) (sections-differ w.catalogue.rows checked) s
+      (Members.member-of_flat_map (λ p. p.sections) (all_subparts w.catalogue.rows) p s
+      (Members.member-of_flat_map (λ g. g.subparts) (all_configs w.catalogue.rows) x.1 p
+      (Members.member-of_flat_map (λ o. o.configs) w.catalogue.rows x.0 x.1 x.3 x.4) x.5) n)
+      s.id.0 refl

@@ -12,3 +12,4 @@ pub mod ClearLemmas
 pub mod RisingLemmas
 pub mod GroundLemmas
 pub mod PathLemmas
+pub mod PickedLemmas

@@ -6,6 +6,7 @@ pub mod Listed
 pub mod Moment
 pub mod Overlapped
 pub mod Part
+pub mod Picked
 pub mod Place
 pub mod Reserved
 pub mod Rising

@@ -2,16 +2,13 @@
 use Rattle.std.specs.Prelude.{◌≡◌, List, Option, option_copied}
 use Rattle.std.specs.Borrow.{Bor}
 use Rattle.std.specs.Option.{option_and_then}
-use Rattle.sect_model.specs.Data.{Move, Want, Reservation, SubpartRow}
+use Rattle.sect_model.specs.Data.{Move, Reservation, SubpartRow}
 use Rattle.sect_model.specs.World.{World, reservation_of}
-use Rattle.sect_model.specs.Path.{Path, want_at, options_at}
+use Rattle.sect_model.specs.Path.{Path}
 use Rattle.sect_model.specs.Rules.{joined}
 use Rattle.sect_rules.specs.declared.ground.Ground.{Ground}
-use Rattle.sect_rules.specs.declared.options.Options.{Options}
-use Rattle.sect_rules.specs.declared.path.Decisions.{Decisions}
-use Rattle.sect_rules.specs.Decided.{decisions_of, subparts_at}
+use Rattle.sect_rules.specs.Decided.{subparts_at}
 use Rattle.sect_rules.specs.Ground.{IsGroundOf}
-use Rattle.sect_rules.specs.Listed.{listed}
 
 -- a path of a move in a world
 pub record Place : Type 0 where
@@ -20,11 +17,7 @@ pub record Place : Type 0 where
   pub path : Path
 
 -- what is found is what the definitions give
-pub record IsPlace (w : World) (mv : Move) (p : Path) (decisions : Decisions) (want : Option (Bor Want)) (ground : Option Ground) (r : Option (Bor Reservation)) (subparts : List SubpartRow)
-    (options : Options) : Type 0 where
-  pub decided : decisions ≡ decisions_of p
-  pub wanted : option_copied want ≡ want_at mv p
+pub record IsPlace (w : World) (p : Path) (ground : Option Ground) (r : Option (Bor Reservation)) (subparts : List SubpartRow) : Type 0 where
   pub ground_is : IsGroundOf w p.course ground
   pub by : option_copied r ≡ option_and_then (reservation_of w) (joined p.reservation)
   pub parts : subparts ≡ subparts_at w p.course p.config
-  pub listed_is : listed options ≡ options_at w mv p

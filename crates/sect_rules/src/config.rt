@@ -1,23 +1,21 @@
 // The rules on a configuration.
 
-ghost use Rattle.std.specs.Prelude.{◌≡◌, ◌&&◌, Some, not, false, zip, option_copied, IsTrue};
+ghost use Rattle.std.specs.Prelude.{◌≡◌, ◌&&◌, [], Some, not, false, zip, option_copied};
 ghost use Rattle.std.specs.List.{list_any, list_all};
-ghost use Rattle.std.specs.Option.{option_map_or, option_and_then};
-ghost use Rattle.sect_catalog.specs.Catalogue.{places as limit_places};
+ghost use Rattle.std.specs.Option.{option_map_or};
 ghost use Rattle.sect_reserve.specs.Audience.{admits_config as has_config, admits_section as has_section};
 ghost use Rattle.sect_model.specs.World.{offering_of};
 ghost use Rattle.sect_model.specs.Choice.{subparts_of, config_in};
 ghost use Rattle.sect_model.specs.Allowed.{applies_to, restrictions_of, restrictions_for};
 ghost use Rattle.sect_model.specs.Rules.{first_broken, config_rules, is_restricted as restricted_by};
 ghost use Rattle.sect_rules.specs.Ground.{IsGround};
-ghost use Rattle.sect_rules.specs.Standing.{admits_all as admits_places, own_config};
+ghost use Rattle.sect_rules.specs.Standing.{admits_all as admits_places};
 
 use crate::ground::Ground;
 use crate::moment::Moment;
-use crate::place::config_of_offering;
 use crate::reserved::limited;
 use sect_base::{ConfigId, CourseId, Level, Rule, SectionId};
-use sect_catalog::{OfferingRow, SubpartRow};
+use sect_catalog::{ConfigRow, OfferingRow, SubpartRow};
 use sect_reserve::{Includes, Reservation, Restriction, admits_config, admits_section};
 
 /// Whether each section is admitted in its subpart.
@@ -91,26 +89,40 @@ impl Moment<'_> {
         self.any_applies(course, rows) && !self.any_admits(offering, course, config, sections, rows)
     }
 
+    /// Whether restrictions apply, and none of them admits the configuration. Where there are none, nothing is looked up.
+    fn restricts_config(&self, ground: &Ground, course: CourseId, config: ConfigId) -> bool
+        requires ground { IsGround self.now.at ground.now }
+        requires offering { offering_of self.now.at course ≡ Some ground.now.offering.now }
+        ensures { result ≡ restricted_by (subparts_of self.now.at course config) config []
+            (restrictions_for self.now.at self.now.student course ground.now.offering.now.id) }
+    {
+        if ground.restrictions.is_empty() {
+            return false;
+        }
+        self.is_restricted(ground.offering, ground.restrictions, course, config, &[])
+    }
+
     /// The first rule that the choice of a configuration breaks, with its number.
     pub fn config_rule(
         &self,
         ground: &Ground,
         course: CourseId,
         r: Option<&Reservation>,
-        config: ConfigId,
+        row: &ConfigRow,
     ) -> Option<(Rule, u32)>
         requires ground { IsGround self.now.at ground.now }
         requires offering { offering_of self.now.at course ≡ Some ground.now.offering.now }
-        requires own { IsTrue (own_config self.now.at course config) }
-        ensures { result ≡ first_broken (config_rules self.now.at self.now.student ground.now.offering.now course (option_copied r.entry) config) }
+        requires row { config_in ground.now.offering.now row.now.id ≡ Some row.now }
+        ensures { result ≡ first_broken (config_rules self.now.at self.now.student ground.now.offering.now course (option_copied r.entry) row.now.id) }
     {
         self.recall_kept();
+        let config = row.id;
         let closed = self.closed_with(
             ground.offering.id,
             ground.reservations,
             r,
             Level::Config(config),
-            places(ground.offering, config),
+            limited(row.limit),
         );
         if closed.full {
             return Some((Rule::ConfigFull, config.0));
@@ -121,20 +133,10 @@ impl Moment<'_> {
         if excludes_config(r, config) {
             return Some((Rule::NotIncluded, config.0));
         }
-        if self.is_restricted(ground.offering, ground.restrictions, course, config, &[]) {
+        if self.restricts_config(ground, course, config) {
             return Some((Rule::Restricted, config.0));
         }
         None
-    }
-}
-
-/// The places of a configuration of the offering, None where it has no limit or there is none.
-fn places(offering: &OfferingRow, config: ConfigId) -> Option<u64>
-    ensures { result ≡ option_and_then (λ g. limit_places g.limit) (config_in offering.now config) }
-{
-    match config_of_offering(offering, config) {
-        Some(row) => limited(row.limit),
-        None => None,
     }
 }
 

@@ -12,6 +12,7 @@ mod options;
 mod overlap;
 mod parted;
 mod path;
+mod picked;
 mod place;
 mod reservation;
 mod reserved;
@@ -21,7 +22,7 @@ mod section;
 mod stage;
 
 pub use options::option;
-pub use path::{Path, PathOf};
-pub use rules::broken;
+pub use path::{Decisions, Path, PathOf};
+pub use picked::{Picked, pick_of};
 pub use sect_model::Pick;
 pub use stage::Stage;

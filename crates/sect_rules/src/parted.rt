@@ -1,13 +1,14 @@
 // The reservations of an offering as options, one at a time, with nothing sorted.
 
 ghost use Rattle.std.specs.Prelude.{◌≡◌, ◌&&◌, ◌==◌, nat_lt, map, filter, find, count_by, slice_get, true, Some, option_copied, IsTrue};
+ghost use Rattle.std.specs.Option.{option_map};
 ghost use Rattle.sect_people.specs.Order.{all_differ, sorted_by};
 ghost use Rattle.sect_model.specs.declared.pick.Pick.TheVariants.{Reservation as by_reservation};
 ghost use Rattle.sect_model.specs.Path.{reservation_options};
 ghost use Rattle.sect_rules.specs.Part.{is_of_part as of_part, are_plain};
 
 use crate::nth::rises_from;
-use sect_model::Pick;
+use sect_base::ReservationId;
 use sect_reserve::Reservation;
 use std::marker::Model;
 
@@ -48,8 +49,8 @@ impl<'a> Parted<'a> {
     }
 
     /// The option at a place.
-    pub fn get(&self, i: usize) -> Option<Pick>
-        ensures { result ≡ slice_get (reservation_options self.now) i }
+    pub fn get(&self, i: usize) -> Option<Option<ReservationId>>
+        ensures { option_map by_reservation result ≡ slice_get (reservation_options self.now) i }
     {
         if self.plain {
             plain_option(self.rows, i)
@@ -60,51 +61,51 @@ impl<'a> Parted<'a> {
 }
 
 /// The option at a place, where the reservations are options as they stand.
-fn plain_option(rows: &[Reservation], i: usize) -> Option<Pick>
+fn plain_option(rows: &[Reservation], i: usize) -> Option<Option<ReservationId>>
     requires { IsTrue (are_plain rows.now) }
-    ensures { result ≡ slice_get (reservation_options rows.now) i }
+    ensures { option_map by_reservation result ≡ slice_get (reservation_options rows.now) i }
 {
     if i < rows.len() {
         row_option(rows, i)
     } else if i == rows.len() {
-        Some(Pick::Reservation(None))
+        Some(None)
     } else {
         None
     }
 }
 
 /// The option at a place, where so many reservations are obligatory.
-fn mixed_option(rows: &[Reservation], musts: usize, i: usize) -> Option<Pick>
+fn mixed_option(rows: &[Reservation], musts: usize, i: usize) -> Option<Option<ReservationId>>
     requires differ { IsTrue (all_differ (map (λ r. r.id.0) rows.now)) }
     requires musts { musts ≡ count_by (of_part true) rows.now }
-    ensures { result ≡ slice_get (reservation_options rows.now) i }
+    ensures { option_map by_reservation result ≡ slice_get (reservation_options rows.now) i }
 {
     if i < musts {
         part_option(rows, true, i)
     } else if i < rows.len() {
         part_option(rows, false, i - musts)
     } else if i == rows.len() {
-        Some(Pick::Reservation(None))
+        Some(None)
     } else {
         None
     }
 }
 
 /// The reservation at a place, as an option.
-fn row_option(rows: &[Reservation], i: usize) -> Option<Pick>
-    ensures { result ≡ slice_get (map (λ r. by_reservation (Some r.id)) rows.now) i }
+fn row_option(rows: &[Reservation], i: usize) -> Option<Option<ReservationId>>
+    ensures { option_map by_reservation result ≡ slice_get (map (λ r. by_reservation (Some r.id)) rows.now) i }
 {
     let row = rows.get(i)?;
-    Some(Pick::Reservation(Some(row.id)))
+    Some(Some(row.id))
 }
 
 /// The option at a place among the obligatory reservations, or among the others.
-fn part_option(rows: &[Reservation], must: bool, i: usize) -> Option<Pick>
+fn part_option(rows: &[Reservation], must: bool, i: usize) -> Option<Option<ReservationId>>
     requires { IsTrue (all_differ (map (λ r. r.id.0) rows.now)) }
-    ensures { result ≡ slice_get (map (λ r. by_reservation (Some r.id)) (sorted_by (λ r. r.id.0) (filter (of_part must) rows.now))) i }
+    ensures { option_map by_reservation result ≡ slice_get (map (λ r. by_reservation (Some r.id)) (sorted_by (λ r. r.id.0) (filter (of_part must) rows.now))) i }
 {
     let row = nth_reservation(rows, must, i)?;
-    Some(Pick::Reservation(Some(row.id)))
+    Some(Some(row.id))
 }
 
 /// The reservation that `i` others precede by id, among the obligatory ones or among the others.

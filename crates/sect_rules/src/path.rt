@@ -134,7 +134,7 @@ impl<const N: usize> PathOf<N> {
     }
 
     /// The decisions for the next want, with the number of the choices.
-    pub(crate) fn decisions(&self) -> Decisions
+    pub fn decisions(&self) -> Decisions
         ensures { result ≡ decisions_of self.now }
     {
         let _ = &self.cells;

@@ -1,6 +1,7 @@
 // The rows of options, on the ground of a course.
 
 ghost use Rattle.std.specs.Prelude.{◌≡◌, map, Some, [], IsTrue, option_copied};
+ghost use Rattle.std.specs.List.{All};
 ghost use Rattle.std.specs.Option.{option_map_or};
 ghost use Rattle.sect_people.specs.Order.{all_differ};
 ghost use Rattle.sect_model.specs.Allowed.{reservations_of};
@@ -9,6 +10,7 @@ ghost use Rattle.sect_model.specs.Choice.{config_in, subparts_of};
 ghost use Rattle.sect_model.specs.Path.{next_subpart};
 ghost use Rattle.sect_rules.specs.Decided.{subparts_at};
 ghost use Rattle.sect_rules.specs.Ground.{IsGroundOf};
+ghost use Rattle.sect_rules.specs.Picked.{IsConfig, IsSection};
 
 use crate::ground::Ground;
 use crate::place::config_of_offering;
@@ -40,6 +42,7 @@ pub fn configs<'a>(world: &World, course: CourseId, ground: Option<Ground<'a>>) 
     requires { IsGroundOf world.now.world (Some course) ground }
     ensures value { result.now ≡ option_map_or (λ o. o.configs) (offering_of world.now.world course) [] }
     ensures differ { IsTrue (all_differ (map (λ g. g.id.0) result.now)) }
+    ensures found { All (IsConfig world.now.world (Some course)) result.now }
 {
     let _ = course;
     world.recall_kept();
@@ -121,6 +124,7 @@ pub fn next_sections<'a>(
     requires { subparts.now ≡ subparts_of world.now.world course config }
     ensures value { result.now ≡ option_map_or (λ p. p.sections) (next_subpart world.now.world course config sections.now) [] }
     ensures differ { IsTrue (all_differ (map (λ s. s.id.0) result.now)) }
+    ensures found { All (IsSection world.now.world) result.now }
 {
     world.recall_kept();
     match subpart_after(world, course, config, subparts, sections) {

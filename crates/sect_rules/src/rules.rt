@@ -7,33 +7,16 @@ ghost use Rattle.sect_model.specs.Stands.{MoveStands};
 ghost use Rattle.sect_model.specs.World.{offering_of, reservation_of};
 ghost use Rattle.sect_model.specs.Rules.{leaf_of, first_broken, rules_on, joined};
 ghost use Rattle.sect_rules.specs.Ground.{IsGround, IsGroundOf};
+ghost use Rattle.sect_rules.specs.Picked.{pick_of, IsPicked};
 ghost use Rattle.sect_rules.specs.Standing.{stands};
 
 use crate::ground::Ground;
 use crate::moment::Moment;
 use crate::path::PathOf;
-use crate::stage::Stage;
+use crate::picked::Picked;
 use sect_base::{CourseId, Move, Rule, Want};
-use sect_model::Pick;
 use sect_reserve::Reservation;
 use sect_space::World;
-
-/// The first rule, in the order of their numbers, that the decision breaks, with its number; tested in the
-/// world after the courses given up have left and the choices made so far were added. The decision
-/// is one of the path's options. Only the student's own enrolments are read. It takes no memory.
-pub fn broken<const N: usize>(
-    world: &World,
-    mv: &Move,
-    path: &PathOf<N>,
-    pick: Pick,
-) -> Option<(Rule, u32)>
-    requires stands { MoveStands world.now.world mv.now }
-    requires option { Contains (options_at world.now.world mv.now path.now) pick }
-    ensures { result ≡ leaf_of world.now.world mv.now path.now pick }
-{
-    path.is_short();
-    Stage::new(world, mv, path).broken(path, pick)
-}
 
 /// The first rule that the decision breaks, where the want, the ground and the reservation of the path are found.
 pub fn broken_at<const N: usize>(
@@ -43,17 +26,18 @@ pub fn broken_at<const N: usize>(
     want: Option<&Want>,
     ground: Option<Ground>,
     r: Option<&Reservation>,
-    pick: Pick,
+    picked: &Picked,
 ) -> Option<(Rule, u32)>
     requires stands { MoveStands world.now.world mv.now }
-    requires option { Contains (options_at world.now.world mv.now path.now) pick }
+    requires option { Contains (options_at world.now.world mv.now path.now) (pick_of picked.now) }
+    requires row { IsPicked world.now.world path.now.course picked.now }
     requires want { option_copied want ≡ want_at mv.now path.now }
     requires ground { IsGroundOf world.now.world path.now.course ground }
     requires joined { option_copied r ≡ option_and_then (reservation_of world.now.world) (joined path.now.reservation) }
-    ensures { result ≡ leaf_of world.now.world mv.now path.now pick }
+    ensures { result ≡ leaf_of world.now.world mv.now path.now (pick_of picked.now) }
 {
     match want {
-        Some(want) => first_rule(&Moment::new(world, mv, path), ground, r, want, path, pick),
+        Some(want) => first_rule(&Moment::new(world, mv, path), ground, r, want, path, picked),
         None => None,
     }
 }
@@ -65,19 +49,20 @@ fn first_rule<const N: usize>(
     r: Option<&Reservation>,
     want: &Want,
     path: &PathOf<N>,
-    pick: Pick,
+    picked: &Picked,
 ) -> Option<(Rule, u32)>
-    requires stands { IsTrue (stands at.now.at path.now pick) }
+    requires stands { IsTrue (stands at.now.at path.now (pick_of picked.now)) }
+    requires row { IsPicked at.now.at path.now.course picked.now }
     requires ground { IsGroundOf at.now.at path.now.course ground }
     requires joined { option_copied r ≡ option_and_then (reservation_of at.now.at) (joined path.now.reservation) }
-    ensures { result ≡ first_broken (rules_on at.now.at at.now.student want.now path.now pick) }
+    ensures { result ≡ first_broken (rules_on at.now.at at.now.student want.now path.now (pick_of picked.now)) }
 {
     match ground {
         Some(ground) => match path.course() {
-            Some(course) => rule_on(at, &ground, course, r, want, path, pick),
-            None => rule_on_none(at, want, path, pick),
+            Some(course) => rule_on(at, &ground, course, r, want, path, picked),
+            None => rule_on_none(at, want, path, picked),
         },
-        None => rule_on_none(at, want, path, pick),
+        None => rule_on_none(at, want, path, picked),
     }
 }
 
@@ -89,22 +74,23 @@ fn rule_on<const N: usize>(
     r: Option<&Reservation>,
     want: &Want,
     path: &PathOf<N>,
-    pick: Pick,
+    picked: &Picked,
 ) -> Option<(Rule, u32)>
-    requires stands { IsTrue (stands at.now.at path.now pick) }
+    requires stands { IsTrue (stands at.now.at path.now (pick_of picked.now)) }
+    requires row { IsPicked at.now.at path.now.course picked.now }
     requires ground { IsGround at.now.at ground.now }
     requires course { path.now.course ≡ Some course }
     requires offering { offering_of at.now.at course ≡ Some ground.now.offering.now }
     requires joined { option_copied r ≡ option_and_then (reservation_of at.now.at) (joined path.now.reservation) }
-    ensures { result ≡ first_broken (rules_on at.now.at at.now.student want.now path.now pick) }
+    ensures { result ≡ first_broken (rules_on at.now.at at.now.student want.now path.now (pick_of picked.now)) }
 {
-    match pick {
-        Pick::Course(id) => at.course_rule(id),
-        Pick::Reservation(id) => at.reservation_rule(ground, course, at.named(id)),
-        Pick::Config(id) => at.config_rule(ground, course, r, id),
-        Pick::Section(id) => {
+    match *picked {
+        Picked::Course(id) => at.course_rule(id),
+        Picked::Reservation(id) => at.reservation_rule(ground, course, at.named(id)),
+        Picked::Config(row) => at.config_rule(ground, course, r, row),
+        Picked::Section(row) => {
             let config = path.config()?;
-            at.section_rule(want, ground, course, r, config, path.sections(), id)
+            at.section_rule(want, ground, course, r, config, path.sections(), row)
         }
     }
 }
@@ -114,17 +100,17 @@ fn rule_on_none<const N: usize>(
     at: &Moment,
     want: &Want,
     path: &PathOf<N>,
-    pick: Pick,
+    picked: &Picked,
 ) -> Option<(Rule, u32)>
     requires { option_and_then (offering_of at.now.at) path.now.course ≡ None }
-    ensures { result ≡ first_broken (rules_on at.now.at at.now.student want.now path.now pick) }
+    ensures { result ≡ first_broken (rules_on at.now.at at.now.student want.now path.now (pick_of picked.now)) }
 {
     let _ = want;
     let _ = path;
-    match pick {
-        Pick::Course(id) => at.course_rule(id),
-        Pick::Reservation(_) => None,
-        Pick::Config(_) => None,
-        Pick::Section(_) => None,
+    match *picked {
+        Picked::Course(id) => at.course_rule(id),
+        Picked::Reservation(_) => None,
+        Picked::Config(_) => None,
+        Picked::Section(_) => None,
     }
 }

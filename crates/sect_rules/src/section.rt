@@ -1,17 +1,19 @@
 // The rules on a section.
 
 ghost use Rattle.std.specs.Prelude.{◌≡◌, ◌<◌, ◌==◌, [], ◌∷◌, ◌++◌, Some, not, false, length, map, filter, option_copied, IsTrue};
-ghost use Rattle.std.specs.Option.{option_map_or, option_and_then};
-ghost use Rattle.sect_catalog.specs.Catalogue.{find_section, places as limit_places};
+ghost use Rattle.std.specs.Option.{option_map_or};
+ghost use Rattle.sect_catalog.specs.Catalogue.{find_section};
 ghost use Rattle.sect_reserve.specs.Audience.{admits_section as has_section, empty_or_any};
 ghost use Rattle.sect_model.specs.World.{offering_of, meetings_of};
 ghost use Rattle.sect_model.specs.Choice.{has_parent, subparts_of};
 ghost use Rattle.sect_model.specs.Allowed.{free_times, meets_at, restrictions_for};
 ghost use Rattle.sect_model.specs.Path.{next_subpart};
+ghost use Rattle.sect_model.specs.Space.{places_at};
 ghost use Rattle.sect_model.specs.Rules.{first_broken, least, section_rules, is_restricted as restricted_by};
 ghost use Rattle.sect_base.specs.declared.limit.Level.TheVariants.{Section};
 ghost use Rattle.sect_base.specs.Pattern.{lists_overlap};
 ghost use Rattle.sect_rules.specs.Ground.{IsGround};
+ghost use Rattle.sect_rules.specs.Picked.{IsSection};
 ghost use Rattle.sect_rules.specs.Reserved.{are_own};
 ghost use Rattle.sect_rules.specs.Standing.{own_section};
 ghost use Rattle.sect_rules.specs.Tables.{standing_rules, space_rules, time_rules};
@@ -77,36 +79,13 @@ fn with(sections: Sections, section: SectionId) -> Sections
     all
 }
 
-/// Whether there is a section, and it has a parent that isn't among those chosen.
-fn lacks_parent(sections: &[SectionId], row: Option<&SectionRow>) -> bool
-    ensures { result ≡ option_map_or (λ row. not (has_parent sections.now row)) (option_copied row.entry) false }
+/// Whether the section has a parent that isn't among those chosen.
+fn lacks(sections: &[SectionId], row: &SectionRow) -> bool
+    ensures { result ≡ not (has_parent sections.now row.now) }
 {
-    match row {
-        Some(row) => match row.parent {
-            Some(parent) => !sections.contains(&parent),
-            None => false,
-        },
+    match row.parent {
+        Some(parent) => !sections.contains(&parent),
         None => false,
-    }
-}
-
-/// The places of a section, None where it has no limit or there is none.
-fn places(row: Option<&SectionRow>) -> Option<u64>
-    ensures { result ≡ option_and_then (λ s. limit_places s.limit) (option_copied row.entry) }
-{
-    match row {
-        Some(row) => limited(row.limit),
-        None => None,
-    }
-}
-
-/// When a section meets, if there is one.
-fn meetings_in(row: Option<&SectionRow>) -> &[Meeting]
-    ensures { result.now ≡ option_map_or (λ s. s.meetings) (option_copied row.entry) [] }
-{
-    match row {
-        Some(row) => row.meetings.as_slice(),
-        None => &[],
     }
 }
 
@@ -172,6 +151,33 @@ impl Moment<'_> {
         first_free(meetings, u32::from(rank), 1, asks)
     }
 
+    /// Whether the section of this row has a parent that isn't among those chosen.
+    fn lacks_parent(&self, sections: &[SectionId], row: &SectionRow) -> bool
+        requires { IsSection self.now.at row.now }
+        ensures { result ≡ option_map_or (λ row. not (has_parent sections.now row)) (find_section self.now.at.catalogue.rows row.now.id) false }
+    {
+        let _ = self.student();
+        lacks(sections, row)
+    }
+
+    /// The places of the section of this row, None where it has no limit.
+    fn section_places(&self, row: &SectionRow) -> Option<u64>
+        requires { IsSection self.now.at row.now }
+        ensures { result ≡ places_at self.now.at (Section row.now.id) }
+    {
+        let _ = self.student();
+        limited(row.limit)
+    }
+
+    /// When the section of this row meets.
+    fn section_meetings<'b>(&self, row: &'b SectionRow) -> &'b [Meeting]
+        requires { IsSection self.now.at row.now }
+        ensures { result.now ≡ meetings_of self.now.at row.now.id }
+    {
+        let _ = self.student();
+        row.meetings.as_slice()
+    }
+
     /// The first rule on where a section stands.
     fn standing_rule(
         &self,
@@ -180,16 +186,16 @@ impl Moment<'_> {
         r: Option<&Reservation>,
         config: ConfigId,
         sections: Sections,
-        section: SectionId,
-        row: Option<&SectionRow>,
+        row: &SectionRow,
     ) -> Option<(Rule, u32)>
         requires ground { IsGround self.now.at ground.now }
         requires offering { offering_of self.now.at course ≡ Some ground.now.offering.now }
         requires bound { length sections < 6 }
-        requires row { option_copied row ≡ find_section self.now.at.catalogue.rows section }
+        requires row { IsSection self.now.at row.now }
         ensures { result ≡ first_broken (standing_rules self.now.at self.now.student
-            ground.now.offering.now course (option_copied r.entry) config sections section) }
+            ground.now.offering.now course (option_copied r.entry) config sections row.now.id) }
     {
+        let section = row.id;
         let earlier = sections.as_slice();
         if self.excludes_section(r, ground.offering, course, config, earlier, section) {
             return Some((Rule::NotIncluded, section.0));
@@ -200,7 +206,7 @@ impl Moment<'_> {
         if self.catalogue().is_cancelled(section) {
             return Some((Rule::Cancelled, section.0));
         }
-        if lacks_parent(earlier, row) {
+        if self.lacks_parent(earlier, row) {
             return Some((Rule::Parent, section.0));
         }
         None
@@ -211,20 +217,20 @@ impl Moment<'_> {
         &self,
         ground: &Ground,
         r: Option<&Reservation>,
-        section: SectionId,
-        row: Option<&SectionRow>,
+        row: &SectionRow,
     ) -> Option<(Rule, u32)>
         requires ground { IsGround self.now.at ground.now }
-        requires own { IsTrue (are_own self.now.at ground.now.offering.now.id (Section section)) }
-        requires row { option_copied row ≡ find_section self.now.at.catalogue.rows section }
-        ensures { result ≡ first_broken (space_rules self.now.at (option_copied r.entry) section) }
+        requires own { IsTrue (are_own self.now.at ground.now.offering.now.id (Section row.now.id)) }
+        requires row { IsSection self.now.at row.now }
+        ensures { result ≡ first_broken (space_rules self.now.at (option_copied r.entry) row.now.id) }
     {
+        let section = row.id;
         let closed = self.closed_with(
             ground.offering.id,
             ground.reservations,
             r,
             Level::Section(section),
-            places(row),
+            self.section_places(row),
         );
         if closed.full {
             return Some((Rule::SectionFull, section.0));
@@ -241,13 +247,13 @@ impl Moment<'_> {
         want: &Want,
         r: Option<&Reservation>,
         earlier: &[SectionId],
-        section: SectionId,
-        row: Option<&SectionRow>,
+        row: &SectionRow,
     ) -> Option<(Rule, u32)>
-        requires { option_copied row ≡ find_section self.now.at.catalogue.rows section }
-        ensures { result ≡ first_broken (time_rules self.now.at self.now.student want.now (option_copied r.entry) earlier.now section) }
+        requires { IsSection self.now.at row.now }
+        ensures { result ≡ first_broken (time_rules self.now.at self.now.student want.now (option_copied r.entry) earlier.now row.now.id) }
     {
-        let meetings = meetings_in(row);
+        let section = row.id;
+        let meetings = self.section_meetings(row);
         if let Some(number) = self.least_overlap(r, earlier, section, meetings) {
             return Some((Rule::Overlap, number));
         }
@@ -269,22 +275,22 @@ impl Moment<'_> {
         r: Option<&Reservation>,
         config: ConfigId,
         sections: Sections,
-        section: SectionId,
+        row: &SectionRow,
     ) -> Option<(Rule, u32)>
         requires ground { IsGround self.now.at ground.now }
         requires offering { offering_of self.now.at course ≡ Some ground.now.offering.now }
-        requires own { IsTrue (own_section self.now.at course config sections section) }
+        requires own { IsTrue (own_section self.now.at course config sections row.now.id) }
+        requires row { IsSection self.now.at row.now }
         ensures { result ≡ first_broken (section_rules self.now.at self.now.student want.now
-            ground.now.offering.now course (option_copied r.entry) config sections section) }
+            ground.now.offering.now course (option_copied r.entry) config sections row.now.id) }
     {
         self.recall_kept();
-        let row = self.catalogue().section(section);
-        if let Some(rule) = self.standing_rule(ground, course, r, config, sections, section, row) {
+        if let Some(rule) = self.standing_rule(ground, course, r, config, sections, row) {
             return Some(rule);
         }
-        if let Some(rule) = self.space_rule(ground, r, section, row) {
+        if let Some(rule) = self.space_rule(ground, r, row) {
             return Some(rule);
         }
-        self.time_rule(want, r, sections.as_slice(), section, row)
+        self.time_rule(want, r, sections.as_slice(), row)
     }
 }

@@ -1,21 +1,25 @@
 // A node of a search: a path with what its options and their rules ask for, found once.
 
-ghost use Rattle.std.specs.Prelude.{◌≡◌, ◌≤◌, length, slice_get, Contains, IfSome, option_copied};
-ghost use Rattle.std.specs.Option.{option_and_then};
-ghost use Rattle.sect_model.specs.Path.{options_at, extend, is_complete as has_all};
+ghost use Rattle.std.specs.Prelude.{◌≡◌, ◌≤◌, length, slice_get, Contains, IfSome, Some, option_copied};
+ghost use Rattle.std.specs.Option.{option_and_then, option_map};
+ghost use Rattle.sect_model.specs.declared.pick.Pick.TheVariants.{Section as to_section};
+ghost use Rattle.sect_model.specs.Path.{start as start_path, options_at, extend, is_complete as has_all};
 ghost use Rattle.sect_model.specs.Stands.{MoveStands};
 ghost use Rattle.sect_model.specs.World.{reservation_of};
 ghost use Rattle.sect_model.specs.Rules.{leaf_of, joined as decided};
+ghost use Rattle.sect_rules.specs.Decided.{decisions_of, subparts_at as parts_at};
 ghost use Rattle.sect_rules.specs.Ground.{IsGroundOf};
+ghost use Rattle.sect_rules.specs.Listed.{listed};
+ghost use Rattle.sect_rules.specs.Picked.{pick_of as decision_of, AreFound, IsPicked};
 
 use crate::ground::{Ground, ground_of};
 use crate::options::{Options, all_options, option_in, want_of};
 use crate::path::{Decisions, PathOf};
+use crate::picked::{Picked, pick_of};
 use crate::rows::subparts_at;
 use crate::rules::broken_at;
-use sect_base::{CourseId, Move, ReservationId, Rule, Want};
+use sect_base::{Move, ReservationId, Rule, SectionId};
 use sect_catalog::SubpartRow;
-use sect_model::Pick;
 use sect_reserve::Reservation;
 use sect_space::World;
 use std::marker::Model;
@@ -28,12 +32,9 @@ pub struct Stage<'a, const N: usize> {
     world: &'a World,
     mv: &'a Move,
     path: Snapshot<PathOf<N>>,
-    decisions: Decisions,
-    want: Option<&'a Want>,
     ground: Option<Ground<'a>>,
     joined: Option<&'a Reservation>,
     subparts: &'a [SubpartRow],
-    options: Options<'a>,
 }
 
 impl<'a, const N: usize> Model for Stage<'a, N> {
@@ -43,7 +44,7 @@ impl<'a, const N: usize> Model for Stage<'a, N> {
 
     ghost view = { λ s. record { world = s.world.now.world; mv = s.mv.now; path = s.path.value } };
 
-    ghost invariant = { λ s. IsPlace s.world.now.world s.mv.now s.path.value s.decisions s.want s.ground s.joined s.subparts.now s.options };
+    ghost invariant = { λ s. IsPlace s.world.now.world s.path.value s.ground s.joined s.subparts.now };
 }
 
 impl<'a, const N: usize> Stage<'a, N> {
@@ -51,53 +52,91 @@ impl<'a, const N: usize> Stage<'a, N> {
     pub fn new(world: &'a World, mv: &'a Move, path: &PathOf<N>) -> Stage<'a, N>
         ensures { result ≡ record { world = world.now.world; mv = mv.now; path = path.now } }
     {
+        let course = path.course();
+        let ground = ground_of(world, course);
+        let joined = joined(world, path.reservation());
+        let subparts = subparts_at(world, course, ground, path.config());
+        Stage::on(world, mv, path, ground, joined, subparts)
+    }
+
+    /// The stage of the path with no decision.
+    pub fn start(world: &'a World, mv: &'a Move, path: &PathOf<N>) -> Stage<'a, N>
+        requires { path.now ≡ start_path }
+        ensures { result ≡ record { world = world.now.world; mv = mv.now; path = path.now } }
+    {
+        Stage::on(world, mv, path, None, None, &[])
+    }
+
+    /// The stage of the path with one decision more. What was found is taken over, but for what the decision is about; where
+    /// it completes a choice, the next want begins.
+    #[inline(always)]
+    pub fn next(&self, path: &PathOf<N>, picked: &Picked<'a>) -> Stage<'a, N>
+        requires path { path.now ≡ extend self.now.world self.now.path (decision_of picked.now) }
+        requires row { IsPicked self.now.world self.now.path.course picked.now }
+        ensures { result ≡ record { world = self.now.world; mv = self.now.mv; path = path.now } }
+    {
+        match *picked {
+            Picked::Course(_) => Stage::new(self.world, self.mv, path),
+            Picked::Reservation(id) => self.by(path, id),
+            Picked::Config(row) => self.taking(path, row.subparts.as_slice()),
+            Picked::Section(row) => self.behind(path, row.id),
+        }
+    }
+
+    /// The stage of the path on which a reservation was decided on, or that there is to be none.
+    fn by(&self, path: &PathOf<N>, id: Option<ReservationId>) -> Stage<'a, N>
+        requires course { path.now.course ≡ self.now.path.course }
+        requires config { path.now.config ≡ self.now.path.config }
+        requires by { path.now.reservation ≡ Some id }
+        ensures { result ≡ record { world = self.now.world; mv = self.now.mv; path = path.now } }
+    {
+        let joined = joined(self.world, Some(id));
         Stage::on(
-            world,
-            mv,
+            self.world,
+            self.mv,
             path,
-            ground_of(world, path.course()),
-            joined(world, path.reservation()),
+            self.ground,
+            joined,
+            self.subparts,
         )
     }
 
-    /// The stage of another path of this move. Where its course is the same, the ground is taken over, and where its
-    /// reservation is, what was found of that.
-    #[inline(always)]
-    pub fn other(&self, path: &PathOf<N>) -> Stage<'a, N>
+    /// The stage of a path of the same course and reservation, with the subparts of its configuration.
+    fn taking(&self, path: &PathOf<N>, subparts: &'a [SubpartRow]) -> Stage<'a, N>
+        requires course { path.now.course ≡ self.now.path.course }
+        requires by { path.now.reservation ≡ self.now.path.reservation }
+        requires parts { subparts.now ≡ parts_at self.now.world path.now.course path.now.config }
         ensures { result ≡ record { world = self.now.world; mv = self.now.mv; path = path.now } }
     {
         Stage::on(
             self.world,
             self.mv,
             path,
-            self.ground_for(path.course()),
-            self.joined_for(path.reservation()),
+            self.ground,
+            self.joined,
+            subparts,
         )
     }
 
-    /// The ground of a course.
-    fn ground_for(&self, course: Option<CourseId>) -> Option<Ground<'a>>
-        ensures { IsGroundOf self.now.world course result }
+    /// The stage of the path with a section more. Where that completes a choice, nothing is taken over.
+    fn behind(&self, path: &PathOf<N>, section: SectionId) -> Stage<'a, N>
+        requires { path.now ≡ extend self.now.world self.now.path (to_section section) }
+        ensures { result ≡ record { world = self.now.world; mv = self.now.mv; path = path.now } }
     {
-        if course == self.decisions.course {
-            self.ground
-        } else {
-            ground_of(self.world, course)
+        match path.course() {
+            Some(_) => Stage::on(
+                self.world,
+                self.mv,
+                path,
+                self.ground,
+                self.joined,
+                self.subparts,
+            ),
+            None => Stage::new(self.world, self.mv, path),
         }
     }
 
-    /// The reservation decided on.
-    fn joined_for(&self, reservation: Option<Option<ReservationId>>) -> Option<&'a Reservation>
-        ensures { option_copied result ≡ option_and_then (reservation_of self.now.world) (decided reservation) }
-    {
-        if reservation == self.decisions.reservation {
-            self.joined
-        } else {
-            joined(self.world, reservation)
-        }
-    }
-
-    /// The stage of a path on the ground of its course, by its reservation.
+    /// The stage of a path, with what was found there.
     #[inline(always)]
     fn on(
         world: &'a World,
@@ -105,58 +144,65 @@ impl<'a, const N: usize> Stage<'a, N> {
         path: &PathOf<N>,
         ground: Option<Ground<'a>>,
         joined: Option<&'a Reservation>,
+        subparts: &'a [SubpartRow],
     ) -> Stage<'a, N>
         requires ground { IsGroundOf world.now.world path.now.course ground }
         requires joined { option_copied joined ≡ option_and_then (reservation_of world.now.world) (decided path.now.reservation) }
+        requires parts { subparts.now ≡ parts_at world.now.world path.now.course path.now.config }
         ensures { result ≡ record { world = world.now.world; mv = mv.now; path = path.now } }
     {
-        let want = want_of(mv, path);
-        let subparts = subparts_at(world, path.course(), ground, path.config());
         Stage {
             world,
             mv,
             path: Snapshot::of(path),
-            decisions: path.decisions(),
-            want,
             ground,
             joined,
             subparts,
-            options: all_options(world, want, ground, subparts, path),
         }
     }
 
-    /// The option at a place. None exactly past the last. It takes no memory.
-    pub fn option(&self, i: usize) -> Option<Pick>
-        ensures value { result ≡ slice_get (options_at self.now.world self.now.mv self.now.path) i }
-        ensures option { IfSome result (λ pick. Contains (options_at self.now.world self.now.mv self.now.path) pick) }
+    /// The options of the path.
+    pub fn options(&self, path: &PathOf<N>) -> Options<'a>
+        requires { path.now ≡ self.now.path }
+        ensures listed { listed result ≡ options_at self.now.world self.now.mv self.now.path }
+        ensures found { AreFound self.now.world self.now.path.course result }
     {
-        self.option_at(i)
+        let want = want_of(self.mv, path);
+        all_options(self.world, want, self.ground, self.subparts, path)
     }
 
-    /// The option at a place.
-    fn option_at(&self, i: usize) -> Option<Pick>
-        ensures { result ≡ slice_get (options_at self.now.world self.now.mv self.now.path) i }
+    /// The option at a place among those of the path. None exactly past the last. It takes no memory.
+    pub fn option(&self, options: &Options<'a>, i: usize) -> Option<Picked<'a>>
+        requires listed { listed options.now ≡ options_at self.now.world self.now.mv self.now.path }
+        requires found { AreFound self.now.world self.now.path.course options.now }
+        ensures value { option_map decision_of result ≡ slice_get (options_at self.now.world self.now.mv self.now.path) i }
+        ensures option { IfSome result (λ picked. Contains (options_at self.now.world self.now.mv self.now.path) (decision_of picked)) }
+        ensures row { IfSome result (IsPicked self.now.world self.now.path.course) }
     {
-        option_in(&self.options, i)
+        let _ = &self.world;
+        option_in(options, i)
     }
 
     /// Makes one decision more on the path, which is one of the options.
-    pub fn extend(&self, path: &mut PathOf<N>, pick: Pick)
+    #[inline(always)]
+    pub fn extend(&self, path: &mut PathOf<N>, picked: &Picked)
         requires room { length self.now.mv.take ≤ N }
         requires path { path.old ≡ self.now.path }
-        requires option { Contains (options_at self.now.world self.now.mv self.now.path) pick }
-        ensures { path.new ≡ extend self.now.world self.now.path pick }
+        requires option { Contains (options_at self.now.world self.now.mv self.now.path) (decision_of picked.now) }
+        ensures { path.new ≡ extend self.now.world self.now.path (decision_of picked.now) }
     {
-        path.extend(self.world, self.mv, pick, self.subparts.len());
+        path.extend(self.world, self.mv, pick_of(picked), self.subparts.len());
     }
 
     /// Takes the decision back.
-    pub fn restore(&self, path: &mut PathOf<N>, pick: Pick)
-        requires { path.old ≡ extend self.now.world self.now.path pick }
+    pub fn restore(&self, path: &mut PathOf<N>, picked: &Picked, before: Decisions)
+        requires path { path.old ≡ extend self.now.world self.now.path (decision_of picked.now) }
+        requires before { before ≡ decisions_of self.now.path }
         ensures { path.new ≡ self.now.path }
     {
-        let _ = pick;
-        path.restore(self.decisions);
+        let _ = &self.world;
+        let _ = picked;
+        path.restore(before);
     }
 
     /// Whether each want of the move has its choice on the path.
@@ -167,21 +213,22 @@ impl<'a, const N: usize> Stage<'a, N> {
     }
 
     /// The first rule that the decision breaks, with its number. The decision is one of the options. It takes no memory.
-    pub fn broken(&self, path: &PathOf<N>, pick: Pick) -> Option<(Rule, u32)>
+    pub fn broken(&self, path: &PathOf<N>, picked: &Picked) -> Option<(Rule, u32)>
         requires limit { N ≤ 20 }
         requires stands { MoveStands self.now.world self.now.mv }
         requires path { path.now ≡ self.now.path }
-        requires option { Contains (options_at self.now.world self.now.mv self.now.path) pick }
-        ensures { result ≡ leaf_of self.now.world self.now.mv self.now.path pick }
+        requires option { Contains (options_at self.now.world self.now.mv self.now.path) (decision_of picked.now) }
+        requires row { IsPicked self.now.world self.now.path.course picked.now }
+        ensures { result ≡ leaf_of self.now.world self.now.mv self.now.path (decision_of picked.now) }
     {
         broken_at(
             self.world,
             self.mv,
             path,
-            self.want,
+            want_of(self.mv, path),
             self.ground,
             self.joined,
-            pick,
+            picked,
         )
     }
 }

@@ -76,7 +76,7 @@ fn find<const N: usize>(
     if path.is_complete(mv) {
         return Ok(Outcome::Found(Items::from_vec(Vec::new(alloc)), 0));
     }
-    let stage = Stage::new(world, mv, &path);
+    let stage = Stage::start(world, mv, &path);
     let mut left = budget.get();
     Ok(
         match below(alloc, &stage, &mut path, decisions(mv), &mut left)? {

@@ -1,16 +1,17 @@
 // Whether a tree refutes every choice.
 
-ghost use Rattle.std.specs.Prelude.{◌≡◌, ◌<◌, ◌≤◌, length, IfSome, Contains, IsTrue, slice_get, option_copied};
+ghost use Rattle.std.specs.Prelude.{◌≡◌, ◌<◌, ◌≤◌, ◌&&◌, not, length, IfSome, Contains, IsTrue, slice_get, option_copied};
 ghost use Rattle.sect_base.specs.TreeOf.{tree_of};
 ghost use Rattle.sect_base.specs.Tree.{split, trees_of, size_of, sizes_of};
 ghost use Rattle.sect_model.specs.Covers.{covers, covers_with, cover_each, is_leaf};
-ghost use Rattle.sect_model.specs.Path.{options_at};
+ghost use Rattle.sect_model.specs.Path.{extend, is_complete, options_at};
 ghost use Rattle.sect_model.specs.Premises.{MoveFits};
 ghost use Rattle.sect_model.specs.Stands.{MoveStands};
+ghost use Rattle.sect_rules.specs.Picked.{pick_of, IsPicked};
 ghost use Rattle.sect_search.specs.Refutes.{NoMove};
 
 use sect_base::{Block, Move, Node, Rule};
-use sect_rules::{PathOf, Pick, broken, option};
+use sect_rules::{PathOf, Picked, Stage};
 use sect_space::World;
 
 /// Whether the tree covers the path with no decision: it has one child for each option, a leaf is
@@ -44,10 +45,15 @@ fn covers_all<const N: usize>(world: &World, mv: &Move, tree: &Block) -> bool
     requires limit { N ≤ 20 }
     ensures { result ≡ covers world.now.world mv.now tree.now }
 {
-    let start = PathOf::<N>::start();
+    let mut path = PathOf::<N>::start();
     match tree.node() {
         Node::Broken(_, _) => false,
-        Node::Split(trees) => !start.is_complete(mv) && cover(world, mv, &start, trees),
+        Node::Split(trees) => {
+            if path.is_complete(mv) {
+                return false;
+            }
+            cover(&Stage::start(world, mv, &path), &mut path, trees)
+        }
     }
 }
 
@@ -86,46 +92,80 @@ fn is_same(leaf: Option<(Rule, u32)>, rule: Rule, number: u32) -> bool
     }
 }
 
-/// Whether the tree covers the path with one decision more.
+/// Whether the tree covers the path with one decision more. The path is as it was.
 #[cycle(covering)]
-fn covers_pick<const N: usize>(
-    world: &World,
-    mv: &Move,
-    path: &PathOf<N>,
-    pick: Pick,
+fn covers_pick<'a, const N: usize>(
+    stage: &Stage<'a, N>,
+    path: &mut PathOf<N>,
+    picked: &Picked<'a>,
     tree: &Block,
 ) -> bool
-    requires stands { MoveStands world.now.world mv.now }
-    requires room { length mv.now.take ≤ N }
-    requires option { Contains (options_at world.now.world mv.now path.now) pick }
-    ensures { result ≡ covers_with world.now.world mv.now path.now pick tree.now }
+    requires stands { MoveStands stage.now.world stage.now.mv }
+    requires room { length stage.now.mv.take ≤ N }
+    requires limit { N ≤ 20 }
+    requires path { path.old ≡ stage.now.path }
+    requires option { Contains (options_at stage.now.world stage.now.mv stage.now.path) (pick_of picked.now) }
+    requires row { IsPicked stage.now.world stage.now.path.course picked.now }
+    ensures covers { result ≡ covers_with stage.now.world stage.now.mv stage.now.path (pick_of picked.now) tree.now }
+    ensures path { path.new ≡ path.old }
 {
-    let leaf = broken(world, mv, path, pick);
+    let leaf = stage.broken(path, picked);
     match tree.node() {
         Node::Broken(rule, number) => is_same(leaf, *rule, *number),
         Node::Split(trees) => {
             if leaf.is_some() {
                 return false;
             }
-            let next = path.extended(world, mv, pick);
             let trees = below(tree, trees);
-            !next.is_complete(mv) && cover(world, mv, &next, trees)
+            let before = path.decisions();
+            stage.extend(path, picked);
+            let covered = covers_behind(stage, path, picked, trees);
+            stage.restore(path, picked, before);
+            covered
         }
     }
 }
 
-/// Whether there are as many trees as options, and each covers its option.
+/// Whether the path behind an option isn't complete, and the trees cover it. The path is as it was.
 #[cycle(covering)]
-fn cover<const N: usize>(world: &World, mv: &Move, path: &PathOf<N>, trees: &[Block]) -> bool
-    requires stands { MoveStands world.now.world mv.now }
-    requires room { length mv.now.take ≤ N }
-    ensures { result ≡ cover_each world.now.world mv.now path.now (options_at world.now.world mv.now path.now) (trees_of trees.now) }
+fn covers_behind<'a, const N: usize>(
+    stage: &Stage<'a, N>,
+    path: &mut PathOf<N>,
+    picked: &Picked<'a>,
+    trees: &[Block],
+) -> bool
+    requires stands { MoveStands stage.now.world stage.now.mv }
+    requires room { length stage.now.mv.take ≤ N }
+    requires limit { N ≤ 20 }
+    requires path { path.old ≡ extend stage.now.world stage.now.path (pick_of picked.now) }
+    requires row { IsPicked stage.now.world stage.now.path.course picked.now }
+    ensures covers { result ≡ not (is_complete stage.now.mv path.old)
+        && cover_each stage.now.world stage.now.mv path.old (options_at stage.now.world stage.now.mv path.old) (trees_of trees.now) }
+    ensures path { path.new ≡ path.old }
 {
+    if stage.is_complete_by(path) {
+        return false;
+    }
+    cover(&stage.next(path, picked), path, trees)
+}
+
+/// Whether there are as many trees as options, and each covers its option. The path is as it was.
+#[cycle(covering)]
+fn cover<const N: usize>(stage: &Stage<N>, path: &mut PathOf<N>, trees: &[Block]) -> bool
+    requires stands { MoveStands stage.now.world stage.now.mv }
+    requires room { length stage.now.mv.take ≤ N }
+    requires limit { N ≤ 20 }
+    requires path { path.old ≡ stage.now.path }
+    ensures covers { result ≡ cover_each stage.now.world stage.now.mv stage.now.path
+        (options_at stage.now.world stage.now.mv stage.now.path) (trees_of trees.now) }
+    ensures path { path.new ≡ path.old }
+{
+    let options = stage.options(path);
     let mut at = 0;
-    'options: while let Some(pick) = option(world, mv, path, at) {
+    'options: while let Some(picked) = stage.option(&options, at) {
         match tree_at(trees, at) {
             Some(tree) => {
-                if !covers_pick(world, mv, path, pick, tree) {
+                if !covers_pick(stage, path, &picked, tree) {
                     return false;
                 }
             }

@@ -5,58 +5,64 @@ use Rattle.std.specs.Option.{option_map_or, option_and_then}
 use Rattle.std.specs.Prelude.{option_copied}
 use Rattle.sect_model.specs.Data.{StudentId, CourseId, Choice}
 use Rattle.sect_model.specs.declared.pick.Pick.{Pick}
-use Rattle.sect_model.specs.declared.pick.Pick.TheVariants.{Course, Reservation, Config, Section}
+use Rattle.sect_model.specs.declared.pick.Pick.TheVariants.{Course as picks_course, Reservation as picks_reservation, Config as picks_config, Section as picks_section}
 use Rattle.sect_model.specs.World.{World, reservation_of}
 use Rattle.sect_model.specs.Path.{Path}
 use Rattle.sect_model.specs.Rules.{leaf_of, world_at, rules_on, first_broken, joined}
 use Rattle.sect_rules.specs.Moment.{moved}
 use Rattle.sect_rules.specs.declared.ground.Ground.{Ground}
+use Rattle.sect_rules.specs.declared.picked.Picked.{Picked}
+use Rattle.sect_rules.specs.declared.picked.Picked.TheVariants.{Course, Reservation, Config, Section}
 use Rattle.sect_rules.specs.Ground.{IsGroundOf}
+use Rattle.sect_rules.specs.Picked.{pick_of, IsPicked}
 use Rattle.sect_rules.specs.Standing.{stands}
 use Rattle.sect_rules.proofs.MomentLemmas.{world-moved}
 use Rattle.sect_rules.proofs.OwnLemmas.{option-stands}
 use Rattle.sect_rules.proofs.rules.broken_at.Goals as goal
 
 stands-moved : (w : World) (st : StudentId) (give : List CourseId) (done : List Choice) (p : Path) (pick : Pick) → stands (moved w st give done) p pick ≡ stands w p pick
-stands-moved w st give done p (Course id) = refl
-stands-moved w st give done p (Reservation id) = refl
-stands-moved w st give done p (Config id) = refl
-stands-moved w st give done p (Section id) = refl
+stands-moved w st give done p (picks_course id) = refl
+stands-moved w st give done p (picks_reservation id) = refl
+stands-moved w st give done p (picks_config id) = refl
+stands-moved w st give done p (picks_section id) = refl
 
 ground-moved : (w : World) (st : StudentId) (give : List CourseId) (done : List Choice) (course : Option CourseId) (ground : Option Ground)
     → IsGroundOf w course ground → IsGroundOf (moved w st give done) course ground
 ground-moved w st give done course ground h = record { offering = h.offering; reservations = h.reservations; restrictions = h.restrictions }
 
+picked-moved : (w : World) (st : StudentId) (give : List CourseId) (done : List Choice) (course : Option CourseId) (picked : Picked) → IsPicked w course picked → IsPicked (moved w st give done) course picked
+picked-moved w st give done course (Course id) h = tt
+picked-moved w st give done course (Reservation id) h = tt
+picked-moved w st give done course (Config row) h = h
+picked-moved w st give done course (Section row) h = h
+
 pub first_rule-requires : goal.first_rule-requires
-first_rule-requires g c =
-    let w = c.args.world.now.world in
-    let mv = c.args.mv.now in
-    let p = c.args.path.now in
-    let at : c.new.result.at ≡ moved w mv.student mv.give p.done = ap (λ m. m.at) c.new.ensures ∙ world-moved w mv p in (
-      search rules,
+first_rule-requires g c = (
+  search rules,
+  (
+    (let w = c.args.world.now.world in let mv = c.args.mv.now in let p = c.args.path.now in let pick = pick_of c.args.picked.now in ap (λ v. stands v p pick) (ap (λ m. m.at) c.new.ensures ∙ world-moved w mv p) ∙ stands-moved w mv.student mv.give p.done p pick ∙ option-stands w mv p pick c.requires.option),
+    (
+      (let w = c.args.world.now.world in let mv = c.args.mv.now in let p = c.args.path.now in subst (λ v. IsPicked v p.course c.args.picked.now) (sym (ap (λ m. m.at) c.new.ensures ∙ world-moved w mv p)) (picked-moved w mv.student mv.give p.done p.course c.args.picked.now c.requires.row)),
       (
-        ap (λ v. stands v p c.args.pick) at
-            ∙ stands-moved w mv.student mv.give p.done p c.args.pick
-            ∙ option-stands w mv p c.args.pick c.requires.option,
-        (
-          subst (λ v. IsGroundOf v p.course c.args.ground) (sym at) (ground-moved w mv.student mv.give p.done p.course c.args.ground c.requires.ground),
-          c.requires.joined ∙ ap (λ v. option_and_then (reservation_of v) (joined p.reservation)) (sym at),
-        ),
+        (let w = c.args.world.now.world in let mv = c.args.mv.now in let p = c.args.path.now in subst (λ v. IsGroundOf v p.course c.args.ground) (sym (ap (λ m. m.at) c.new.ensures ∙ world-moved w mv p)) (ground-moved w mv.student mv.give p.done p.course c.args.ground c.requires.ground)),
+        (let p = c.args.path.now in c.requires.joined ∙ ap (λ v. option_and_then (reservation_of v) (joined p.reservation)) (sym (ap (λ m. m.at) c.new.ensures ∙ world-moved c.args.world.now.world c.args.mv.now p))),
       ),
-    )
+    ),
+  ),
+)
 
 pub returns-in-Some : goal.returns-in-Some
 unfolding leaf_of
 returns-in-Some g c =
     let p = c.args.path.now in
     c.first_rule.ensures
-    ∙ ap (λ m. first_broken (rules_on m.at m.student c.in-Some.want.now p c.args.pick)) c.new.ensures
-    ∙ ap (λ x. option_map_or (λ want. first_broken (rules_on (world_at c.args.world.now.world c.args.mv.now p) c.args.mv.now.student want p c.args.pick)) x None)
+    ∙ ap (λ m. first_broken (rules_on m.at m.student c.in-Some.want.now p (pick_of c.args.picked.now))) c.new.ensures
+    ∙ ap (λ x. option_map_or (λ want. first_broken (rules_on (world_at c.args.world.now.world c.args.mv.now p) c.args.mv.now.student want p (pick_of c.args.picked.now))) x None)
     (ap option_copied (sym c.in-Some.is) ∙ c.requires.want)
 
 pub returns-in-None : goal.returns-in-None
 unfolding leaf_of
 returns-in-None g c =
     let p = c.args.path.now in
-    ap (λ x. option_map_or (λ want. first_broken (rules_on (world_at c.args.world.now.world c.args.mv.now p) c.args.mv.now.student want p c.args.pick)) x None)
+    ap (λ x. option_map_or (λ want. first_broken (rules_on (world_at c.args.world.now.world c.args.mv.now p) c.args.mv.now.student want p (pick_of c.args.picked.now))) x None)
     (ap option_copied (sym c.in-None.is) ∙ c.requires.want)

@@ -1,20 +1,25 @@
 -- what was found is of the course's offering
-use Rattle.std.specs.Prelude.{◌≡◌, Some}
 use Rattle.std.proofs.Common.{rules, sym}
 use Rattle.sect_rules.proofs.GroundLemmas.{its-offering, its-ground}
 use Rattle.sect_rules.proofs.rules.first_rule.Goals as goal
 
 pub rule_on-requires : goal.rule_on-requires
-rule_on-requires g c =
-    let w = c.args.at.now.at in
-    let p = c.args.path.now in
-    let e : p.course ≡ Some c.in-Some-course.course = sym c.in-Some-course.ensures in (
-      search rules,
+rule_on-requires g c = (
+  search rules,
+  (
+    c.requires.stands,
+    (
+      c.requires.row,
       (
-        c.requires.stands,
+        (its-ground c.args.at.now.at c.in-Some-course.course c.args.path.now.course c.args.ground c.in-Some.ground (sym c.in-Some-course.ensures) c.in-Some.is c.requires.ground),
         (
-          its-ground w c.in-Some-course.course p.course c.args.ground c.in-Some.ground e c.in-Some.is c.requires.ground,
-          (e, (its-offering w c.in-Some-course.course p.course c.args.ground c.in-Some.ground e c.in-Some.is c.requires.ground, c.requires.joined)),
+          (sym c.in-Some-course.ensures),
+          (
+            (its-offering c.args.at.now.at c.in-Some-course.course c.args.path.now.course c.args.ground c.in-Some.ground (sym c.in-Some-course.ensures) c.in-Some.is c.requires.ground),
+            c.requires.joined,
+          ),
         ),
       ),
-    )
+    ),
+  ),
+)

@@ -1,5 +1,5 @@
 -- the trees behind cover the options behind
-use Rattle.std.proofs.Common.{◌≡◌, ◌-◌, ◌≤◌, drop, length}
+use Rattle.std.proofs.Common.{◌≡◌, ◌+◌, ◌-◌, ◌*◌, ◌≤◌, drop, length}
 use Rattle.sect_base.specs.Tree.{trees_of, size_of, sizes_of}
 use Rattle.sect_model.specs.Covers.{cover_each}
 use Rattle.sect_model.specs.Path.{options_at}
@@ -7,16 +7,20 @@ use Rattle.sect_search.proofs.verifying.+covering.Given as goal
 
 abbrev pub invariant-cover-options : goal.invariant-cover-options
 invariant-cover-options g l = record {
-  same : cover_each l.world.world l.mv l.path (options_at l.world.world l.mv l.path) (trees_of l.trees)
-      ≡ cover_each l.world.world l.mv l.path (drop l.at (options_at l.world.world l.mv l.path)) (trees_of (drop l.at l.trees));
+  same : cover_each l.stage.world l.stage.mv l.stage.path (options_at l.stage.world l.stage.mv l.stage.path) (trees_of l.trees)
+      ≡ cover_each l.stage.world l.stage.mv l.stage.path (drop l.at (options_at l.stage.world l.stage.mv l.stage.path)) (trees_of (drop l.at l.trees));
   within : l.at ≤ length l.trees;
+  path_is : l.path ≡ l.stage.path;
 }
 
 abbrev pub decreases-cover-options : goal.decreases-cover-options
 decreases-cover-options g l = length l.trees - l.at
 
 abbrev pub decreases-covers_pick : goal.decreases-covers_pick
-decreases-covers_pick g l = size_of l.tree.now
+decreases-covers_pick g l = 2 * size_of l.tree.now
+
+abbrev pub decreases-covers_behind : goal.decreases-covers_behind
+decreases-covers_behind g l = 2 * sizes_of (trees_of l.trees.now) + 1
 
 abbrev pub decreases-cover : goal.decreases-cover
-decreases-cover g l = sizes_of (trees_of l.trees.now)
+decreases-cover g l = 2 * sizes_of (trees_of l.trees.now)

@@ -1,10 +1,12 @@
 -- option by option, with the trees of those in front
-use Rattle.std.proofs.Common.{◌-◌, ◌+◌, sym, ◌∙◌, subst, arith}
+use Rattle.std.proofs.Common.{◌-◌, ◌+◌, sym, ◌∙◌, ap, subst, arith}
 use Rattle.std.specs.Prelude.{◌≡◌, [], None, IfOk}
+use Rattle.std.specs.Option.{option_map}
 use Rattle.sect_model.specs.Path.{options_at, extend, is_complete}
 use Rattle.sect_model.specs.Rules.{leaf_of}
 use Rattle.sect_model.specs.Search.{refuted, search_pick, search_from}
 use Rattle.sect_base.specs.Tree.{trees_of}
+use Rattle.sect_rules.specs.Picked.{pick_of}
 use Rattle.sect_search.specs.Texts.{HaveNumbers}
 use Rattle.sect_search.specs.Told.{seen, SeenNumbers}
 use Rattle.sect_search.proofs.WalkLemmas.{search-some, from, from-spent, from-none, from-found, from-over, from-next, more-numbers}
@@ -19,7 +21,7 @@ below-returns-then-left-eq0-clause-found g t c =
     sym (search-some w mv c.args.decisions p c.args.left.now (omega (arith, c.if-decisions-eq0.false))
     ∙ c.options.invariant.same
     ∙ (λ i. from w mv rest p (options_at w mv p) c.options.trees.items c.options.at (c.if-left-eq0.true i))
-    ∙ from-spent w mv rest p (options_at w mv p) c.options.trees.items c.options.at c.in-Some.pick (sym c.in-Some.ensures.value))
+    ∙ from-spent w mv rest p (options_at w mv p) c.options.trees.items c.options.at (pick_of c.in-Some.picked) (sym c.in-Some.ensures.value))
 
 pub below-returns-in-Found-clause-found : goal.below-returns-in-Found-clause-found
 below-returns-in-Found-clause-found g t c =
@@ -28,7 +30,7 @@ below-returns-in-Found-clause-found g t c =
     let p = c.args.stage.now.path in
     sym (search-some w mv c.args.decisions p c.args.left.now (omega (arith, c.if-decisions-eq0.false))
     ∙ c.options.invariant.same
-    ∙ from-found w mv (search_from w mv (c.args.decisions - 1)) p (options_at w mv p) c.options.trees.items c.options.at (c.options.left - 1) c.options.left c.visit.new.left c.in-Some.pick c.in-Found.choices
+    ∙ from-found w mv (search_from w mv (c.args.decisions - 1)) p (options_at w mv p) c.options.trees.items c.options.at (c.options.left - 1) c.options.left c.visit.new.left (pick_of c.in-Some.picked) c.in-Found.choices
     (sym c.in-Some.ensures.value) (omega (arith, c.if-left-eq0.false)) ((λ i. seen (sym c.in-Found.is i) c.visit.new.left) ∙ c.in_ok-choices.ensures.found))
 
 pub below-returns-in-Spent-clause-found : goal.below-returns-in-Spent-clause-found
@@ -38,7 +40,7 @@ below-returns-in-Spent-clause-found g t c =
     let p = c.args.stage.now.path in
     sym (search-some w mv c.args.decisions p c.args.left.now (omega (arith, c.if-decisions-eq0.false))
     ∙ c.options.invariant.same
-    ∙ from-over w mv (search_from w mv (c.args.decisions - 1)) p (options_at w mv p) c.options.trees.items c.options.at (c.options.left - 1) c.options.left c.in-Some.pick
+    ∙ from-over w mv (search_from w mv (c.args.decisions - 1)) p (options_at w mv p) c.options.trees.items c.options.at (c.options.left - 1) c.options.left (pick_of c.in-Some.picked)
     (sym c.in-Some.ensures.value) (omega (arith, c.if-left-eq0.false)) ((λ i. seen (sym c.in-Spent.is i) c.visit.new.left) ∙ c.in_ok-choices.ensures.found))
 
 pub below-overflow_add-at : goal.below-overflow_add-at
@@ -51,7 +53,7 @@ below-options-preserved g t c =
     let p = c.args.stage.now.path in
     let rest = search_from w mv (c.args.decisions - 1) in record {
       same = c.options.invariant.same
-          ∙ from-next w mv rest p (options_at w mv p) c.options.trees.items c.options.at (c.options.left - 1) c.options.left c.visit.new.left c.in-Some.pick c.in-Refuted.tree
+          ∙ from-next w mv rest p (options_at w mv p) c.options.trees.items c.options.at (c.options.left - 1) c.options.left c.visit.new.left (pick_of c.in-Some.picked) c.in-Refuted.tree
           (sym c.in-Some.ensures.value) (omega (arith, c.if-left-eq0.false)) ((λ i. seen (sym c.in-Refuted.is i) c.visit.new.left) ∙ c.in_ok-choices.ensures.found)
           ∙ (λ i. from w mv rest p (options_at w mv p) (sym c.in_ok-push-in-Refuted.ensures.items i) (c.options.at + 1) c.visit.new.left);
       less = omega (arith, c.options.invariant.less, c.if-left-eq0.false, c.visit.ensures.less);
@@ -68,15 +70,15 @@ below-returns-clause-found g t c =
     let p = c.args.stage.now.path in
     sym (search-some w mv c.args.decisions p c.args.left.now (omega (arith, c.if-decisions-eq0.false))
     ∙ c.options.invariant.same
-    ∙ from-none w mv (search_from w mv (c.args.decisions - 1)) p (options_at w mv p) c.options.trees.items c.options.at c.options.left (sym c.option.ensures.value ∙ c.in_default.is))
+    ∙ from-none w mv (search_from w mv (c.args.decisions - 1)) p (options_at w mv p) c.options.trees.items c.options.at c.options.left (sym c.option.ensures.value ∙ ap (option_map pick_of) c.in_default.is))
 
 pub visit-returns-clause-found : goal.visit-returns-clause-found
 visit-returns-clause-found g t c =
     let w = c.args.stage.now.world in
     let mv = c.args.stage.now.mv in
     let p = c.args.stage.now.path in
-    let e : c.extend.new.path ≡ extend w p c.args.pick = c.extend.ensures in
-    let n : None ≡ leaf_of w mv p c.args.pick = sym c.in_default.is ∙ c.broken.ensures in
+    let e : c.extend.new.path ≡ extend w p (pick_of c.args.picked.now) = c.extend.ensures in
+    let n : None ≡ leaf_of w mv p (pick_of c.args.picked.now) = sym c.in_default.is ∙ c.broken.ensures in
     subst (λ x. IfOk c.behind-visited.result (λ r. seen r c.behind-visited.new.left ≡ x))
     (λ i. search_pick (n i) (is_complete mv (e i)) (e i).done (search_from w mv (c.args.decisions - 1) (e i)) (λ left. refuted [] left) c.args.left.now)
     c.behind-visited.ensures.found
