@@ -37,19 +37,24 @@ picked-moved w st give done course (Config row) h = h
 picked-moved w st give done course (Section row) h = h
 
 pub first_rule-requires : goal.first_rule-requires
-first_rule-requires g c = (
-  search rules,
-  (
-    (let w = c.args.world.now.world in let mv = c.args.mv.now in let p = c.args.path.now in let pick = pick_of c.args.picked.now in ap (λ v. stands v p pick) (ap (λ m. m.at) c.new.ensures ∙ world-moved w mv p) ∙ stands-moved w mv.student mv.give p.done p pick ∙ option-stands w mv p pick c.requires.option),
-    (
-      (let w = c.args.world.now.world in let mv = c.args.mv.now in let p = c.args.path.now in subst (λ v. IsPicked v p.course c.args.picked.now) (sym (ap (λ m. m.at) c.new.ensures ∙ world-moved w mv p)) (picked-moved w mv.student mv.give p.done p.course c.args.picked.now c.requires.row)),
+first_rule-requires g c =
+    let w = c.args.world.now.world in
+    let mv = c.args.mv.now in
+    let p = c.args.path.now in
+    let pick = pick_of c.args.picked.now in
+    let at : c.new.result.at ≡ moved w mv.student mv.give p.done = ap (λ m. m.at) c.new.ensures ∙ world-moved w mv p in (
+      search rules,
       (
-        (let w = c.args.world.now.world in let mv = c.args.mv.now in let p = c.args.path.now in subst (λ v. IsGroundOf v p.course c.args.ground) (sym (ap (λ m. m.at) c.new.ensures ∙ world-moved w mv p)) (ground-moved w mv.student mv.give p.done p.course c.args.ground c.requires.ground)),
-        (let p = c.args.path.now in c.requires.joined ∙ ap (λ v. option_and_then (reservation_of v) (joined p.reservation)) (sym (ap (λ m. m.at) c.new.ensures ∙ world-moved c.args.world.now.world c.args.mv.now p))),
+        ap (λ v. stands v p pick) at ∙ stands-moved w mv.student mv.give p.done p pick ∙ option-stands w mv p pick c.requires.option,
+        (
+          subst (λ v. IsPicked v p.course c.args.picked.now) (sym at) (picked-moved w mv.student mv.give p.done p.course c.args.picked.now c.requires.row),
+          (
+            subst (λ v. IsGroundOf v p.course c.args.ground) (sym at) (ground-moved w mv.student mv.give p.done p.course c.args.ground c.requires.ground),
+            c.requires.joined ∙ ap (λ v. option_and_then (reservation_of v) (joined p.reservation)) (sym at),
+          ),
+        ),
       ),
-    ),
-  ),
-)
+    )
 
 pub returns-in-Some : goal.returns-in-Some
 unfolding leaf_of

@@ -11,25 +11,29 @@ use Rattle.sect_rules.specs.Picked.{pick_of, IsPicked}
 use Rattle.sect_rules.proofs.stage.Stage.broken.Goals as goal
 
 pub broken_at-requires : goal.broken_at-requires
-broken_at-requires g c = (
-  search rules,
-  (
-    (subst (λ v. MoveStands v.world v.mv) (sym c.self.view_is) c.requires.stands),
-    (
-      (let s = c.self.inside in let pick = pick_of c.args.picked.now in subst (λ q. Contains (options_at s.world.now.world s.mv.now q) pick) (ap (λ v. v.path) c.self.view_is ∙ sym c.requires.path) (subst (λ v. Contains (options_at v.world v.mv v.path) pick) (sym c.self.view_is) c.requires.option)),
+broken_at-requires g c =
+    let s = c.self.inside in
+    let w = s.world.now.world in
+    let pick = pick_of c.args.picked.now in
+    let e = ap (λ v. v.path) c.self.view_is ∙ sym c.requires.path in (
+      search rules,
       (
-        (subst (λ q. IsPicked c.self.inside.world.now.world q.course c.args.picked.now) (ap (λ v. v.path) c.self.view_is ∙ sym c.requires.path) (subst (λ v. IsPicked v.world v.path.course c.args.picked.now) (sym c.self.view_is) c.requires.row)),
+        subst (λ v. MoveStands v.world v.mv) (sym c.self.view_is) c.requires.stands,
         (
-          c.want_of.ensures,
+          subst (λ q. Contains (options_at w s.mv.now q) pick) e (subst (λ v. Contains (options_at v.world v.mv v.path) pick) (sym c.self.view_is) c.requires.option),
           (
-            (let s = c.self.inside in subst (λ q. IsGroundOf s.world.now.world q.course s.ground) (ap (λ v. v.path) c.self.view_is ∙ sym c.requires.path) c.self.invariant.ground_is),
-            (c.self.invariant.by ∙ ap (λ q. option_and_then (reservation_of c.self.inside.world.now.world) (joined q.reservation)) (ap (λ v. v.path) c.self.view_is ∙ sym c.requires.path)),
+            subst (λ q. IsPicked w q.course c.args.picked.now) e (subst (λ v. IsPicked v.world v.path.course c.args.picked.now) (sym c.self.view_is) c.requires.row),
+            (
+              c.want_of.ensures,
+              (
+                subst (λ q. IsGroundOf w q.course s.ground) e c.self.invariant.ground_is,
+                c.self.invariant.by ∙ ap (λ q. option_and_then (reservation_of w) (joined q.reservation)) e,
+              ),
+            ),
           ),
         ),
       ),
-    ),
-  ),
-)
+    )
 
 pub returns : goal.returns
 returns g c = c.broken_at.ensures ∙ (λ i. leaf_of (c.self.view_is i).world (c.self.view_is i).mv (c.requires.path i) (pick_of c.args.picked.now))

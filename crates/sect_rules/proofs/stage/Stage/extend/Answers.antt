@@ -7,16 +7,21 @@ use Rattle.sect_rules.proofs.PathLemmas.{due-parts}
 use Rattle.sect_rules.proofs.stage.Stage.extend.Goals as goal
 
 pub extend-requires : goal.extend-requires
-extend-requires g c = (
-  search rules,
-  (
-    (subst (λ v. length v.mv.take ≤ g.row.N) (sym c.self.view_is) c.requires.room),
-    (
-      (let s = c.self.inside in let w = s.world.now.world in let pick = pick_of c.args.picked.now in let e : s.path.value ≡ c.args.path.now = ap (λ v. v.path) c.self.view_is ∙ sym c.requires.path in subst (Contains (options_at w s.mv.now c.args.path.now)) (sym c.pick_of.ensures) (subst (λ q. Contains (options_at w s.mv.now q) pick) e (subst (λ v. Contains (options_at v.world v.mv v.path) pick) (sym c.self.view_is) c.requires.option))),
-      (let s = c.self.inside in let w = s.world.now.world in let e : s.path.value ≡ c.args.path.now = ap (λ v. v.path) c.self.view_is ∙ sym c.requires.path in ap length c.self.invariant.parts ∙ due-parts w s.path.value.course s.path.value.config ∙ (λ i. sections_due w (e i).course (e i).config)),
-    ),
-  ),
-)
+extend-requires g c =
+    let s = c.self.inside in
+    let w = s.world.now.world in
+    let pick = pick_of c.args.picked.now in
+    let e : s.path.value ≡ c.args.path.now = ap (λ v. v.path) c.self.view_is ∙ sym c.requires.path in (
+      search rules,
+      (
+        subst (λ v. length v.mv.take ≤ g.row.N) (sym c.self.view_is) c.requires.room,
+        (
+          subst (Contains (options_at w s.mv.now c.args.path.now)) (sym c.pick_of.ensures)
+              (subst (λ q. Contains (options_at w s.mv.now q) pick) e (subst (λ v. Contains (options_at v.world v.mv v.path) pick) (sym c.self.view_is) c.requires.option)),
+          ap length c.self.invariant.parts ∙ due-parts w s.path.value.course s.path.value.config ∙ (λ i. sections_due w (e i).course (e i).config),
+        ),
+      ),
+    )
 
 pub returns : goal.returns
 returns g c = c.extend.ensures ∙ (λ i. extend (c.self.view_is i).world (c.requires.path i) (c.pick_of.ensures i))

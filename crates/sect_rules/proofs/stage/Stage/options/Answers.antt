@@ -9,13 +9,11 @@ use Rattle.sect_rules.specs.Picked.{AreFound}
 use Rattle.sect_rules.proofs.stage.Stage.options.Goals as goal
 
 pub all_options-requires : goal.all_options-requires
-all_options-requires g c = (
-  search rules,
-  (
-    (let s = c.self.inside in subst (λ q. IsGroundOf s.world.now.world q.course s.ground) (ap (λ v. v.path) c.self.view_is ∙ sym c.requires) c.self.invariant.ground_is),
-    (let s = c.self.inside in c.self.invariant.parts ∙ ap (λ q. subparts_at s.world.now.world q.course q.config) (ap (λ v. v.path) c.self.view_is ∙ sym c.requires)),
-  ),
-)
+all_options-requires g c =
+    let s = c.self.inside in
+    let w = s.world.now.world in
+    let e = ap (λ v. v.path) c.self.view_is ∙ sym c.requires in
+    (search rules, (subst (λ q. IsGroundOf w q.course s.ground) e c.self.invariant.ground_is, c.self.invariant.parts ∙ ap (λ q. subparts_at w q.course q.config) e))
 
 pub returns-clause-listed : goal.returns-clause-listed
 returns-clause-listed g c =
