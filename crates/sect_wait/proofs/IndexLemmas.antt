@@ -1,6 +1,7 @@
 -- The index of a queue: a ticket more or less in it, and what its tickets tell of the entries.
 use Rattle.std.specs.Prelude.{◌≡◌, ℕ, zero, suc, ◌+◌, ◌<◌, Bool, true, false, not, ◌==◌, cond, List, [], ◌∷◌, ◌++◌, length, take, drop, insert, filter, Option, Some, None, Result, Ok, Err, OnOk, OnErr, refl, ◌⊎◌}
 use Rattle.std.specs.List.{list_any, list_all}
+use Rattle.std.specs.Option.{is_some}
 use Rattle.std.specs.BTreeMap.{BTreeMap}
 use Rattle.std.specs.Global.{Vec}
 use Rattle.std.proofs.Common.{sym, ◌∙◌, ap, subst, inl, inr, get_or}
@@ -8,6 +9,8 @@ use Rattle.std.proofs.lemmas.Bool.{eq-eqb, eqb-true}
 use Rattle.std.proofs.lemmas.List.{take_more}
 use Rattle.sect_base.specs.declared.ids.CourseId.{CourseId}
 use Rattle.sect_base.specs.declared.ids.StudentId.{StudentId}
+use Rattle.sect_base.specs.declared.table.Table.{Table}
+use Rattle.sect_base.specs.Table.{value_at, Puts, Stays}
 use Rattle.sect_catalog.proofs.SearchLemmas.{any-append}
 use Rattle.sect_model.specs.declared.held.Waiting.{Waiting}
 use Rattle.sect_model.specs.Freer.{Among}
@@ -15,8 +18,9 @@ use Rattle.sect_model.specs.Settle.{without}
 use Rattle.sect_model.proofs.Members
 use Rattle.sect_model.proofs.Members.{Member, both, both-left, both-right, or-left, or-right, all-at, all-of, any-at, any-of, none-of, not_true, if_false, not_both, decide, member-of_filter, member-append}
 use Rattle.sect_model.proofs.FreerLemmas.{among, member}
+use Rattle.sect_wait.specs.declared.by_student.ByStudent.{ByStudent}
 use Rattle.sect_wait.specs.declared.index.Index.{Index}
-use Rattle.sect_wait.specs.Indexed.{tickets_by, has_ticket, KeepsTickets, KeepsOtherTickets, is_indexed, IsIndexOf, is_told, AreTold}
+use Rattle.sect_wait.specs.Indexed.{tickets_by, own_tickets, has_ticket, KeepsTickets, KeepsOtherTickets, KeepsOwn, KeepsOthersOwn, is_indexed, IsIndexOf, is_told, AreTold}
 use Rattle.sect_wait.proofs.MarkLemmas.{among-append}
 
 -- ---- the tickets of a number
@@ -60,6 +64,45 @@ module _ (old new : BTreeMap ℕ (Vec ℕ)) (number ticket : ℕ) where
   note-has (Ok x) more = put-has more
   note-has (Err x) more = tt
 
+-- ---- the tickets of a student
+
+-- the student is marked, and others may be
+still-marked : (old new : Table Bool) (student n : ℕ) → Puts old new student true → is_some (value_at old n) ≡ true → is_some (value_at new n) ≡ true
+still-marked old new student n puts was = ap is_some (puts n) ∙ by_test (student == n)
+  where
+    by_test : (b : Bool) → is_some (cond b (Some true) (value_at old n)) ≡ true
+    by_test true = refl
+    by_test false = was
+
+module _ (old new : ByStudent) where
+  -- a ticket stands behind those of a student, who was marked before that
+  pub own-noted : (student : ℕ) → Puts old.marked new.marked student true → KeepsTickets old.tickets new.tickets → KeepsOwn old new
+  own-noted student puts keeps n t has = by_mark (is_some (value_at old.marked n)) refl has
+    where
+      by_mark : (b : Bool) → is_some (value_at old.marked n) ≡ b → has_ticket t (cond b (tickets_by old.tickets n) []) ≡ true → has_ticket t (own_tickets new n) ≡ true
+      by_mark true was h = ap (λ b. has_ticket t (cond b (tickets_by new.tickets n) [])) (still-marked old.marked new.marked student n puts was) ∙ keeps n t h
+      by_mark false was h = absurd (not_both false h refl)
+
+  pub own-has : {A E : Type 0} (r : Result A E) (student ticket : ℕ) → Puts old.marked new.marked student true → OnOk r (has_ticket ticket (tickets_by new.tickets student) ≡ true)
+      → OnOk r (has_ticket ticket (own_tickets new student) ≡ true)
+  own-has (Ok x) student ticket puts has =
+      ap (λ b. has_ticket ticket (cond b (tickets_by new.tickets student) []))
+      (ap is_some (puts student) ∙ ap (λ b. is_some (cond b (Some true) (value_at old.marked student))) (eq-eqb student student refl)) ∙ has
+  own-has (Err x) student ticket puts has = tt
+
+  -- marks and tickets stay
+  pub own-stays : Stays old.marked new.marked → new.tickets ≡ old.tickets → KeepsOwn old new
+  own-stays stays same n t has = (λ i. has_ticket t (cond (is_some (stays n i)) (tickets_by (same i) n) [])) ∙ has
+
+  -- the ticket was taken away from those of a student
+  pub own-struck : (ticket : ℕ) → new.marked ≡ old.marked → KeepsOtherTickets ticket old.tickets new.tickets → KeepsOthersOwn ticket old new
+  own-struck ticket same keeps n other differs has =
+      ap (λ (m : Table Bool). has_ticket other (cond (is_some (value_at m n)) (tickets_by new.tickets n) [])) same ∙ by_mark (is_some (value_at old.marked n)) has
+    where
+      by_mark : (b : Bool) → has_ticket other (cond b (tickets_by old.tickets n) []) ≡ true → has_ticket other (cond b (tickets_by new.tickets n) []) ≡ true
+      by_mark true h = keeps n other differs h
+      by_mark false h = h
+
 -- one course more has the ticket
 pub courses-more : (old new : BTreeMap ℕ (Vec ℕ)) (ticket : ℕ) (cs : List CourseId) (i : ℕ) (none : CourseId) → i < length cs → KeepsTickets old new
     → list_all (λ d. has_ticket ticket (tickets_by old d.0)) (take i cs) ≡ true → has_ticket ticket (tickets_by new (get_or cs i none).0) ≡ true
@@ -82,26 +125,26 @@ others-join ticket a b c k l n t differs has = l n t differs (k n t differs has)
 -- ---- the index of entries
 
 module _ (i j : Index) where
-  indexed-kept : KeepsTickets i.students j.students → KeepsTickets i.courses j.courses → (e : Waiting) → is_indexed i e ≡ true → is_indexed j e ≡ true
+  indexed-kept : KeepsOwn i.students j.students → KeepsTickets i.courses j.courses → (e : Waiting) → is_indexed i e ≡ true → is_indexed j e ≡ true
   indexed-kept ss cs e h =
-      both (has_ticket e.ticket (tickets_by j.students e.student.0)) (list_all (λ c. has_ticket e.ticket (tickets_by j.courses c.0)) e.want.courses)
-      (ss e.student.0 e.ticket (both-left (has_ticket e.ticket (tickets_by i.students e.student.0)) _ h))
+      both (has_ticket e.ticket (own_tickets j.students e.student.0)) (list_all (λ c. has_ticket e.ticket (tickets_by j.courses c.0)) e.want.courses)
+      (ss e.student.0 e.ticket (both-left (has_ticket e.ticket (own_tickets i.students e.student.0)) _ h))
       (all-of (λ c. has_ticket e.ticket (tickets_by j.courses c.0)) e.want.courses (λ c m.
-      cs c.0 e.ticket (all-at (λ c. has_ticket e.ticket (tickets_by i.courses c.0)) e.want.courses (both-right (has_ticket e.ticket (tickets_by i.students e.student.0)) _ h) c m)))
+      cs c.0 e.ticket (all-at (λ c. has_ticket e.ticket (tickets_by i.courses c.0)) e.want.courses (both-right (has_ticket e.ticket (own_tickets i.students e.student.0)) _ h) c m)))
 
-  indexed-other : (ticket : ℕ) → KeepsOtherTickets ticket i.students j.students → KeepsOtherTickets ticket i.courses j.courses → (e : Waiting) → e.ticket == ticket ≡ false
+  indexed-other : (ticket : ℕ) → KeepsOthersOwn ticket i.students j.students → KeepsOtherTickets ticket i.courses j.courses → (e : Waiting) → e.ticket == ticket ≡ false
       → is_indexed i e ≡ true → is_indexed j e ≡ true
   indexed-other ticket ss cs e differs h =
-      both (has_ticket e.ticket (tickets_by j.students e.student.0)) (list_all (λ c. has_ticket e.ticket (tickets_by j.courses c.0)) e.want.courses)
-      (ss e.student.0 e.ticket differs (both-left (has_ticket e.ticket (tickets_by i.students e.student.0)) _ h))
+      both (has_ticket e.ticket (own_tickets j.students e.student.0)) (list_all (λ c. has_ticket e.ticket (tickets_by j.courses c.0)) e.want.courses)
+      (ss e.student.0 e.ticket differs (both-left (has_ticket e.ticket (own_tickets i.students e.student.0)) _ h))
       (all-of (λ c. has_ticket e.ticket (tickets_by j.courses c.0)) e.want.courses (λ c m.
-      cs c.0 e.ticket differs (all-at (λ c. has_ticket e.ticket (tickets_by i.courses c.0)) e.want.courses (both-right (has_ticket e.ticket (tickets_by i.students e.student.0)) _ h) c m)))
+      cs c.0 e.ticket differs (all-at (λ c. has_ticket e.ticket (tickets_by i.courses c.0)) e.want.courses (both-right (has_ticket e.ticket (own_tickets i.students e.student.0)) _ h) c m)))
 
   -- an entry more was noted, and others may stand
-  pub index-kept : (es : List Waiting) → j.whole ≡ i.whole → KeepsTickets i.students j.students → KeepsTickets i.courses j.courses → IsIndexOf i es → IsIndexOf j es
+  pub index-kept : (es : List Waiting) → j.whole ≡ i.whole → KeepsOwn i.students j.students → KeepsTickets i.courses j.courses → IsIndexOf i es → IsIndexOf j es
   index-kept es same ss cs k whole e a = indexed-kept ss cs e (k (sym same ∙ whole) e a)
 
-  pub index-joined : (es fs : List Waiting) (e : Waiting) → fs ≡ es ++ e ∷ [] → j.whole ≡ i.whole → KeepsTickets i.students j.students → KeepsTickets i.courses j.courses
+  pub index-joined : (es fs : List Waiting) (e : Waiting) → fs ≡ es ++ e ∷ [] → j.whole ≡ i.whole → KeepsOwn i.students j.students → KeepsTickets i.courses j.courses
       → is_indexed j e ≡ true → IsIndexOf i es → IsIndexOf j fs
   index-joined es fs e is same ss cs noted k whole f a = by_place (among-append es e f (subst (λ gs. Among gs f) is a))
     where
@@ -111,14 +154,14 @@ module _ (i j : Index) where
       by_place (inr (inr a)) = absurd a
 
   -- the entry of the ticket left
-  pub index-left : (es fs : List Waiting) (ticket : ℕ) → fs ≡ without es ticket → j.whole ≡ i.whole → KeepsOtherTickets ticket i.students j.students → KeepsOtherTickets ticket i.courses j.courses
+  pub index-left : (es fs : List Waiting) (ticket : ℕ) → fs ≡ without es ticket → j.whole ≡ i.whole → KeepsOthersOwn ticket i.students j.students → KeepsOtherTickets ticket i.courses j.courses
       → IsIndexOf i es → IsIndexOf j fs
   index-left es fs ticket is same ss cs k whole f a =
       let m = Members.member-filter (λ (e : Waiting). not (e.ticket == ticket)) es f (member (without es ticket) f (subst (λ gs. Among gs f) is a)) in
       indexed-other ticket ss cs f (not_true (f.ticket == ticket) m.1) (k (sym same ∙ whole) f (among es f m.0))
 
   -- the entry came back
-  pub index-back : (es fs : List Waiting) (place : ℕ) (e : Waiting) → fs ≡ insert es place e → (j.whole ≡ true → i.whole ≡ true) → KeepsTickets i.students j.students → KeepsTickets i.courses j.courses
+  pub index-back : (es fs : List Waiting) (place : ℕ) (e : Waiting) → fs ≡ insert es place e → (j.whole ≡ true → i.whole ≡ true) → KeepsOwn i.students j.students → KeepsTickets i.courses j.courses
       → (j.whole ≡ true → is_indexed j e ≡ true) → IsIndexOf i es → IsIndexOf j fs
   index-back es fs place e is was ss cs noted k whole f a = by_place (among-insert es place (subst (λ gs. Among gs f) is a))
     where
@@ -148,15 +191,15 @@ index-front i es fs gs is k whole f a = k whole f (subst (λ hs. Among hs f) (sy
 -- ---- what the index tells
 
 module _ (i : Index) (es : List Waiting) (k : IsIndexOf i es) where
-  pub told-student : (student : StudentId) (told : Option (List ℕ)) → told ≡ cond i.whole (Some (tickets_by i.students student.0)) None → AreTold (λ e. student.0 == e.student.0) es told
+  pub told-student : (student : StudentId) (told : Option (List ℕ)) → told ≡ cond i.whole (Some (own_tickets i.students student.0)) None → AreTold (λ e. student.0 == e.student.0) es told
   told-student student told is e a unmarked = by_whole i.whole refl (ap (λ o. is_told o e.ticket) (sym is) ∙ unmarked)
     where
-      by_student : i.whole ≡ true → has_ticket e.ticket (tickets_by i.students student.0) ≡ false → (b : Bool) → student.0 == e.student.0 ≡ b → b ≡ false
+      by_student : i.whole ≡ true → has_ticket e.ticket (own_tickets i.students student.0) ≡ false → (b : Bool) → student.0 == e.student.0 ≡ b → b ≡ false
       by_student whole none true same =
-          absurd (not_both _ (ap (λ n. has_ticket e.ticket (tickets_by i.students n)) (eqb-true student.0 e.student.0 same) ∙ both-left (has_ticket e.ticket (tickets_by i.students e.student.0)) _ (k whole e a)) none)
+          absurd (not_both _ (ap (λ n. has_ticket e.ticket (own_tickets i.students n)) (eqb-true student.0 e.student.0 same) ∙ both-left (has_ticket e.ticket (own_tickets i.students e.student.0)) _ (k whole e a)) none)
       by_student whole none false same = refl
 
-      by_whole : (b : Bool) → i.whole ≡ b → is_told (cond b (Some (tickets_by i.students student.0)) None) e.ticket ≡ false → student.0 == e.student.0 ≡ false
+      by_whole : (b : Bool) → i.whole ≡ b → is_told (cond b (Some (own_tickets i.students student.0)) None) e.ticket ≡ false → student.0 == e.student.0 ≡ false
       by_whole true whole none = by_student whole none (student.0 == e.student.0) refl
       by_whole false whole none = absurd (not_both true refl none)
 
@@ -167,7 +210,7 @@ module _ (i : Index) (es : List Waiting) (k : IsIndexOf i es) where
       by_course : i.whole ≡ true → has_ticket e.ticket (tickets_by i.courses course.0) ≡ false → (c : CourseId) → Member e.want.courses c → (b : Bool) → course.0 == c.0 ≡ b → b ≡ false
       by_course whole none c m true same =
           absurd (not_both _ (ap (λ n. has_ticket e.ticket (tickets_by i.courses n)) (eqb-true course.0 c.0 same)
-          ∙ all-at (λ c. has_ticket e.ticket (tickets_by i.courses c.0)) e.want.courses (both-right (has_ticket e.ticket (tickets_by i.students e.student.0)) _ (k whole e a)) c m) none)
+          ∙ all-at (λ c. has_ticket e.ticket (tickets_by i.courses c.0)) e.want.courses (both-right (has_ticket e.ticket (own_tickets i.students e.student.0)) _ (k whole e a)) c m) none)
       by_course whole none c m false same = refl
 
       by_whole : (b : Bool) → i.whole ≡ b → is_told (cond b (Some (tickets_by i.courses course.0)) None) e.ticket ≡ false → list_any (λ c. course.0 == c.0) e.want.courses ≡ false

@@ -7,7 +7,7 @@ use Rattle.std.specs.BTreeSet.{BTreeSet, contains}
 use Rattle.std.proofs.lemmas.Bool.Decides.{nat_tests}
 use Rattle.sect_catalog.proofs.SearchLemmas.{any-append}
 use Rattle.std.proofs.Common.{sym, ◌∙◌, ap, subst, arith, inl, inr, get_or}
-use Rattle.std.proofs.lemmas.Bool.{eq-eqb}
+use Rattle.std.proofs.lemmas.Bool.{eq-eqb, eqb-true}
 use Rattle.sect_base.specs.Tree.{Tree}
 use Rattle.sect_catalog.specs.Catalogue.{has_course}
 use Rattle.sect_model.specs.Data.{OfferingRow, StudentId, CourseId, Want}
@@ -222,6 +222,14 @@ pub leave-marks : {A E : Type 0} (w : World) (es : List Waiting) (student : Stud
 leave-marks w es student course o m n r k its marks =
     on-ok r (more-test (λ e. may_open w e (Leave student course)) (concerns (Some student) (offering_of w course)) es m n (λ e h. leave-concerns w student course e k h))
     (subst (λ x. OnOk r (MarksMore (concerns (Some student) x) es m n)) its marks)
+
+-- where no entry is noted, none is marked for that
+pub none-noted : (row : Option OfferingRow) (es : List Waiting) (m : Marked) → true ≡ (length m.spent == 0) → MarksMore (is_noted_in m.spent row) es m m
+none-noted row es m none = record { kept = record { marks = λ e h. h; spent = refl }; added = λ e a u. by_list e m.spent none }
+  where
+    by_list : (e : Waiting) (spent : List ℕ) → true ≡ (length spent == 0) → is_noted_in spent row e ≡ false
+    by_list e [] h = refl
+    by_list e (x ∷ xs) h = let same : length (x ∷ xs) ≡ 0 = eqb-true (length (x ∷ xs)) 0 (sym h) in absurd (omega (arith, same))
 
 -- whom an enrolment may give a move is marked, and of those noted as spent whom it touches
 pub enrol-marks : {A E : Type 0} (w : World) (es : List Waiting) (x : Enrolment) (o p : Option OfferingRow) (m l n : Marked) (r : Result A E) → KeptWorld w

@@ -1,12 +1,14 @@
 -- Which tickets an index has: those of each student, and those that want each course.
-use Rattle.std.specs.Prelude.{◌≡◌, ℕ, Bool, true, false, ◌&&◌, ◌==◌, List, [], Option}
+use Rattle.std.specs.Prelude.{◌≡◌, ℕ, Bool, true, false, ◌&&◌, ◌==◌, cond, List, [], Option}
 use Rattle.std.specs.List.{list_any, list_all}
-use Rattle.std.specs.Option.{option_map_or}
+use Rattle.std.specs.Option.{is_some, option_map_or}
 use Rattle.std.specs.Ordering.{nat_cmp}
 use Rattle.std.specs.BTreeMap.{BTreeMap, get}
 use Rattle.std.specs.Global.{Vec}
+use Rattle.sect_base.specs.Table.{value_at}
 use Rattle.sect_model.specs.declared.held.Waiting.{Waiting}
 use Rattle.sect_model.specs.Freer.{Among}
+use Rattle.sect_wait.specs.declared.by_student.ByStudent.{ByStudent}
 use Rattle.sect_wait.specs.declared.index.Index.{Index}
 use Rattle.sect_wait.specs.Queued.{Queued, IsQueue}
 use Rattle.sect_wait.specs.Marked.{Marked, MarksKept, is_marked}
@@ -28,9 +30,22 @@ abbrev pub KeepsOtherTickets : ℕ → BTreeMap ℕ (Vec ℕ) → BTreeMap ℕ (
 KeepsOtherTickets ticket before after =
     (number other : ℕ) → other == ticket ≡ false → has_ticket other (tickets_by before number) ≡ true → has_ticket other (tickets_by after number) ≡ true
 
+-- the tickets of a student, none where the student isn't marked
+abbrev pub own_tickets : ByStudent → ℕ → List ℕ
+own_tickets students student = cond (is_some (value_at students.marked student)) (tickets_by students.tickets student) []
+
+-- each ticket is the student's whose it was, and maybe another's too
+abbrev pub KeepsOwn : ByStudent → ByStudent → Type 0
+KeepsOwn before after = (student ticket : ℕ) → has_ticket ticket (own_tickets before student) ≡ true → has_ticket ticket (own_tickets after student) ≡ true
+
+-- each other ticket is the student's whose it was
+abbrev pub KeepsOthersOwn : ℕ → ByStudent → ByStudent → Type 0
+KeepsOthersOwn ticket before after =
+    (student other : ℕ) → other == ticket ≡ false → has_ticket other (own_tickets before student) ≡ true → has_ticket other (own_tickets after student) ≡ true
+
 -- the entry's ticket stands by its student, and by each course of its want
 abbrev pub is_indexed : Index → Waiting → Bool
-is_indexed i e = has_ticket e.ticket (tickets_by i.students e.student.0) && list_all (λ c. has_ticket e.ticket (tickets_by i.courses c.0)) e.want.courses
+is_indexed i e = has_ticket e.ticket (own_tickets i.students e.student.0) && list_all (λ c. has_ticket e.ticket (tickets_by i.courses c.0)) e.want.courses
 
 -- the index, where it is whole, has each of the entries
 abbrev pub IsIndexOf : Index → List Waiting → Type 0

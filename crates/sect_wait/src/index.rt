@@ -1,9 +1,10 @@
 // The index of a queue: its tickets by the students who wait, and by the courses that they want.
 
 ghost use Rattle.std.specs.Prelude.{◌≡◌, ◌==◌, true, cond, None as Nothing, Some as Told, OnOk, option_copied};
-ghost use Rattle.sect_wait.specs.Indexed.{KeepsOtherTickets, KeepsTickets, is_indexed, tickets_by};
+ghost use Rattle.sect_wait.specs.Indexed.{KeepsOtherTickets, KeepsOthersOwn, KeepsOwn, KeepsTickets, is_indexed, own_tickets, tickets_by};
 
-use crate::tickets::{note, note_courses, strike, strike_courses, tickets_of};
+use crate::by_student::ByStudent;
+use crate::tickets::{note_courses, strike_courses, tickets_of};
 use sect_base::{CourseId, Memory, StudentId};
 use sect_model::Waiting;
 use std::alloc::Global;
@@ -13,7 +14,7 @@ use std::collections::BTreeMap;
 /// entry came back: then it may lack tickets.
 pub(crate) struct Index {
     pub whole: bool,
-    pub students: BTreeMap<u32, Vec<u64>>,
+    pub students: ByStudent,
     pub courses: BTreeMap<u32, Vec<u64>>,
     alloc: Global,
 }
@@ -35,7 +36,7 @@ impl Index {
     pub fn empty(alloc: Global) -> Index {
         Index {
             whole: true,
-            students: BTreeMap::new(alloc),
+            students: ByStudent::empty(alloc),
             courses: BTreeMap::new(alloc),
             alloc,
         }
@@ -43,10 +44,10 @@ impl Index {
 
     /// The tickets of a student's entries. None where they aren't known. It takes no memory.
     pub fn of_student(&self, student: StudentId) -> Option<&[u64]>
-        ensures { option_copied result ≡ cond self.now.whole (Told (tickets_by self.now.students student.0)) Nothing }
+        ensures { option_copied result ≡ cond self.now.whole (Told (own_tickets self.now.students student.0)) Nothing }
     {
         if self.whole {
-            Some(tickets_of(&self.students, student.0))
+            Some(self.students.get(student))
         } else {
             None
         }
@@ -66,16 +67,11 @@ impl Index {
     /// Notes an entry. Where memory runs out, its ticket stands in some of its places.
     pub fn note(&mut self, entry: &Waiting) -> Result<(), Memory>
         ensures noted { OnOk result (is_indexed self.new entry.now ≡ true) }
-        ensures students { KeepsTickets self.old.students self.new.students }
+        ensures students { KeepsOwn self.old.students self.new.students }
         ensures courses { KeepsTickets self.old.courses self.new.courses }
         ensures whole { self.new.whole ≡ self.old.whole }
     {
-        note(
-            self.alloc,
-            &mut self.students,
-            entry.student.0,
-            entry.ticket,
-        )?;
+        self.students.note(self.alloc, entry.student, entry.ticket)?;
         note_courses(
             self.alloc,
             &mut self.courses,
@@ -88,7 +84,7 @@ impl Index {
     /// enough, so it doesn't.
     pub fn note_again(&mut self, entry: &Waiting)
         ensures noted { self.new.whole ≡ true → is_indexed self.new entry.now ≡ true }
-        ensures students { KeepsTickets self.old.students self.new.students }
+        ensures students { KeepsOwn self.old.students self.new.students }
         ensures courses { KeepsTickets self.old.courses self.new.courses }
         ensures whole { self.new.whole ≡ true → self.old.whole ≡ true }
     {
@@ -99,11 +95,11 @@ impl Index {
 
     /// Takes an entry's ticket away. It takes no memory, and the room stays.
     pub fn strike(&mut self, entry: &Waiting)
-        ensures students { KeepsOtherTickets entry.now.ticket self.old.students self.new.students }
+        ensures students { KeepsOthersOwn entry.now.ticket self.old.students self.new.students }
         ensures courses { KeepsOtherTickets entry.now.ticket self.old.courses self.new.courses }
         ensures whole { self.new.whole ≡ self.old.whole }
     {
-        strike(&mut self.students, entry.student.0, entry.ticket);
+        self.students.strike(entry.student, entry.ticket);
         strike_courses(
             &mut self.courses,
             entry.want.courses.as_slice(),

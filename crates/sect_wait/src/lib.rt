@@ -2,6 +2,7 @@
 #![tactic(auto)]
 
 mod back;
+mod by_student;
 mod courses;
 mod entry;
 mod index;

@@ -38,7 +38,7 @@ pub fn mark_enrolment(
     world.recall_kept();
     let row = freed(world, &enrolment.choice);
     mark(queue, Some(enrolment.student), row, marks)?;
-    mark_noted(queue, offering_of(world, enrolment.choice.course), marks)
+    mark_noted_by(world, queue, enrolment.choice.course, marks)
 }
 
 /// Marks the entries that the student's leaving the course may give a move: those of the student, and those that want a
@@ -188,6 +188,22 @@ fn mark_courses(courses: &[CourseRow], marks: &mut Marks) -> Result<(), Memory>
         marks.mark_course(course.id)?;
     }
     Ok(())
+}
+
+/// Marks the entries that are noted as spent and want a course of the course's offering, which is looked up where some are noted.
+fn mark_noted_by(
+    world: &World,
+    queue: &Queue,
+    course: CourseId,
+    marks: &mut Marks,
+) -> Result<(), Memory>
+    ensures more { OnOk result (MarksMore (is_noted_in marks.old.spent (row_of world.now.world course)) queue.now.queue.entries marks.old marks.new) }
+    ensures only { OnOk result (MarksOnly (is_concerned Nobody (row_of world.now.world course)) queue.now.queue.entries marks.old marks.new) }
+{
+    if marks.spent().is_empty() {
+        return Ok(());
+    }
+    mark_noted(queue, offering_of(world, course), marks)
 }
 
 /// Marks the entries that are noted as spent and want a course of the offering. Where memory runs out, some of them are

@@ -10,7 +10,7 @@ use Rattle.sect_roster.proofs.PlaceLemmas.{read-one, remove-one}
 use Rattle.sect_wait.specs.declared.back.QueueBack.TheVariants.{Left}
 use Rattle.sect_model.proofs.Members.{find-member}
 use Rattle.std.proofs.lemmas.Bool.{eqb-true}
-use Rattle.sect_wait.specs.Indexed.{KeepsOtherTickets}
+use Rattle.sect_wait.specs.Indexed.{KeepsOtherTickets, KeepsOthersOwn}
 use Rattle.sect_wait.proofs.IndexLemmas.{index-left}
 use Rattle.sect_wait.proofs.QueueLemmas.{Placed, placed, one-ticket}
 use Rattle.sect_wait.proofs.queue.Queue.take.Goals as goal
@@ -31,7 +31,7 @@ invariant_of-self-2 c =
         in_order = ap (λ fs. tickets_rise fs c.self.inside.next) left ∙ rise-filter (λ e. not (p e)) es c.self.inside.next c.self.invariant.queue.in_order;
         first = c.self.invariant.queue.first;
       };
-      index = index-left i j es c.remove-entry.new.self.items c.args.ticket left c.strike.ensures.whole (subst (λ t. KeepsOtherTickets t i.students j.students) own c.strike.ensures.students)
+      index = index-left i j es c.remove-entry.new.self.items c.args.ticket left c.strike.ensures.whole (subst (λ t. KeepsOthersOwn t i.students j.students) own c.strike.ensures.students)
           (subst (λ t. KeepsOtherTickets t i.courses j.courses) own c.strike.ensures.courses) c.self.invariant.index;
     }
 
