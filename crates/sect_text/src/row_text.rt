@@ -27,7 +27,7 @@ pub fn is_marked(command: &Command) -> bool
 }
 
 /// Appends the mark, where the command has one, and the day.
-fn print_front(marked: bool, day: Day, into: &mut Vec<u8>) -> Result<(), Memory>
+pub(crate) fn print_front(marked: bool, day: Day, into: &mut Vec<u8>) -> Result<(), Memory>
     ensures text { OnOk result (into.new.items ≡ into.old.items ++ sentence (row_front marked day)) }
     ensures front { take (length into.old.items) into.new.items ≡ into.old.items }
 {
@@ -40,7 +40,7 @@ fn print_front(marked: bool, day: Day, into: &mut Vec<u8>) -> Result<(), Memory>
 
 /// Appends a space and the command.
 #[tactic(auto, using(crate::proofs::Sentences::spaced_command))]
-fn print_command_words(command: &Command, into: &mut Vec<u8>) -> Result<(), Memory>
+pub(crate) fn print_command_words(command: &Command, into: &mut Vec<u8>) -> Result<(), Memory>
     ensures text { OnOk result (into.new.items ≡ into.old.items ++ behind 32 (command_words command.now)) }
     ensures front { take (length into.old.items) into.new.items ≡ into.old.items }
 {
