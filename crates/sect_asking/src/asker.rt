@@ -85,9 +85,8 @@ impl<O: TextObject, K: Keeper, C: Clock> Asker<O, K, C> {
         ensures { (day : ℕ) × IsAskedOn ask.day self.old.days self.new.days day
             × AnswersAsk O.stepped O.is_row K.rows K.faults ask.id day ask.command self.old.desk self.new.desk result }
     {
-        let LineAsk { day, id, command } = ask;
-        let day = asked_on(day, &mut self.clock);
-        self.desk.ask(id, day, command)
+        let day = asked_on(ask.day, &mut self.clock);
+        self.desk.ask_lent(ask.id, day, &ask.command)
     }
 
     /// Appends the line of an answer of the desk. Where its entry is the last, the text of the reply is that in the entry's row.

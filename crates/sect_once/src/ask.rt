@@ -95,7 +95,16 @@ impl<O: Object, K: Keeper> Desk<O, K> {
         ensures answer { Answers O.stepped O.is_row K.rows K.faults id day command self.old self.new result }
         ensures sound { IsSound O.stepped O.is_row K.rows K.faults O.start self.new }
     {
-        let answer = self.answer(id, day, &command);
+        self.ask_lent(id, day, &command)
+    }
+
+    /// Asks the same of a command that the caller keeps.
+    pub fn ask_lent(&mut self, id: Id, day: Day, command: &O::Command) -> Answer<O::Reply>
+        requires { O.may_ask id day command.now }
+        ensures answer { Answers O.stepped O.is_row K.rows K.faults id day command.now self.old self.new result }
+        ensures sound { IsSound O.stepped O.is_row K.rows K.faults O.start self.new }
+    {
+        let answer = self.answer(id, day, command);
         self.recall_sound();
         answer
     }
