@@ -344,6 +344,19 @@ impl<T: Spelled> Spelled for Items<T> {
             }
         }
     }
+
+    fn print_named(&self, name: &[u8], mark: u8, into: &mut Vec<u8>) -> Result<(), Memory> {
+        match self.as_slice() {
+            [] => {
+                print_bytes(name, into)?;
+                print_bytes(&[mark, b'-'], into)
+            }
+            [first, rest @ ..] => {
+                first.print_named(name, mark, into)?;
+                print_behind(b'+', rest, into)
+            }
+        }
+    }
 }
 
 impl Spelled for Limit {
