@@ -1,3 +1,4 @@
+pub mod DigitCounts
 pub mod NumberLaws
 pub mod OptionSteps
 pub mod Printing

@@ -1,10 +1,10 @@
 // The text of a refutation tree.
 
-ghost use Rattle.std.specs.Prelude.{◌≡◌, ◌++◌, ◌∷◌, OnOk, OnErr, decimal, length, take};
+ghost use Rattle.std.specs.Prelude.{◌≡◌, ◌≤◌, ◌++◌, ◌∷◌, OnOk, OnErr, decimal, drop, length, take};
 ghost use Rattle.sect_base.specs.Tree.{broken, rule_number};
 ghost use Rattle.sect_command.specs.TreeText.{tree_text};
 
-use itoa::Buffer;
+use itoa::write_digits;
 use sect_base::{Block, Memory, Node, Rule};
 
 /// The number of a rule, from 1 in the order of the tests.
@@ -35,15 +35,26 @@ fn number_of(rule: Rule) -> u8
     }
 }
 
-/// Appends a leaf. After `Memory` a part of it may stand at the end.
+/// Writes a leaf at the end of the bytes, and returns where it starts.
+#[tactic(auto, using(crate::proofs::DigitCounts::ten_digits))]
+fn put_leaf(rule: Rule, number: u32, bytes: &mut [u8; 24]) -> usize
+    ensures start { result ≤ 24 }
+    ensures written { drop result bytes.new ≡ tree_text (broken rule number) }
+{
+    let digits = write_digits(u64::from(number), bytes, 24);
+    let colon = digits - 1;
+    bytes[colon] = b':';
+    write_digits(u64::from(number_of(rule)), bytes, colon)
+}
+
+/// Appends a leaf, all in one piece. After `Memory` the text is as before.
 fn print_leaf(rule: Rule, number: u32, into: &mut Vec<u8>) -> Result<(), Memory>
     ensures text { OnOk result (into.new.items ≡ into.old.items ++ tree_text (broken rule number)) }
     ensures front { take (length into.old.items) into.new.items ≡ into.old.items }
 {
-    let mut buffer = Buffer::new();
-    into.extend_from_slice(buffer.format(number_of(rule)).as_bytes())?;
-    into.push(b':')?;
-    into.extend_from_slice(buffer.format(number).as_bytes())?;
+    let mut bytes = [0; 24];
+    let start = put_leaf(rule, number, &mut bytes);
+    into.extend_from_slice(&bytes[start..])?;
     Ok(())
 }
 

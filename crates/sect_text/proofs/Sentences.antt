@@ -1,15 +1,18 @@
 -- Words behind spaces, and words with spaces between them.
-use Rattle.std.proofs.Common.{◌≡◌, ℕ, Bool, true, false, List, [], ◌∷◌, ◌++◌, refl, ap, ◌∙◌, append_assoc, sym}
+use Rattle.std.proofs.Common.{◌≡◌, ℕ, Bool, true, false, List, [], ◌∷◌, ◌++◌, refl, ap, ◌∙◌, append_assoc, sym, decimal}
+use Rattle.std.proofs.lemmas.Grind.{flat_map-append}
+use Rattle.sect_base.specs.declared.limit.Id.{Id}
 use Rattle.sect_command.specs.declared.command.Command.{Command}
 use Rattle.sect_command.specs.declared.command.Command.TheVariants as commands
 use Rattle.sect_command.specs.declared.reply.Reply.{Reply}
 use Rattle.sect_command.specs.declared.reply.Reply.TheVariants as replies
 use Rattle.sect_words.specs.Parts.{behind, sentence}
 use Rattle.sect_words.specs.Days.{day_text}
+use Rattle.sect_words.specs.Words.{caller_text}
 use Rattle.sect_text.specs.Commands.{command_words, command_text}
 use Rattle.sect_text.specs.Replies.{reply_words, reply_text}
 use Rattle.sect_once.specs.declared.entry.Entry.{Entry}
-use Rattle.sect_text.specs.Rows.{row_front, row_rest, row_text, is_marked}
+use Rattle.sect_text.specs.Rows.{behind_mark, row_front, id_words, row_rest, row_text, is_marked}
 
 -- a space and a command are its words behind spaces
 pub spaced_command : (c : Command) → 32 ∷ command_text c ≡ behind 32 (command_words c)
@@ -43,14 +46,36 @@ spaced_reply (replies.Blocked visits tree) = refl
 spaced_reply (replies.Spent budget) = refl
 spaced_reply (replies.Refused refusal) = refl
 
--- the front of a row, and words behind it
-pub behind_front : (marked : Bool) (day : ℕ) (words : List (List ℕ)) → sentence (row_front marked day ++ words) ≡ sentence (row_front marked day) ++ behind 32 words
-behind_front true day words = ap (λ bytes. 50 ∷ 32 ∷ bytes) (sym (append_assoc (day_text day) [] (behind 32 words)))
-behind_front false day words = sym (append_assoc (day_text day) [] (behind 32 words))
+-- the front of a row and its id, and words behind them
+behind_front : (marked : Bool) (day : ℕ) (id : Id) (words : List (List ℕ))
+    → sentence (row_front marked day ++ (id_words id ++ words)) ≡ sentence (row_front marked day ++ id_words id) ++ behind 32 words
+behind_front true day id words = simp append_assoc
+behind_front false day id words = simp append_assoc
 
--- a front and the rest are the row
-pub whole_row : (e : Entry Command Reply) (marked : Bool) (old mid new : List ℕ) → marked ≡ is_marked e.command → mid ≡ old ++ sentence (row_front marked e.day)
-    → new ≡ mid ++ behind 32 (row_rest e) → new ≡ old ++ row_text e
-whole_row e marked old mid new mark front rest =
-    rest ∙ ap (λ bytes. bytes ++ behind 32 (row_rest e)) front ∙ append_assoc old (sentence (row_front marked e.day)) (behind 32 (row_rest e))
-    ∙ ap (λ bytes. old ++ bytes) (sym (behind_front marked e.day (row_rest e)) ∙ ap (λ b. sentence (row_front b e.day ++ row_rest e)) mark)
+-- the pieces of a row up to its command
+pub front_bytes : (marked : Bool) (day : ℕ) (id : Id)
+    → behind_mark marked (day_text day ++ (32 ∷ caller_text id.caller ++ (32 ∷ decimal id.number ++ (32 ∷ [])))) ≡ sentence (row_front marked day ++ id_words id) ++ (32 ∷ [])
+front_bytes true day id = simp append_assoc
+front_bytes false day id = simp append_assoc
+
+-- a command, `=` and a reply, behind a space
+spaced_rest : (c : Command) (r : Reply) → behind 32 (command_words c ++ ((61 ∷ []) ∷ reply_words r)) ≡ 32 ∷ command_text c ++ (32 ∷ 61 ∷ 32 ∷ reply_text r)
+spaced_rest c r =
+    flat_map-append (λ part. 32 ∷ part) (command_words c) ((61 ∷ []) ∷ reply_words r)
+    ∙ ap (λ bytes. bytes ++ (32 ∷ 61 ∷ behind 32 (reply_words r))) (sym (spaced_command c))
+    ∙ ap (λ bytes. 32 ∷ command_text c ++ (32 ∷ 61 ∷ bytes)) (sym (spaced_reply r))
+
+-- pieces in a row, one behind another
+joins : (old front command reply : List ℕ) → ((old ++ (front ++ (32 ∷ []))) ++ command) ++ reply ≡ old ++ (front ++ (32 ∷ command ++ reply))
+joins old front command reply = simp append_assoc
+
+-- the front, the command and the reply are the row
+pub whole_row : (e : Entry Command Reply) (marked : Bool) (old front mid new : List ℕ) → marked ≡ is_marked e.command
+    → front ≡ old ++ (sentence (row_front marked e.day ++ id_words e.id) ++ (32 ∷ [])) → mid ≡ front ++ command_text e.command
+    → new ≡ mid ++ (32 ∷ 61 ∷ 32 ∷ reply_text e.reply) → new ≡ old ++ row_text e
+whole_row e marked old front mid new mark begun named told =
+    let row = behind_front marked e.day e.id (command_words e.command ++ ((61 ∷ []) ∷ reply_words e.reply))
+    ∙ ap (λ bytes. sentence (row_front marked e.day ++ id_words e.id) ++ bytes) (spaced_rest e.command e.reply) in
+    told ∙ ap (λ bytes. bytes ++ (32 ∷ 61 ∷ 32 ∷ reply_text e.reply)) (named ∙ ap (λ bytes. bytes ++ command_text e.command) begun)
+    ∙ joins old (sentence (row_front marked e.day ++ id_words e.id)) (command_text e.command) (32 ∷ 61 ∷ 32 ∷ reply_text e.reply)
+    ∙ ap (λ bytes. old ++ bytes) (sym row ∙ ap (λ b. sentence (row_front b e.day ++ row_rest e)) mark)

@@ -23,6 +23,11 @@ abbrev pub row_front : Bool → ℕ → List (List ℕ)
 row_front true day = (50 ∷ []) ∷ day_text day ∷ []
 row_front false day = day_text day ∷ []
 
+-- the bytes, behind `2` and a space where they are marked
+abbrev pub behind_mark : Bool → List ℕ → List ℕ
+behind_mark true bytes = 50 ∷ 32 ∷ bytes
+behind_mark false bytes = bytes
+
 -- the caller and the number
 abbrev pub id_words : Id → List (List ℕ)
 id_words id = caller_text id.caller ∷ decimal id.number ∷ []

@@ -1,8 +1,8 @@
 // Printing commands.
 
-ghost use Rattle.std.specs.Prelude.{◌≡◌, ℕ, ◌++◌, ◌∷◌, [], OnOk, OnErr, length, take, codes, flat_map, false, decimal};
+ghost use Rattle.std.specs.Prelude.{◌≡◌, ℕ, ◌++◌, ◌∷◌, ◌≤◌, [], OnOk, OnErr, length, take, codes, flat_map, false, decimal};
 ghost use Rattle.sect_words.specs.Parts.{behind, sentence};
-ghost use Rattle.sect_words.specs.Words.{limit_text, audience_text};
+ghost use Rattle.sect_words.specs.Words.{list_text, course_text, limit_text, audience_text};
 ghost use Rattle.sect_text.specs.Commands.{
   offering_words,
   student_words,
@@ -36,7 +36,7 @@ use sect_catalog::OfferingRow;
 use sect_command::{Command, ReserveRow, RestrictRow};
 use sect_people::StudentRow;
 use sect_reserve::Audience;
-use sect_words::{Spelled, print_bytes};
+use sect_words::{Spelled, print_bytes, put_bytes, put_marked};
 
 /// The row of an offering, with its courses and its configurations.
 fn print_offering(row: &OfferingRow, into: &mut Vec<u8>) -> Result<(), Memory>
@@ -157,8 +157,7 @@ fn print_stated(key: &[u8], default: u32, number: u32, into: &mut Vec<u8>) -> Re
     if number == default {
         return Ok(());
     }
-    print_key(key, into)?;
-    print_word(&number, into)
+    print_named(key, &number, into)
 }
 
 /// The only sections that are wanted, where there are some.
@@ -169,16 +168,14 @@ fn print_only(sections: &Items<SectionId>, into: &mut Vec<u8>) -> Result<(), Mem
     if sections.is_empty() {
         return Ok(());
     }
-    print_key(b"only", into)?;
-    print_word(sections, into)
+    print_named(b"only", sections, into)
 }
 
-/// The courses that are wanted, the only sections for them, and the rank where it is not the default.
-fn print_want(want: &Want, into: &mut Vec<u8>) -> Result<(), Memory>
-    ensures text { OnOk result (into.new.items ≡ into.old.items ++ behind 32 (printed_want want.now)) }
+/// The only sections for the courses that are wanted, and the rank where it is not the default.
+fn print_want_rest(want: &Want, into: &mut Vec<u8>) -> Result<(), Memory>
+    ensures text { OnOk result (into.new.items ≡ into.old.items ++ behind 32 (only_words false want.now.only ++ stated_words (codes "rank") 21 false want.now.rank)) }
     ensures front { take (length into.old.items) into.new.items ≡ into.old.items }
 {
-    print_word(&want.courses, into)?;
     print_only(&want.only, into)?;
     print_stated(b"rank", 21, u32::from(want.rank), into)
 }
@@ -187,9 +184,26 @@ impl Phrase for Want {
     ghost words = { take_words };
 
     fn print_words(&self, into: &mut Vec<u8>) -> Result<(), Memory> {
-        print_key(b"take", into)?;
-        print_want(self, into)
+        print_named(b"take", &self.courses, into)?;
+        print_want_rest(self, into)
     }
+}
+
+/// A verb, a student and courses, all up to the first course in one piece.
+fn print_asked(
+    verb: &[u8],
+    student: StudentId,
+    courses: &Items<CourseId>,
+    into: &mut Vec<u8>,
+) -> Result<(), Memory>
+    requires { length verb.now ≤ 8 }
+    ensures text { OnOk result (into.new.items ≡ into.old.items ++ sentence (verb.now ∷ decimal student.0 ∷ list_text 43 course_text courses.now ∷ [])) }
+    ensures front { take (length into.old.items) into.new.items ≡ into.old.items }
+{
+    let mut bytes = [0; 24];
+    let start = put_marked(b' ', student.0, &mut bytes, 24);
+    let start = put_bytes(verb, &mut bytes, start);
+    courses.print_named(&bytes[start..], b' ', into)
 }
 
 /// The budget, where it is not the default.
@@ -211,9 +225,8 @@ fn print_enrol(
         ++ sentence (codes "enrol" ∷ decimal student.0 ∷ printed_want want.now ++ budget_words false budget)) }
     ensures front { take (length into.old.items) into.new.items ≡ into.old.items }
 {
-    print_bytes(b"enrol", into)?;
-    print_word(&student, into)?;
-    print_want(want, into)?;
+    print_asked(b"enrol", student, &want.courses, into)?;
+    print_want_rest(want, into)?;
     print_budget(budget, into)
 }
 
@@ -230,8 +243,7 @@ fn print_swap(
         ++ (flat_map take_words taken.now ++ budget_words false budget))) }
     ensures front { take (length into.old.items) into.new.items ≡ into.old.items }
 {
-    print_bytes(b"swap", into)?;
-    print_word(&student, into)?;
+    student.print_named(b"swap", b' ', into)?;
     print_each(given, into)?;
     print_each(taken, into)?;
     print_budget(budget, into)
@@ -250,9 +262,8 @@ fn print_wait(
         ++ (optional_give_words give ++ class_words false class))) }
     ensures front { take (length into.old.items) into.new.items ≡ into.old.items }
 {
-    print_bytes(b"wait", into)?;
-    print_word(&student, into)?;
-    print_want(want, into)?;
+    print_asked(b"wait", student, &want.courses, into)?;
+    print_want_rest(want, into)?;
     print_give(give, into)?;
     print_stated(b"class", 5, u32::from(class), into)
 }

@@ -43,8 +43,8 @@ pub(crate) fn print_named<T: Spelled>(
     ensures text { OnOk result (into.new.items ≡ into.old.items ++ behind 32 (key.now ∷ T.spelling value.now ∷ [])) }
     ensures front { take (length into.old.items) into.new.items ≡ into.old.items }
 {
-    print_key(key, into)?;
-    print_word(value, into)
+    into.push(b' ')?;
+    value.print_named(key, b' ', into)
 }
 
 /// Appends a verb and one word behind it. After `Memory` a part of them may stand at the end.
@@ -56,8 +56,7 @@ pub(crate) fn print_pair<T: Spelled>(
     ensures text { OnOk result (into.new.items ≡ into.old.items ++ sentence (verb.now ∷ T.spelling value.now ∷ [])) }
     ensures front { take (length into.old.items) into.new.items ≡ into.old.items }
 {
-    print_bytes(verb, into)?;
-    print_word(value, into)
+    value.print_named(verb, b' ', into)
 }
 
 /// Appends a verb and two words behind it. After `Memory` a part of them may stand at the end.
@@ -70,8 +69,7 @@ pub(crate) fn print_three<A: Spelled, B: Spelled>(
     ensures text { OnOk result (into.new.items ≡ into.old.items ++ sentence (verb.now ∷ A.spelling first.now ∷ B.spelling second.now ∷ [])) }
     ensures front { take (length into.old.items) into.new.items ≡ into.old.items }
 {
-    print_bytes(verb, into)?;
-    print_word(first, into)?;
+    first.print_named(verb, b' ', into)?;
     print_word(second, into)
 }
 

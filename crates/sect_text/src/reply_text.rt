@@ -194,10 +194,7 @@ pub(crate) fn print_answer_words(reply: &Reply, into: &mut Vec<u8>) -> Result<()
             print_bytes(b"batched", into)?;
             print_each(lines.as_slice(), into)
         }
-        Reply::Blocked(visits, tree) => {
-            print_bytes(b"blocked", into)?;
-            print_blocked(*visits, tree, into)
-        }
+        Reply::Blocked(visits, tree) => print_three(b"blocked", visits, tree, into),
         Reply::Spent(budget) => print_pair(b"spent", budget, into),
         Reply::Refused(refusal) => {
             print_bytes(b"refused", into)?;

@@ -1,19 +1,15 @@
 // Printing entry rows.
 
-ghost use Rattle.std.specs.Prelude.{◌≡◌, ℕ, ◌++◌, ◌∷◌, [], OnOk, OnErr, length, take};
-ghost use Rattle.sect_words.specs.Parts.{behind, sentence};
-ghost use Rattle.sect_words.specs.Days.{day_text};
-ghost use Rattle.sect_text.specs.Commands.{command_words, command_text};
-ghost use Rattle.sect_text.specs.Replies.{reply_words, reply_text};
-ghost use Rattle.sect_text.specs.Rows.{is_marked as has_mark, row_front, row_rest, id_words, row_words, row_text};
+ghost use Rattle.std.specs.Prelude.{◌≡◌, ◌≤◌, ◌+◌, ◌++◌, ◌∷◌, [], OnOk, OnErr, drop, length, take};
+ghost use Rattle.sect_words.specs.Parts.{sentence};
+ghost use Rattle.sect_words.specs.Words.{caller_text};
+ghost use Rattle.sect_text.specs.Rows.{is_marked as has_mark, behind_mark, row_front, id_words, row_text};
 
-use crate::command_text::print_verb;
-use crate::phrase::{print_key, print_pair, print_word};
-use crate::reply_text::print_answer_words;
-use sect_base::{Day, Id, Memory};
+use crate::told_row::print_told_row;
+use sect_base::{Caller, Day, Id, Memory};
 use sect_command::{Command, Reply};
 use sect_once::Entry;
-use sect_words::{Spelled, print_bytes};
+use sect_words::{print_bytes, put, put_day, put_long, put_marked};
 
 /// Whether the command has a first day, or a class other than 5. It takes no memory.
 pub fn is_marked(command: &Command) -> bool
@@ -26,56 +22,68 @@ pub fn is_marked(command: &Command) -> bool
     }
 }
 
-/// Appends the mark, where the command has one, and the day.
-pub(crate) fn print_front(marked: bool, day: Day, into: &mut Vec<u8>) -> Result<(), Memory>
-    ensures text { OnOk result (into.new.items ≡ into.old.items ++ sentence (row_front marked day)) }
-    ensures front { take (length into.old.items) into.new.items ≡ into.old.items }
+/// Writes `2` and a space before a place, where a row is marked, and returns where they start.
+fn put_mark(marked: bool, bytes: &mut [u8], end: usize) -> usize
+    requires { (2 ≤ end) × (end ≤ length bytes.old) }
+    ensures start { (end ≤ result + 2) × (result ≤ end) }
+    ensures written { drop result bytes.new ≡ behind_mark marked (drop end bytes.old) }
+    ensures long { length bytes.new ≡ length bytes.old }
 {
     if marked {
-        print_pair(b"2", &day, into)
+        let space = put(b' ', bytes, end);
+        put(b'2', bytes, space)
     } else {
-        day.print(into)
+        end
     }
 }
 
-/// Appends a space and the command.
-#[tactic(auto, using(crate::proofs::Sentences::spaced_command))]
-pub(crate) fn print_command_words(command: &Command, into: &mut Vec<u8>) -> Result<(), Memory>
-    ensures text { OnOk result (into.new.items ≡ into.old.items ++ behind 32 (command_words command.now)) }
-    ensures front { take (length into.old.items) into.new.items ≡ into.old.items }
+/// Writes a caller before a place, and returns where it starts.
+fn put_caller(caller: Caller, bytes: &mut [u8], end: usize) -> usize
+    requires { (11 ≤ end) × (end ≤ length bytes.old) }
+    ensures start { (end ≤ result + 11) × (result ≤ end) }
+    ensures written { drop result bytes.new ≡ caller_text caller ++ drop end bytes.old }
+    ensures long { length bytes.new ≡ length bytes.old }
 {
-    into.push(b' ')?;
-    print_verb(command, into)
+    match caller {
+        Caller::Registrar(number) => put_marked(b'r', number, bytes, end),
+        Caller::Student(student) => put_marked(b's', student.0, bytes, end),
+    }
 }
 
-/// Appends a space, `=`, a space and the reply.
-#[tactic(auto, using(crate::proofs::Sentences::spaced_reply))]
-fn print_reply_words(reply: &Reply, into: &mut Vec<u8>) -> Result<(), Memory>
-    ensures text { OnOk result (into.new.items ≡ into.old.items ++ behind 32 ((61 ∷ []) ∷ reply_words reply.now)) }
-    ensures front { take (length into.old.items) into.new.items ≡ into.old.items }
+/// Writes the front of a row, its id and a space at the end of the bytes, and returns where they start.
+fn put_front(marked: bool, day: Day, id: Id, bytes: &mut [u8; 48]) -> usize
+    ensures start { result ≤ 48 }
+    ensures written { drop result bytes.new ≡ sentence (row_front marked day ++ id_words id) ++ (32 ∷ []) }
 {
-    print_bytes(b" = ", into)?;
-    print_answer_words(reply, into)
+    let start = put(b' ', bytes, 48);
+    let start = put_long(id.number, bytes, start);
+    let start = put(b' ', bytes, start);
+    let start = put_caller(id.caller, bytes, start);
+    let start = put(b' ', bytes, start);
+    let start = put_day(day, bytes, start);
+    put_mark(marked, bytes, start)
 }
 
-/// Appends what stands behind the front of a row.
-fn print_rest(entry: &Entry<Command, Reply>, into: &mut Vec<u8>) -> Result<(), Memory>
-    ensures text { OnOk result (into.new.items ≡ into.old.items ++ behind 32 (row_rest entry.now)) }
+/// Appends the front of a row, its id and a space, all in one piece. After `Memory` the bytes are as before.
+pub(crate) fn print_front(marked: bool, day: Day, id: Id, into: &mut Vec<u8>) -> Result<(), Memory>
+    ensures text { OnOk result (into.new.items ≡ into.old.items ++ (sentence (row_front marked day ++ id_words id) ++ (32 ∷ []))) }
     ensures front { take (length into.old.items) into.new.items ≡ into.old.items }
 {
-    print_word(&entry.id.caller, into)?;
-    print_word(&entry.id.number, into)?;
-    print_command_words(&entry.command, into)?;
-    print_reply_words(&entry.reply, into)
+    let mut bytes = [0; 48];
+    let start = put_front(marked, day, id, &mut bytes);
+    print_bytes(&bytes[start..], into)
 }
 
-/// Appends the row of an entry. After `Memory` a part of it may stand at the end.
-fn print_row_words(entry: &Entry<Command, Reply>, into: &mut Vec<u8>) -> Result<(), Memory>
-    ensures text { OnOk result (into.new.items ≡ into.old.items ++ row_text entry.now) }
+/// Appends `=` between two spaces. After `Memory` the bytes are as before.
+pub(crate) fn print_equals(into: &mut Vec<u8>) -> Result<(), Memory>
+    ensures text { OnOk result (into.new.items ≡ into.old.items ++ (32 ∷ 61 ∷ 32 ∷ [])) }
     ensures front { take (length into.old.items) into.new.items ≡ into.old.items }
 {
-    print_front(is_marked(&entry.command), entry.day, into)?;
-    print_rest(entry, into)
+    into.reserve(3)?;
+    into.push_reserved(b' ');
+    into.push_reserved(b'=');
+    into.push_reserved(b' ');
+    Ok(())
 }
 
 /// Appends the row of an entry, with the mark `2` exactly where the command has a first day or a class other than 5.
@@ -85,9 +93,11 @@ pub fn print_row(entry: &Entry<Command, Reply>, into: &mut Vec<u8>) -> Result<()
     ensures memory { OnErr result (into.new.items ≡ into.old.items) }
 {
     let before = into.len();
-    let printed = print_row_words(entry, into);
-    if printed.is_err() {
-        into.truncate(before);
+    match print_told_row(entry.id, entry.day, &entry.command, &entry.reply, into) {
+        Ok(_) => Ok(()),
+        Err(memory) => {
+            into.truncate(before);
+            Err(memory)
+        }
     }
-    printed
 }

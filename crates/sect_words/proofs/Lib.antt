@@ -1,7 +1,6 @@
 pub mod Cuts
 pub mod Dates
 pub mod DayLaws
-pub mod DigitCounts
 pub mod Exact
 pub mod Loops
 pub mod Numbers

@@ -1,6 +1,7 @@
 -- The digits of a number's text are read one after the other.
 use Rattle.std.proofs.Common.{◌≡◌, ℕ, zero, suc, ◌+◌, ◌-◌, ◌*◌, ◌<◌, ◌≤◌, ◌^◌, List, [], ◌∷◌, refl, sym, ◌∙◌, ap, subst, arith, rules, decimal, drop}
 use Rattle.std.specs.Prelude.{get_or, length}
+use Rattle.std.proofs.Math.Nat.{pow-suc}
 use Rattle.std.proofs.lemmas.Fmt.{decimal-digits_value, decimal_digit, decimal_nonempty, digits_decimal, digits_value-decimal, first_decimal}
 use Rattle.std.proofs.lemmas.Str.Parse.{IsNumeralModel, numerals_by_fold, tells_digits}
 use Rattle.std.specs.Str.Parse.{AllDigits}
@@ -47,3 +48,29 @@ made n digits small is = subst (λ ds. AllDigits 10 ds × (read_on 0 ds ≡ n)) 
 pub printed : (n : ℕ) (digits : List ℕ) → IsPlain digits → AllDigits 10 digits → n ≡ read_on 0 digits → n < 2 ^ 64 → decimal n ≡ digits
 printed n digits is_plain all is small =
     ap decimal is ∙ decimal-digits_value reads digits all is_plain.0 is_plain.1 (subst (λ m. m < 2 ^ 64) is small)
+
+-- a power of ten is at most a later one
+tens : (i more later : ℕ) → i + more ≡ later → 10 ^ i ≤ 10 ^ later
+tens i zero later is = let same : i ≡ later = omega (arith, is) in subst (λ k. 10 ^ i ≤ 10 ^ k) same (omega arith)
+tens i (suc more) later is =
+    let same : suc (i + more) ≡ later = omega (arith, is) in
+    let step : 10 ^ suc (i + more) ≡ 10 ^ (i + more) * 10 = pow-suc 10 (i + more) in
+    let before = tens i more (i + more) refl in
+    subst (λ k. 10 ^ i ≤ 10 ^ k) same (omega (arith, step, before))
+
+-- a number of fewer than twenty digits has 64 bits
+pub few : (i number : ℕ) → number < 10 ^ i → i < 20 → number < 2 ^ 64
+few i number below short =
+    let most : 10 ^ i ≤ 10 ^ 19 = tens i (19 - i) 19 (omega arith) in
+    omega (arith, most, below)
+
+-- so with a digit more
+pub longer : (i number digit : ℕ) → number < 10 ^ i → digit ≤ 9 → number * 10 + digit < 10 ^ (i + 1)
+longer i number digit below small =
+    let same : suc i ≡ i + 1 = omega arith in
+    let step : 10 ^ suc i ≡ 10 ^ i * 10 = pow-suc 10 i in
+    subst (λ k. number * 10 + digit < 10 ^ k) same (omega (arith, step, below, small))
+
+-- so the next digit has room
+pub room : (i number digit : ℕ) → number < 10 ^ i → i < 19 → digit ≤ 9 → number * 10 + digit < 2 ^ 64
+room i number digit below short small = few (i + 1) (number * 10 + digit) (longer i number digit below small) (omega (arith, short))

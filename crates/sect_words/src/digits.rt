@@ -1,11 +1,13 @@
-// Numbers and marks written from the last to the first into bytes on the stack, so that they are appended in one piece.
+// Numbers, marks and days written from the last to the first into bytes on the stack, so that they are appended in one piece.
 
 ghost use Rattle.std.specs.Prelude.{◌≡◌, ◌+◌, ◌≤◌, ◌∷◌, ◌++◌, decimal, length, drop};
+ghost use Rattle.sect_words.specs.Days.{day_text};
 
 use itoa::write_digits;
+use sect_base::{Day, print_day};
 
 /// Writes the byte before a place, and returns where it stands.
-pub(crate) fn put(byte: u8, bytes: &mut [u8], end: usize) -> usize
+pub fn put(byte: u8, bytes: &mut [u8], end: usize) -> usize
     requires { (1 ≤ end) × (end ≤ length bytes.old) }
     ensures start { result + 1 ≡ end }
     ensures written { drop result bytes.new ≡ byte ∷ drop end bytes.old }
@@ -16,9 +18,32 @@ pub(crate) fn put(byte: u8, bytes: &mut [u8], end: usize) -> usize
     start
 }
 
+/// Writes the bytes before a place, and returns where they start.
+pub fn put_bytes(word: &[u8], bytes: &mut [u8], end: usize) -> usize
+    requires { (length word.now ≤ end) × (end ≤ length bytes.old) }
+    ensures start { result + length word.now ≡ end }
+    ensures written { drop result bytes.new ≡ word.now ++ drop end bytes.old }
+    ensures long { length bytes.new ≡ length bytes.old }
+{
+    let start = end - word.len();
+    bytes[start..end].copy_from_slice(word);
+    start
+}
+
 /// Writes the number's digits before a place, and returns where they start.
-#[tactic(auto, using(crate::proofs::DigitCounts::ten_digits))]
-pub(crate) fn put_number(number: u32, bytes: &mut [u8], end: usize) -> usize
+#[tactic(auto, using(sect_command::proofs::DigitCounts::twenty_digits))]
+pub fn put_long(number: u64, bytes: &mut [u8], end: usize) -> usize
+    requires { (20 ≤ end) × (end ≤ length bytes.old) }
+    ensures start { (end ≤ result + 20) × (result ≤ end) }
+    ensures written { drop result bytes.new ≡ decimal number ++ drop end bytes.old }
+    ensures long { length bytes.new ≡ length bytes.old }
+{
+    write_digits(number, bytes, end)
+}
+
+/// Writes the digits of a number of 32 bits before a place, and returns where they start.
+#[tactic(auto, using(sect_command::proofs::DigitCounts::ten_digits))]
+pub fn put_number(number: u32, bytes: &mut [u8], end: usize) -> usize
     requires { (10 ≤ end) × (end ≤ length bytes.old) }
     ensures start { (end ≤ result + 10) × (result ≤ end) }
     ensures written { drop result bytes.new ≡ decimal number ++ drop end bytes.old }
@@ -28,7 +53,7 @@ pub(crate) fn put_number(number: u32, bytes: &mut [u8], end: usize) -> usize
 }
 
 /// Writes the mark and the number's digits before a place, and returns where they start.
-pub(crate) fn put_marked(mark: u8, number: u32, bytes: &mut [u8], end: usize) -> usize
+pub fn put_marked(mark: u8, number: u32, bytes: &mut [u8], end: usize) -> usize
     requires { (11 ≤ end) × (end ≤ length bytes.old) }
     ensures start { (end ≤ result + 11) × (result ≤ end) }
     ensures written { drop result bytes.new ≡ (mark ∷ decimal number) ++ drop end bytes.old }
@@ -36,4 +61,14 @@ pub(crate) fn put_marked(mark: u8, number: u32, bytes: &mut [u8], end: usize) ->
 {
     let digits = put_number(number, bytes, end);
     put(mark, bytes, digits)
+}
+
+/// Writes a day before a place, and returns where it starts.
+pub fn put_day(day: Day, bytes: &mut [u8], end: usize) -> usize
+    requires { (10 ≤ end) × (end ≤ length bytes.old) }
+    ensures start { result + 10 ≡ end }
+    ensures written { drop result bytes.new ≡ day_text day ++ drop end bytes.old }
+    ensures long { length bytes.new ≡ length bytes.old }
+{
+    put_bytes(&print_day(day), bytes, end)
 }

@@ -4,6 +4,7 @@
 mod digits;
 mod fault;
 mod parts;
+mod printing;
 mod read_parts;
 mod read_terms;
 mod readable;
@@ -12,11 +13,11 @@ mod spelled;
 mod spelled_rows;
 mod take;
 
+pub use digits::{put, put_bytes, put_day, put_long, put_marked, put_number};
 pub use fault::Fault;
 pub use parts::Parts;
+pub use printing::{print_bytes, print_number, print_text};
 pub use read_terms::read_meetings;
 pub use readable::{Readable, number_up_to, read_all, read_between, read_list, read_number};
 pub use same::same_bytes;
-pub use spelled::{
-    Spelled, print_bytes, print_list, print_marked, print_number, print_text, print_whole,
-};
+pub use spelled::{Spelled, print_list, print_marked, print_whole};

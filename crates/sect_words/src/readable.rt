@@ -64,6 +64,36 @@ fn parse_number(word: &[u8]) -> Option<u64>
     if !is_plain(word) {
         return None;
     }
+    if word.len() < 20 {
+        short_number(word)
+    } else {
+        long_number(word)
+    }
+}
+
+/// The number of plain digits, of which there are so few that none is too large.
+fn short_number(word: &[u8]) -> Option<u64>
+    requires short { length word.now < 20 }
+    requires plain { (0 < length word.now) × (get_or word.now 0 0 ≡ 48 → length word.now ≡ 1) }
+    ensures found { IfSome result (λ n. decimal n ≡ word.now) }
+    ensures only { (n : ℕ) → n < 2 ^ 64 → decimal n ≡ word.now → IsSomeAnd result (λ read. read ≡ n) }
+{
+    let mut number: u64 = 0;
+    for digit in word {
+        if !digit.is_ascii_digit() {
+            return None;
+        }
+        number = number * 10 + u64::from(*digit - b'0');
+    }
+    Some(number)
+}
+
+/// The number of plain digits.
+fn long_number(word: &[u8]) -> Option<u64>
+    requires plain { (0 < length word.now) × (get_or word.now 0 0 ≡ 48 → length word.now ≡ 1) }
+    ensures found { IfSome result (λ n. decimal n ≡ word.now) }
+    ensures only { (n : ℕ) → n < 2 ^ 64 → decimal n ≡ word.now → IsSomeAnd result (λ read. read ≡ n) }
+{
     let mut number: u64 = 0;
     for digit in word {
         if !digit.is_ascii_digit() {

@@ -1,6 +1,6 @@
 // What is printed in one word.
 
-ghost use Rattle.std.specs.Prelude.{◌≡◌, ℕ, List, [], ◌++◌, ◌∷◌, OnOk, OnErr, decimal, length, take, map, codes, drop};
+ghost use Rattle.std.specs.Prelude.{◌≡◌, ℕ, List, [], ◌++◌, ◌∷◌, OnOk, OnErr, IfSome, decimal, length, take, map, codes, drop};
 ghost use Rattle.sect_base.specs.declared.limit.Limit.{Limit};
 ghost use Rattle.sect_base.specs.MeetingText.{meeting_text};
 ghost use Rattle.sect_command.specs.TreeText.{tree_text};
@@ -24,7 +24,7 @@ ghost use Rattle.sect_words.specs.Words.{
   choice_text,
 };
 
-use itoa::{Buffer, Integer};
+use crate::printing::{print_bytes, print_number, print_number_after, print_number_named};
 use sect_base::{
     Block, Caller, Choice, ClassId, ConfigId, CourseId, Curriculum, Day, GroupId, Items, Limit,
     MajorId, Meeting, Memory, ReservationId, SectionId, Sections, StudentId, print_day,
@@ -43,33 +43,40 @@ pub trait Spelled {
         ensures text { OnOk result (into.new.items ≡ into.old.items ++ spelling self.now) }
         ensures front { take (length into.old.items) into.new.items ≡ into.old.items };
 
+    /// The number whose digits are the word, where the word is told to be a number's.
+    fn number(&self) -> Option<u64>
+        ensures { IfSome result (λ n. decimal n ≡ spelling self.now) }
+    {
+        None
+    }
+
     /// Appends the mark and the word. After `Memory` a part of them may stand at the end.
     fn print_after(&self, mark: u8, into: &mut Vec<u8>) -> Result<(), Memory>
         ensures text { OnOk result (into.new.items ≡ into.old.items ++ (mark ∷ spelling self.now)) }
         ensures front { take (length into.old.items) into.new.items ≡ into.old.items }
     {
-        into.push(mark)?;
-        self.print(into)
+        match self.number() {
+            Some(number) => print_number_after(mark, number, into),
+            None => {
+                into.push(mark)?;
+                self.print(into)
+            }
+        }
     }
-}
 
-/// Appends these bytes. After `Memory` the text is as before.
-pub fn print_bytes(bytes: &[u8], into: &mut Vec<u8>) -> Result<(), Memory>
-    ensures text { OnOk result (into.new.items ≡ into.old.items ++ bytes.now) }
-    ensures front { take (length into.old.items) into.new.items ≡ into.old.items }
-    ensures memory { OnErr result (into.new.items ≡ into.old.items) }
-{
-    into.extend_from_slice(bytes)?;
-    Ok(())
-}
-
-/// Appends a text. After `Memory` the bytes are as before.
-pub fn print_text(text: &str, into: &mut Vec<u8>) -> Result<(), Memory>
-    ensures text { OnOk result (into.new.items ≡ into.old.items ++ text.now) }
-    ensures memory { OnErr result (into.new.items ≡ into.old.items) }
-{
-    into.extend_from_slice(text.as_bytes())?;
-    Ok(())
+    /// Appends the name, the mark and the word. After `Memory` a part of them may stand at the end.
+    fn print_named(&self, name: &[u8], mark: u8, into: &mut Vec<u8>) -> Result<(), Memory>
+        ensures text { OnOk result (into.new.items ≡ into.old.items ++ (name.now ++ (mark ∷ spelling self.now))) }
+        ensures front { take (length into.old.items) into.new.items ≡ into.old.items }
+    {
+        match self.number() {
+            Some(number) => print_number_named(name, mark, number, into),
+            None => {
+                print_bytes(name, into)?;
+                self.print_after(mark, into)
+            }
+        }
+    }
 }
 
 /// Appends a value's word. After `Memory` the bytes are as before.
@@ -83,26 +90,6 @@ pub fn print_whole<T: Spelled>(value: &T, into: &mut Vec<u8>) -> Result<(), Memo
         into.truncate(before);
     }
     printed
-}
-
-/// Appends a number in digits. After `Memory` the text is as before.
-pub fn print_number<I: Integer>(number: I, into: &mut Vec<u8>) -> Result<(), Memory>
-    ensures text { OnOk result (into.new.items ≡ into.old.items ++ I.text number) }
-    ensures front { take (length into.old.items) into.new.items ≡ into.old.items }
-    ensures memory { OnErr result (into.new.items ≡ into.old.items) }
-{
-    print_bytes(Buffer::new().format(number).as_bytes(), into)
-}
-
-/// Appends the mark and a number in digits, all in one piece. After `Memory` the text is as before.
-fn print_number_after(mark: u8, number: u64, into: &mut Vec<u8>) -> Result<(), Memory>
-    ensures text { OnOk result (into.new.items ≡ into.old.items ++ (mark ∷ decimal number)) }
-    ensures front { take (length into.old.items) into.new.items ≡ into.old.items }
-{
-    let mut bytes = [0; 40];
-    let start = number.write(&mut bytes) - 1;
-    bytes[start] = mark;
-    print_bytes(&bytes[start..], into)
 }
 
 /// Appends the mark and the value's word. After `Memory` a part of them may stand at the end.
@@ -162,8 +149,8 @@ impl Spelled for u8 {
         print_number(*self, into)
     }
 
-    fn print_after(&self, mark: u8, into: &mut Vec<u8>) -> Result<(), Memory> {
-        print_number_after(mark, u64::from(*self), into)
+    fn number(&self) -> Option<u64> {
+        Some(u64::from(*self))
     }
 }
 
@@ -174,8 +161,8 @@ impl Spelled for u16 {
         print_number(*self, into)
     }
 
-    fn print_after(&self, mark: u8, into: &mut Vec<u8>) -> Result<(), Memory> {
-        print_number_after(mark, u64::from(*self), into)
+    fn number(&self) -> Option<u64> {
+        Some(u64::from(*self))
     }
 }
 
@@ -186,8 +173,8 @@ impl Spelled for u32 {
         print_number(*self, into)
     }
 
-    fn print_after(&self, mark: u8, into: &mut Vec<u8>) -> Result<(), Memory> {
-        print_number_after(mark, u64::from(*self), into)
+    fn number(&self) -> Option<u64> {
+        Some(u64::from(*self))
     }
 }
 
@@ -198,8 +185,8 @@ impl Spelled for u64 {
         print_number(*self, into)
     }
 
-    fn print_after(&self, mark: u8, into: &mut Vec<u8>) -> Result<(), Memory> {
-        print_number_after(mark, *self, into)
+    fn number(&self) -> Option<u64> {
+        Some(*self)
     }
 }
 
@@ -210,8 +197,8 @@ impl Spelled for CourseId {
         print_number(self.0, into)
     }
 
-    fn print_after(&self, mark: u8, into: &mut Vec<u8>) -> Result<(), Memory> {
-        print_number_after(mark, u64::from(self.0), into)
+    fn number(&self) -> Option<u64> {
+        Some(u64::from(self.0))
     }
 }
 
@@ -222,8 +209,8 @@ impl Spelled for SectionId {
         print_number(self.0, into)
     }
 
-    fn print_after(&self, mark: u8, into: &mut Vec<u8>) -> Result<(), Memory> {
-        print_number_after(mark, u64::from(self.0), into)
+    fn number(&self) -> Option<u64> {
+        Some(u64::from(self.0))
     }
 }
 
@@ -234,8 +221,8 @@ impl Spelled for ConfigId {
         print_number(self.0, into)
     }
 
-    fn print_after(&self, mark: u8, into: &mut Vec<u8>) -> Result<(), Memory> {
-        print_number_after(mark, u64::from(self.0), into)
+    fn number(&self) -> Option<u64> {
+        Some(u64::from(self.0))
     }
 }
 
@@ -246,8 +233,8 @@ impl Spelled for GroupId {
         print_number(self.0, into)
     }
 
-    fn print_after(&self, mark: u8, into: &mut Vec<u8>) -> Result<(), Memory> {
-        print_number_after(mark, u64::from(self.0), into)
+    fn number(&self) -> Option<u64> {
+        Some(u64::from(self.0))
     }
 }
 
@@ -258,8 +245,8 @@ impl Spelled for ReservationId {
         print_number(self.0, into)
     }
 
-    fn print_after(&self, mark: u8, into: &mut Vec<u8>) -> Result<(), Memory> {
-        print_number_after(mark, u64::from(self.0), into)
+    fn number(&self) -> Option<u64> {
+        Some(u64::from(self.0))
     }
 }
 
@@ -270,8 +257,8 @@ impl Spelled for StudentId {
         print_number(self.0, into)
     }
 
-    fn print_after(&self, mark: u8, into: &mut Vec<u8>) -> Result<(), Memory> {
-        print_number_after(mark, u64::from(self.0), into)
+    fn number(&self) -> Option<u64> {
+        Some(u64::from(self.0))
     }
 }
 
@@ -282,8 +269,8 @@ impl Spelled for ClassId {
         print_number(self.0, into)
     }
 
-    fn print_after(&self, mark: u8, into: &mut Vec<u8>) -> Result<(), Memory> {
-        print_number_after(mark, u64::from(self.0), into)
+    fn number(&self) -> Option<u64> {
+        Some(u64::from(self.0))
     }
 }
 
@@ -294,8 +281,8 @@ impl Spelled for MajorId {
         print_number(self.0, into)
     }
 
-    fn print_after(&self, mark: u8, into: &mut Vec<u8>) -> Result<(), Memory> {
-        print_number_after(mark, u64::from(self.0), into)
+    fn number(&self) -> Option<u64> {
+        Some(u64::from(self.0))
     }
 }
 
@@ -353,6 +340,19 @@ impl<T: Spelled> Spelled for Items<T> {
             [] => print_bytes(&[mark, b'-'], into),
             [first, rest @ ..] => {
                 first.print_after(mark, into)?;
+                print_behind(b'+', rest, into)
+            }
+        }
+    }
+
+    fn print_named(&self, name: &[u8], mark: u8, into: &mut Vec<u8>) -> Result<(), Memory> {
+        match self.as_slice() {
+            [] => {
+                print_bytes(name, into)?;
+                print_bytes(&[mark, b'-'], into)
+            }
+            [first, rest @ ..] => {
+                first.print_named(name, mark, into)?;
                 print_behind(b'+', rest, into)
             }
         }

@@ -15,7 +15,8 @@ ghost use Rattle.sect_words.specs.Words.{
 };
 
 use crate::digits::{put, put_marked, put_number};
-use crate::spelled::{Spelled, print_behind, print_bytes, print_marked};
+use crate::printing::{print_behind_name, print_bytes};
+use crate::spelled::{Spelled, print_behind, print_marked};
 use sect_base::{
     AreaId, Choice, ClassId, Curriculum, Items, MajorId, Memory, ReservationId, SectionId,
 };
@@ -128,22 +129,21 @@ fn put_first_section(mark: u8, sections: &[SectionId], bytes: &mut [u8], end: us
 }
 
 /// Writes a choice up to its first section at the end of the bytes, and returns where it starts.
-fn put_choice_front(choice: &Choice, bytes: &mut [u8; 44]) -> usize
-    ensures start { (1 ≤ result) × (result ≤ 44) }
+fn put_choice_front(choice: &Choice, bytes: &mut [u8; 64]) -> usize
+    ensures start { (17 ≤ result) × (result ≤ 64) }
     ensures written { drop result bytes.new ≡ choice_front choice.now }
 {
-    let start = put_first_section(b'/', choice.sections.as_slice(), bytes, 44);
+    let start = put_first_section(b'/', choice.sections.as_slice(), bytes, 64);
     let start = put_marked(b'/', choice.config.0, bytes, start);
     let start = put_reservation(b'/', choice.reservation, bytes, start);
     put_number(choice.course.0, bytes, start)
 }
 
-/// Appends the front of a choice, and the sections behind its first. After `Memory` a part of them may stand at the end.
-fn print_front(front: &[u8], sections: &[SectionId], into: &mut Vec<u8>) -> Result<(), Memory>
-    ensures text { OnOk result (into.new.items ≡ into.old.items ++ (front.now ++ behind 43 (map section_text (drop 1 sections.now)))) }
+/// Appends the sections behind the first. After `Memory` a part of them may stand at the end.
+fn print_later(sections: &[SectionId], into: &mut Vec<u8>) -> Result<(), Memory>
+    ensures text { OnOk result (into.new.items ≡ into.old.items ++ behind 43 (map section_text (drop 1 sections.now))) }
     ensures front { take (length into.old.items) into.new.items ≡ into.old.items }
 {
-    print_bytes(front, into)?;
     match sections {
         [] => Ok(()),
         [_, rest @ ..] => print_behind(b'+', rest, into),
@@ -155,15 +155,17 @@ impl Spelled for Choice {
     ghost spelling = { choice_text };
 
     fn print(&self, into: &mut Vec<u8>) -> Result<(), Memory> {
-        let mut bytes = [0; 44];
+        let mut bytes = [0; 64];
         let start = put_choice_front(self, &mut bytes);
-        print_front(&bytes[start..], self.sections.as_slice(), into)
+        print_bytes(&bytes[start..], into)?;
+        print_later(self.sections.as_slice(), into)
     }
 
-    fn print_after(&self, mark: u8, into: &mut Vec<u8>) -> Result<(), Memory> {
-        let mut bytes = [0; 44];
+    fn print_named(&self, name: &[u8], mark: u8, into: &mut Vec<u8>) -> Result<(), Memory> {
+        let mut bytes = [0; 64];
         let start = put_choice_front(self, &mut bytes);
         let start = put(mark, &mut bytes, start);
-        print_front(&bytes[start..], self.sections.as_slice(), into)
+        print_behind_name(name, &mut bytes, start, into)?;
+        print_later(self.sections.as_slice(), into)
     }
 }

@@ -2,7 +2,7 @@
 use Rattle.std.proofs.Common.{◌≡◌, ◌<◌, ◌^◌, drop}
 use Rattle.std.specs.Str.Parse.{AllDigits}
 use Rattle.sect_words.proofs.Parsing.{read_on}
-use Rattle.sect_words.proofs.readable.parse_number.Given as goal
+use Rattle.sect_words.proofs.readable.long_number.Given as goal
 
 abbrev pub invariant-loop-digit : goal.invariant-loop-digit
 invariant-loop-digit l = record {
