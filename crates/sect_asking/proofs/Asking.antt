@@ -1,6 +1,6 @@
 -- Lines that ask, and what answers them.
-use Rattle.std.proofs.Common.{◌≡◌, ℕ, false, true, List, refl, sym, subst}
-use Rattle.std.specs.Prelude.{Option, Result, Ok, Err}
+use Rattle.std.proofs.Common.{◌≡◌, ℕ, false, true, List, ◌++◌, refl, sym, ap, ◌∙◌, subst}
+use Rattle.std.specs.Prelude.{Option, Some, Result, Ok, Err, codes, decimal, slice_get}
 use Rattle.sect_base.specs.declared.limit.Caller.{Caller}
 use Rattle.sect_base.specs.declared.limit.Id.{Id}
 use Rattle.sect_command.specs.declared.command.Command.{Command}
@@ -10,8 +10,12 @@ use Rattle.sect_edge.specs.Causes.{Rose}
 use Rattle.sect_once.specs.declared.answer.Answer.{Answer}
 use Rattle.sect_once.specs.declared.answer.Answer.TheVariants as answers
 use Rattle.sect_once.specs.declared.entry.Entry.{Entry}
+use Rattle.sect_once.specs.declared.entry.Note.{Note}
 use Rattle.sect_once.specs.Desks.{Standing, Answers as AnswersAsk}
-use Rattle.sect_once.specs.History.{IsFull}
+use Rattle.sect_once.specs.History.{history, IsFull}
+use Rattle.sect_once.specs.Told.{TellsReply}
+use Rattle.sect_text.specs.Replies.{reply_text}
+use Rattle.sect_wire.specs.Objects.{TellsTexts}
 use Rattle.sect_read.specs.declared.fault.WireFault.{WireFault}
 use Rattle.sect_read.specs.declared.fault.WireFault.TheVariants as wire
 use Rattle.sect_read.specs.declared.line.LineAsk.{LineAsk}
@@ -19,7 +23,7 @@ use Rattle.sect_wire.specs.Fits.{FitsCommand, FitsId}
 use Rattle.sect_wire.specs.Lines.{IsCommand, IsLine}
 use Rattle.sect_wire.specs.ReadingLines.{Says}
 use Rattle.sect_asking.specs.AnswerLines.{answer_line}
-use Rattle.sect_asking.specs.Asks.{is_passed_over, AnswersScript, AnswersText, IsAskedOn, IsAsking, IsKnown, IsTold, Sitting}
+use Rattle.sect_asking.specs.Asks.{is_passed_over, AnswersScript, AnswersText, HasReply, IsAskedOn, IsAsking, IsKnown, IsTold, Sitting}
 
 -- what an answer says where the log has room and the keeper met no fault
 pub is_told : {O K : Type 0} (stepped : O → ℕ → Caller → Command → O × Reply) (is_row : Entry Command Reply → List ℕ → Type 0) (rows : K → Option (List (List ℕ))) (faults : K → ℕ)
@@ -30,6 +34,24 @@ is_told stepped is_row rows faults d n id day command (answers.NumberReused plac
 is_told stepped is_row rows faults d n id day command answers.LogFull h room quiet = room h.1
 is_told stepped is_row rows faults d n id day command answers.KeeperFault h room quiet = quiet h.rose
 is_told stepped is_row rows faults d n id day command answers.Memory h room quiet = tt
+
+-- the entry of an answer has its reply
+pub has_reply : {O K : Type 0} (stepped : O → ℕ → Caller → Command → O × Reply) (is_row : Entry Command Reply → List ℕ → Type 0) (rows : K → Option (List (List ℕ))) (faults : K → ℕ)
+    (d n : Standing O Command Reply K) (id : Id) (day : ℕ) (command : Command) (answer : Answer Reply) → AnswersAsk stepped is_row rows faults id day command d n answer → HasReply n.log answer
+has_reply stepped is_row rows faults d n id day command (answers.Done place reply) h = (h.0.entry, h.0.at, h.0.reply_is)
+has_reply stepped is_row rows faults d n id day command (answers.NumberReused place) h = tt
+has_reply stepped is_row rows faults d n id day command answers.LogFull h = tt
+has_reply stepped is_row rows faults d n id day command answers.KeeperFault h = tt
+has_reply stepped is_row rows faults d n id day command answers.Memory h = tt
+
+-- the line of an answer has the text that tells the reply of its entry
+pub told_line : (is_told : Reply → List ℕ → Type 0) → TellsTexts is_told → (log : List (Note Command Reply)) (answer : Answer Reply) (place : ℕ) (reply : Reply) (text : List ℕ)
+    → HasReply log answer → answer ≡ answers.Done place reply → TellsReply is_told (history log) place text
+    → answer_line answer ≡ decimal place ++ (codes " " ++ (text ++ codes "\n"))
+told_line is_told tells log answer place reply text has is told =
+    let entry : (e : Entry Command Reply) × (slice_get (history log) place ≡ Some e) × (e.reply ≡ reply) = subst (HasReply log) is has in
+    let same : text ≡ reply_text reply = tells entry.0.reply text (told entry.0 entry.1) ∙ ap reply_text entry.2 in
+    ap answer_line is ∙ ap (λ (t : List ℕ). decimal place ++ (codes " " ++ (t ++ codes "\n"))) (sym same)
 
 -- the command of a line has a text
 command_fits : (command : Command) (words : List (List ℕ)) → IsCommand true command words → FitsCommand command

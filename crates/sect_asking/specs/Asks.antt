@@ -1,5 +1,5 @@
 -- How a desk answers a line.
-use Rattle.std.specs.Prelude.{◌≡◌, ℕ, ◌==◌, Bool, true, false, List, [], ◌∷◌, ⊤, Option, Some, None}
+use Rattle.std.specs.Prelude.{◌≡◌, ℕ, ◌==◌, Bool, true, false, List, [], ◌∷◌, ⊤, Option, Some, None, slice_get}
 use Rattle.sect_base.specs.declared.limit.Caller.{Caller}
 use Rattle.sect_base.specs.declared.limit.Id.{Id}
 use Rattle.sect_command.specs.declared.command.Command.{Command}
@@ -11,7 +11,7 @@ use Rattle.sect_once.specs.declared.answer.Answer.TheVariants as answers
 use Rattle.sect_once.specs.declared.entry.Entry.{Entry}
 use Rattle.sect_once.specs.declared.entry.Note.{Note}
 use Rattle.sect_once.specs.Desks.{HasOther, Standing, Answers as AnswersAsk}
-use Rattle.sect_once.specs.History.{IsFull}
+use Rattle.sect_once.specs.History.{history, IsFull}
 use Rattle.sect_read.specs.declared.line.LineAsk.{LineAsk}
 use Rattle.sect_wire.specs.Lines.{IsLine}
 use Rattle.sect_asking.specs.AnswerLines.{answer_line}
@@ -42,6 +42,14 @@ IsTold log id command (answers.NumberReused place) = HasOther log place id comma
 IsTold log id command answers.LogFull = ⊥
 IsTold log id command answers.KeeperFault = ⊥
 IsTold log id command answers.Memory = ⊤
+
+-- where the answer is of an entry, this has its reply
+abbrev pub HasReply : List (Note Command Reply) → Answer Reply → Type 0
+HasReply log (answers.Done place reply) = (e : Entry Command Reply) × (slice_get (history log) place ≡ Some e) × (e.reply ≡ reply)
+HasReply log (answers.NumberReused place) = ⊤
+HasReply log answers.LogFull = ⊤
+HasReply log answers.KeeperFault = ⊤
+HasReply log answers.Memory = ⊤
 
 -- the day that the line names, or else the clock's next
 abbrev pub IsAskedOn : Option ℕ → Option (List ℕ) → Option (List ℕ) → ℕ → Type 0

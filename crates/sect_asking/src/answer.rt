@@ -1,5 +1,5 @@
 // Prints the line that answers a request.
-ghost use Rattle.std.specs.Prelude.{◌≡◌, ◌++◌, OnOk, decimal};
+ghost use Rattle.std.specs.Prelude.{◌≡◌, ◌++◌, OnOk, codes, decimal};
 ghost use Rattle.sect_asking.specs.AnswerLines.{answer_line};
 ghost use Rattle.sect_command.specs.declared.reply.Reply.{Reply};
 ghost use Rattle.sect_once.specs.declared.answer.Answer.TheVariants.{Done, NumberReused};
@@ -29,9 +29,20 @@ fn print_done(place: u32, reply: &Reply, into: &mut Vec<u8>) -> Result<(), Memor
     ensures { OnOk result (into.new.items ≡ into.old.items ++ answer_line (Done place reply.now)) }
 {
     print_number(place, into)?;
-    into.extend_from_slice(b" ")?;
+    into.push(b' ')?;
     print_reply(reply, into)?;
-    into.extend_from_slice(b"\n")?;
+    into.push(b'\n')?;
+    Ok(())
+}
+
+/// Appends the place and the text of the reply.
+pub(crate) fn print_told(place: u32, reply: &[u8], into: &mut Vec<u8>) -> Result<(), Memory>
+    ensures { OnOk result (into.new.items ≡ into.old.items ++ (decimal place ++ (codes " " ++ (reply.now ++ codes "\n")))) }
+{
+    print_number(place, into)?;
+    into.push(b' ')?;
+    into.extend_from_slice(reply)?;
+    into.push(b'\n')?;
     Ok(())
 }
 

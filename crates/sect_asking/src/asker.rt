@@ -1,13 +1,14 @@
 // Answers the lines of a script.
-ghost use Rattle.std.specs.Prelude.{◌≡◌, ℕ, List, [], false, IfOk, OnOk, IsErrOf};
+ghost use Rattle.std.specs.Prelude.{◌≡◌, ℕ, List, [], ◌++◌, false, IfOk, OnOk, IsErrOf};
 ghost use Rattle.sect_script.specs.declared.script.LineFault.TheVariants as faults;
 ghost use Rattle.sect_once.specs.Desks.{Answers as AnswersAsk, IsSound};
-ghost use Rattle.sect_asking.specs.Asks.{is_passed_over, AnswersScript, IsAskedOn, IsKnown};
+ghost use Rattle.sect_asking.specs.Asks.{is_passed_over, AnswersScript, HasReply, IsAskedOn, IsKnown};
+ghost use Rattle.sect_asking.specs.AnswerLines.{answer_line};
 ghost use Rattle.sect_script.specs.Run.{MayAnswer};
 ghost use Rattle.sect_wire.specs.Fits.{FitsCommand, FitsDay, FitsId};
 ghost use Rattle.sect_wire.specs.Lines.{IsLine};
 
-use crate::answer::print_answer;
+use crate::answer::{print_answer, print_told};
 use sect_base::{Day, Memory};
 use sect_command::{Command, Reply};
 use sect_edge::{Clock, Keeper};
@@ -84,9 +85,21 @@ impl<O: TextObject, K: Keeper, C: Clock> Asker<O, K, C> {
         ensures { (day : ℕ) × IsAskedOn ask.day self.old.days self.new.days day
             × AnswersAsk O.stepped O.is_row K.rows K.faults ask.id day ask.command self.old.desk self.new.desk result }
     {
-        let LineAsk { day, id, command } = ask;
-        let day = asked_on(day, &mut self.clock);
-        self.desk.ask(id, day, command)
+        let day = asked_on(ask.day, &mut self.clock);
+        self.desk.ask_lent(ask.id, day, &ask.command)
+    }
+
+    /// Appends the line of an answer of the desk. Where its entry is the last, the text of the reply is that in the entry's row.
+    fn print_line(&self, answer: &Answer<Reply>, into: &mut Vec<u8>) -> Result<(), Memory>
+        requires { HasReply self.now.desk.log answer.now }
+        ensures { OnOk result (into.new.items ≡ into.old.items ++ answer_line answer.now) }
+    {
+        if let Answer::Done { place, reply: _ } = answer {
+            if let Some(text) = self.desk.reply_text(*place) {
+                return print_told(*place, text, into);
+            }
+        }
+        print_answer(answer, into)
     }
 
     /// Puts the answer to a line that isn't passed over behind what `into` holds, which is nothing.
@@ -100,7 +113,7 @@ impl<O: TextObject, K: Keeper, C: Clock> Asker<O, K, C> {
     {
         let ask = read_request(*into.allocator(), line)?;
         let answer = self.ask(ask);
-        match print_answer(&answer, into) {
+        match self.print_line(&answer, into) {
             Ok(()) => Ok(()),
             Err(Memory) => Err(LineFault::Memory),
         }

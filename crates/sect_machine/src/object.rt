@@ -6,22 +6,25 @@ ghost use Rattle.sect_model.specs.Look.{look as looked_at};
 ghost use Rattle.sect_model.specs.Step.{step as step_of};
 ghost use Rattle.sect_rows.specs.Laws.{MayAsk};
 ghost use Rattle.sect_read.specs.ReadingLines.{row_of};
+ghost use Rattle.sect_wire.specs.ToldRows.{IsReplyText};
 ghost use Rattle.sect_wire.specs.Laws.{IsRow};
 ghost use Rattle.sect_machine.specs.Standing.{state_in, Restores};
 
 use crate::machine::Machine;
 use crate::state::State;
 use crate::undo::MachineUndo;
-use sect_base::{Caller, Day, Memory, Same};
+use sect_base::{Caller, Day, Id, Memory, Same};
 use sect_command::{Command, Query, Reply, View};
 use sect_once::{Entry, Object};
 use sect_space::World;
 use sect_wait::{Marks, Queue};
-use sect_wire::{TextObject, print_row, read_row};
+use sect_wire::{TextObject, print_told_row, read_row};
 use std::alloc::Global;
 
 impl TextObject for Machine {
     ghost takes_texts = { λ id day command named dated told. (named, dated, told) };
+
+    ghost tells_texts = { λ reply text told. told };
 }
 
 impl Object for Machine {
@@ -48,6 +51,8 @@ impl Object for Machine {
     ghost looked = { looked_at };
 
     ghost is_row = { IsRow };
+
+    ghost is_told = { IsReplyText };
 
     ghost entry_of = { row_of };
 
@@ -87,8 +92,14 @@ impl Object for Machine {
         a.same(b)
     }
 
-    fn print_entry(entry: &Entry<Command, Reply>, into: &mut Vec<u8>) -> Result<(), Memory> {
-        print_row(entry, into)
+    fn print_entry(
+        id: Id,
+        day: Day,
+        command: &Command,
+        reply: &Reply,
+        into: &mut Vec<u8>,
+    ) -> Result<usize, Memory> {
+        print_told_row(id, day, command, reply, into)
     }
 
     fn read_entry(alloc: Global, row: &[u8]) -> Result<Option<Entry<Command, Reply>>, Memory> {

@@ -1,5 +1,5 @@
 -- What the fields of a desk keep when a request acts or is faulted, and what is answered then.
-use Rattle.std.proofs.Common.{◌≡◌, ◌≢◌, ℕ, ◌+◌, ◌^◌, ◌≤◌, ◌<◌, List, [], ◌∷◌, ◌++◌, length, refl, sym, ap, ◌∙◌, subst, inl, inr, ◌⊎◌, ⊎_elim, arith, Option, Some, None, length-append, slice_get}
+use Rattle.std.proofs.Common.{◌≡◌, ◌≢◌, ℕ, ◌+◌, ◌^◌, ◌≤◌, ◌<◌, List, [], ◌∷◌, ◌++◌, length, refl, sym, ap, ◌∙◌, subst, inl, inr, ◌⊎◌, ⊎_elim, arith, Option, Some, None, drop, length-append, slice_get}
 use Rattle.std.proofs.Math.Nat.{lt_of_not-le}
 use Rattle.sect_base.specs.declared.limit.Id.{Id}
 use Rattle.sect_base.specs.declared.limit.Caller.{Caller}
@@ -12,6 +12,7 @@ use Rattle.sect_once.specs.declared.entry.Unkept.{Unkept}
 use Rattle.sect_once.specs.declared.answer.Answer.{Answer}
 use Rattle.sect_once.specs.declared.answer.Answer.TheVariants.{Done, NumberReused, LogFull, KeeperFault, Memory}
 use Rattle.sect_once.specs.Faults.{AtMostFaults}
+use Rattle.sect_once.specs.Told.{TellsFrom, TellsLast, TellsReply}
 use Rattle.sect_once.specs.History.{ActsOnce, AreUnkept, history, log_of, IsFull, IsNew, IsReplay, state_after}
 use Rattle.sect_once.specs.Desks.{IsDesk, IsSound, IsTrail, Trail, Standing, Adds, Acts, IsFaulted, HasEntry, Answers}
 use Rattle.sect_once.proofs.Logs.{history-log_of, length-log_of, log_of-acts, log_of-faults, unkept-append, unkept-more, faulted-log_of, get-last}
@@ -23,42 +24,53 @@ more_faults noted base count count' h le = omega (arith, h, le)
 pub one_fault : (noted base count count' : ℕ) → AtMostFaults noted base count → Rose count count' → AtMostFaults (noted + 1) base count'
 one_fault noted base count count' h r = omega (arith, h, r)
 
+-- the text of a reply is told of its entry, which is the last
+pub last_told : {C R : Type 0} (is_told : R → List ℕ → Type 0) (entries : List (Entry C R)) (e : Entry C R) (text : List ℕ) → is_told e.reply text
+    → (place : ℕ) → place + 1 ≡ length (entries ++ e ∷ []) → TellsReply is_told (entries ++ e ∷ []) place text
+last_told {C = C} {R = R} is_told entries e text told place ends f here =
+    let at : place ≡ length entries = omega (arith, length-append entries (e ∷ []), ends) in
+    let last : slice_get (entries ++ e ∷ []) place ≡ Some e = ap (slice_get (entries ++ e ∷ [])) at ∙ get-last entries e in
+    let both : Some f ≡ Some e = sym here ∙ last in
+    let same : f ≡ e = cc in
+    subst (λ (x : Entry C R). is_told x.reply text) (sym same) told
+
+-- what stands from the place on is the text of the reply of the last entry
+pub told_from : {C R : Type 0} (is_told : R → List ℕ → Type 0) (entries : List (Entry C R)) (row : List ℕ) (reply_at : Option ℕ) (at place : ℕ) (text : List ℕ)
+    → TellsLast is_told entries row reply_at → reply_at ≡ Some at → place + 1 ≡ length entries → text ≡ drop at row → TellsReply is_told entries place text
+told_from {C = C} {R = R} is_told entries row reply_at at place text tells found ends is =
+    let last : TellsLast is_told entries row (Some at) = subst (TellsLast is_told entries row) found tells in
+    subst (TellsReply is_told entries place) (sym is) (last.1 place ends)
+
 module _ {C R : Type 0} (is_row : Entry C R → List ℕ → Type 0) where
-  pub desk_acted : (unkept : List Unkept) (entries : List (Entry C R)) (e : Entry C R) (row : List ℕ) (told told' : Option (List (List ℕ))) (base count count' : ℕ)
-      → IsDesk is_row unkept entries told base count → (IsFull is_row (log_of 0 unkept entries) → ⊥) → is_row e row → AddsRow told told' row → count ≤ count'
-      → IsDesk is_row unkept (entries ++ e ∷ []) told' base count'
-  desk_acted unkept entries e row told told' base count count' d room written added grows = record {
-    placed = unkept-more 0 (length entries) (length (entries ++ e ∷ [])) unkept d.placed (omega (arith, length-append entries (e ∷ [])));
-    roomy = λ before note after is. never_full-append is_row (log_of 0 unkept entries) (Acted e) d.roomy room before note after (sym (log_of-acts 0 (length entries) unkept entries e d.placed (omega arith)) ∙ is);
-    kept = tells-adds is_row told told' row entries e d.kept added written;
-    counted = more_faults (length unkept) base count count' d.counted grows;
-  }
-
-  pub desk_faulted : (unkept : List Unkept) (entries : List (Entry C R)) (id : Id) (place : ℕ) (told told' : Option (List (List ℕ))) (base count count' : ℕ)
-      → IsDesk is_row unkept entries told base count → (IsFull is_row (log_of 0 unkept entries) → ⊥) → place ≡ length entries → KeepsRows told told' → Rose count count'
-      → IsDesk is_row (unkept ++ record { behind = place; id = id } ∷ []) entries told' base count'
-  desk_faulted unkept entries id place told told' base count count' d room place_is kept rose =
-      subst (λ (n : ℕ). IsDesk is_row (unkept ++ record { behind = n; id = id } ∷ []) entries told' base count') (sym place_is) record {
-        placed = unkept-append 0 (length entries) unkept id d.placed;
-        roomy = λ before note after is. never_full-append is_row (log_of 0 unkept entries) (Faulted id) d.roomy room before note after (sym (log_of-faults 0 (length entries) unkept entries id d.placed (omega arith)) ∙ is);
-        kept = tells-keeps is_row told told' entries d.kept kept;
-        counted = subst (λ n. AtMostFaults n base count') (let l = length-append unkept (record { behind = length entries; id = id } ∷ []) in omega (arith, l)) (one_fault (length unkept) base count count' d.counted rose);
-      }
-
   -- the entries of a log with room are few enough
   pub has_room : (unkept : List Unkept) (entries : List (Entry C R)) → (IsFull is_row (log_of 0 unkept entries) → ⊥) → length entries < 2 ^ 20
   has_room unkept entries room =
       let few : length (log_of 0 unkept entries) < 2 ^ 20 = lt_of_not-le (λ (big : 2 ^ 20 ≤ length (log_of 0 unkept entries)). room (inl big)) in
       omega (arith, few, length-log_of 0 unkept entries)
 
-  pub desk_same : (unkept : List Unkept) (entries : List (Entry C R)) (told told' : Option (List (List ℕ))) (base count count' : ℕ)
-      → IsDesk is_row unkept entries told base count → KeepsRows told told' → count ≤ count' → IsDesk is_row unkept entries told' base count'
-  desk_same unkept entries told told' base count count' d kept grows = record {
-    placed = d.placed;
-    roomy = d.roomy;
-    kept = tells-keeps is_row told told' entries d.kept kept;
+module _ {C R : Type 0} (is_row : Entry C R → List ℕ → Type 0) (is_told : R → List ℕ → Type 0) where
+  pub desk_acted : (unkept : List Unkept) (entries : List (Entry C R)) (e : Entry C R) (row : List ℕ) (told told' : Option (List (List ℕ))) (base count count' : ℕ) (last last' : List ℕ) (was : Option ℕ) (at : ℕ)
+      → IsDesk is_row is_told unkept entries told base count last was → (IsFull is_row (log_of 0 unkept entries) → ⊥) → is_row e row → AddsRow told told' row → count ≤ count' → TellsFrom is_told at last' e.reply
+      → IsDesk is_row is_told unkept (entries ++ e ∷ []) told' base count' last' (Some at)
+  desk_acted unkept entries e row told told' base count count' last last' was at d room written added grows tells = record {
+    placed = unkept-more 0 (length entries) (length (entries ++ e ∷ [])) unkept d.placed (omega (arith, length-append entries (e ∷ [])));
+    roomy = λ before note after is. never_full-append is_row (log_of 0 unkept entries) (Acted e) d.roomy room before note after (sym (log_of-acts 0 (length entries) unkept entries e d.placed (omega arith)) ∙ is);
+    kept = tells-adds is_row told told' row entries e d.kept added written;
     counted = more_faults (length unkept) base count count' d.counted grows;
+    last = (tells.within, last_told is_told entries e (drop at last') tells.told);
   }
+
+  pub desk_faulted : (unkept : List Unkept) (entries : List (Entry C R)) (id : Id) (place : ℕ) (told told' : Option (List (List ℕ))) (base count count' : ℕ) (last last' : List ℕ) (was : Option ℕ)
+      → IsDesk is_row is_told unkept entries told base count last was → (IsFull is_row (log_of 0 unkept entries) → ⊥) → place ≡ length entries → KeepsRows told told' → Rose count count'
+      → IsDesk is_row is_told (unkept ++ record { behind = place; id = id } ∷ []) entries told' base count' last' None
+  desk_faulted unkept entries id place told told' base count count' last last' was d room place_is kept rose =
+      subst (λ (n : ℕ). IsDesk is_row is_told (unkept ++ record { behind = n; id = id } ∷ []) entries told' base count' last' None) (sym place_is) record {
+        placed = unkept-append 0 (length entries) unkept id d.placed;
+        roomy = λ before note after is. never_full-append is_row (log_of 0 unkept entries) (Faulted id) d.roomy room before note after (sym (log_of-faults 0 (length entries) unkept entries id d.placed (omega arith)) ∙ is);
+        kept = tells-keeps is_row told told' entries d.kept kept;
+        counted = subst (λ n. AtMostFaults n base count') (let l = length-append unkept (record { behind = length entries; id = id } ∷ []) in omega (arith, l)) (one_fault (length unkept) base count count' d.counted rose);
+        last = tt;
+      }
 
 pub keeps-refl : (told : Option (List (List ℕ))) → KeepsRows told told
 keeps-refl None = refl
@@ -99,9 +111,9 @@ module _ {O C R K : Type 0} (stepped : O → ℕ → Caller → C → O × R) (i
       subst (λ (z : Standing O C R K). IsFaulted stepped is_row rows faults id z n) is record { is_new = new0; roomy = room0; rose = rose; object = ap (λ (t : Trail O C R). t.object) same; log = log; base = refl; rows_stay = stay }
 
   -- what a desk's fields keep, of the desk as contracts see it
-  pub sound_from : (start : O) (past : Trail O C R) (unkept : List Unkept) (keeper : K) (base : ℕ) (d : Standing O C R K)
-      → seen_as past unkept keeper base ≡ d → IsTrail start stepped past → IsDesk is_row unkept past.entries (rows keeper) base (faults keeper) → IsSound stepped is_row rows faults start d
-  sound_from start past unkept keeper base d is t k =
+  pub sound_from : (is_told : R → List ℕ → Type 0) (start : O) (past : Trail O C R) (unkept : List Unkept) (keeper : K) (base : ℕ) (last : List ℕ) (at : Option ℕ) (d : Standing O C R K)
+      → seen_as past unkept keeper base ≡ d → IsTrail start stepped past → IsDesk is_row is_told unkept past.entries (rows keeper) base (faults keeper) last at → IsSound stepped is_row rows faults start d
+  sound_from is_told start past unkept keeper base last at d is t k =
       let old : history (log_of 0 unkept past.entries) ≡ past.entries = history-log_of 0 unkept past.entries in
       subst (IsSound stepped is_row rows faults start) is record {
         legal = record { replies = subst (IsReplay stepped start) (sym old) t.replies; once = subst ActsOnce (sym old) t.once };

@@ -1,10 +1,11 @@
 -- A row of 26 bytes in its parts.
-use Rattle.std.proofs.Common.{◌≡◌, ℕ, zero, suc, ◌+◌, List, [], ◌∷◌, ◌++◌, length, take, drop, get_or, refl, sym, ap, ◌∙◌, arith}
+use Rattle.std.proofs.Common.{◌≡◌, ℕ, zero, suc, ◌+◌, ◌-◌, List, [], ◌∷◌, ◌++◌, length, take, drop, get_or, refl, sym, ap, ◌∙◌, arith}
 use Rattle.std.specs.Int.{to_be_bytes, w32, w64}
-use Rattle.std.proofs.Math.Seq.{drop-cons}
-use Rattle.std.proofs.lemmas.List.{length-drop, take-append-drop, take_all}
+use Rattle.std.proofs.Math.Seq.{drop-append-add, drop-cons}
+use Rattle.std.proofs.lemmas.List.{length-append, length-drop, take-append-drop, take_all}
 use Rattle.sect_once.specs.declared.entry.Entry.{Entry}
-use Rattle.sect_once.specs.Tallies.{caller_number, caller_tag, tally_row}
+use Rattle.sect_once.specs.Tallies.{IsSumText, IsTallyRow, caller_number, caller_tag, tally_row}
+use Rattle.sect_once.specs.Told.{TellsFrom}
 
 drop-none : (n : ℕ) → ◌≡◌ {A = List ℕ} (drop n []) []
 drop-none zero = refl
@@ -51,3 +52,14 @@ row_made e day tag caller a b n r a_is day_is tag_is b_is caller_is n_is r_is =
     let a' : a ≡ to_be_bytes w32 e.day = a_is ∙ ap (to_be_bytes w32) day_is in
     let b' : b ≡ to_be_bytes w32 (caller_number e.id.caller) = b_is ∙ ap (to_be_bytes w32) caller_is in
     λ i. cells (a' i) (tag_is i) (b' i) (n_is i) e.command (r_is i)
+
+-- a row ends in the eight bytes of the reply
+pub row_tells : (old new row : List ℕ) (e : Entry ℕ ℕ) (count : ℕ) → IsTallyRow e row → new ≡ old ++ row → count ≡ length new → TellsFrom IsSumText (count - 8) new e.reply
+row_tells old new row e count written is many =
+    let long : length row ≡ 26 = ap length written.is in
+    let all : length new ≡ length old + length row = ap length is ∙ length-append old row in
+    let at : count - 8 ≡ length old + 18 = omega (arith, long, all, many) in
+    let last : drop 18 (tally_row e) ≡ to_be_bytes w64 e.reply = refl in record {
+      within = omega (arith, at, all, long);
+      told = ap (λ (n : ℕ). drop n new) at ∙ ap (drop (length old + 18)) is ∙ drop-append-add old row 18 ∙ ap (drop 18) written.is ∙ last;
+    }

@@ -16,6 +16,7 @@ use Rattle.sect_once.specs.declared.answer.Seen.{Seen}
 use Rattle.sect_once.specs.declared.answer.Seen.TheVariants.{New, Place, Reused}
 use Rattle.sect_once.specs.History.{IsLegal, faulted, history, log_of, ActsOnce, AreUnkept, HasRow, IsFull, IsIndex, IsNew, IsReplay, NeverFull, TellsRows, state_after}
 use Rattle.sect_once.specs.Faults.{AtMostFaults}
+use Rattle.sect_once.specs.Told.{TellsLast}
 
 -- an object and the entries that brought it where it is
 pub record Trail (O C R : Type 0) : Type 0 where
@@ -53,11 +54,12 @@ module _ {O C R : Type 0} (start : O) (stepped : O → ℕ → Caller → C → 
 
 module _ {C R : Type 0} where
   -- what the fields of a desk keep beside its past
-  pub record IsDesk (is_row : Entry C R → List ℕ → Type 0) (unkept : List Unkept) (entries : List (Entry C R)) (told : Option (List (List ℕ))) (base count : ℕ) : Type 0 where
+  pub record IsDesk (is_row : Entry C R → List ℕ → Type 0) (is_told : R → List ℕ → Type 0) (unkept : List Unkept) (entries : List (Entry C R)) (told : Option (List (List ℕ))) (base count : ℕ) (row : List ℕ) (reply_at : Option ℕ) : Type 0 where
     pub placed : AreUnkept 0 (length entries) unkept
     pub roomy : NeverFull is_row (log_of 0 unkept entries)
     pub kept : TellsRows is_row told entries
     pub counted : AtMostFaults (length unkept) base count
+    pub last : TellsLast is_told entries row reply_at
 
   -- the entry at this place has this id, this command and this reply
   pub record HasEntry (log : List (Note C R)) (place : ℕ) (id : Id) (command : C) (reply : R) : Type 0 where

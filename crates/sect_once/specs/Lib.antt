@@ -5,3 +5,4 @@ pub mod History
 pub mod Opening
 pub mod Tallies
 pub mod TallyLaws
+pub mod Told

@@ -43,6 +43,10 @@ pub record IsTallyRow (e : Entry ℕ ℕ) (row : List ℕ) : Type 0 where
   pub reply : e.reply < 2 ^ 64
   pub is : row ≡ tally_row e
 
+-- the text of a sum: its eight bytes
+abbrev pub IsSumText : ℕ → List ℕ → Type 0
+IsSumText sum text = text ≡ to_be_bytes w64 sum
+
 -- the numbers of a request are in the ranges of their types
 abbrev pub MayAsk : Id → ℕ → ℕ → Type 0
 MayAsk id day command = (day ≤ 84005) × (caller_number id.caller < 2 ^ 32) × (id.number < 2 ^ 64) × (command < 2 ^ 8)

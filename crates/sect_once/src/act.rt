@@ -7,8 +7,8 @@ ghost use Rattle.sect_edge.specs.Causes.{HasCauseFor};
 ghost use Rattle.sect_edge.specs.Keeper.{AddsRow, KeepsRows};
 ghost use Rattle.sect_once.specs.Desks.{Adds};
 ghost use Rattle.sect_once.specs.History.{HasRow, IsNew, key_of};
+ghost use Rattle.sect_once.specs.Told.{TellsFrom};
 
-use crate::entry::Entry;
 use crate::object::Object;
 use crate::past::{Past, add, remove};
 use crate::texts::Texts;
@@ -16,14 +16,20 @@ use sect_base::{Caller, Day, Id, Memory};
 use sect_edge::{KeepFault, Keeper};
 use std::collections::HashMap;
 
-/// Prints the row of the entry into the buffer, where it stands alone.
-fn written<O: Object>(entry: &Entry<O::Command, O::Reply>, row: &mut Vec<u8>) -> Result<(), Memory>
-    requires { HasRow O.is_row entry.now }
-    ensures { OnOk result (O.is_row entry.now row.new.items) }
+/// Prints the row of an entry into the buffer, where it stands alone, and gives the place of the reply's text.
+fn written<O: Object>(
+    id: Id,
+    day: Day,
+    command: &O::Command,
+    reply: &O::Reply,
+    row: &mut Vec<u8>,
+) -> Result<usize, Memory>
+    requires { HasRow O.is_row (record { id = id; day = day; command = command.now; reply = reply.now }) }
+    ensures row { OnOk result (O.is_row (record { id = id; day = day; command = command.now; reply = reply.now }) row.new.items) }
+    ensures told { IfOk result (λ at. TellsFrom O.is_told at row.new.items reply.now) }
 {
     row.clear();
-    O::print_entry(entry, row)?;
-    Ok(())
+    O::print_entry(id, day, command, reply, row)
 }
 
 /// Acts a command on the object in its place. After want of memory the state is as before.
@@ -49,30 +55,25 @@ pub(crate) fn take_back<O: Object>(object: &mut Box<O>, undo: O::Undo)
     object.as_mut().undo(undo);
 }
 
-/// Steps the object, and prints the row of the entry that this makes, which has one.
+/// Steps the object, and prints the row of the entry that this makes, which has one, with the place of the reply's text in it.
 fn step<O: Object>(
     object: &mut Box<O>,
     row: &mut Vec<u8>,
     id: Id,
     day: Day,
-    command: O::Command,
-) -> Result<(O::Reply, O::Undo), Memory>
-    requires { HasRow O.is_row (record { id = id; day = day; command = command; reply = (O.stepped (O.state object.old.value) day id.caller command).1 }) }
-    ensures state { IfOk result (λ r. O.state object.new.value ≡ (O.stepped (O.state object.old.value) day id.caller command).0) }
-    ensures reply { IfOk result (λ r. r.0 ≡ (O.stepped (O.state object.old.value) day id.caller command).1) }
-    ensures row { IfOk result (λ r. O.is_row (record { id = id; day = day; command = command; reply = r.0 }) row.new.items) }
+    command: &O::Command,
+) -> Result<(O::Reply, O::Undo, usize), Memory>
+    requires { HasRow O.is_row (record { id = id; day = day; command = command.now; reply = (O.stepped (O.state object.old.value) day id.caller command.now).1 }) }
+    ensures state { IfOk result (λ r. O.state object.new.value ≡ (O.stepped (O.state object.old.value) day id.caller command.now).0) }
+    ensures reply { IfOk result (λ r. r.0 ≡ (O.stepped (O.state object.old.value) day id.caller command.now).1) }
+    ensures row { IfOk result (λ r. O.is_row (record { id = id; day = day; command = command.now; reply = r.0 }) row.new.items) }
+    ensures told { IfOk result (λ r. TellsFrom O.is_told r.2 row.new.items r.0) }
     ensures undo { IfOk result (λ r. O.restores r.1 object.new.value (O.state object.old.value)) }
     ensures err { OnErr result (O.state object.new.value ≡ O.state object.old.value) }
 {
-    let (reply, undo) = step_in(object, day, id.caller, &command)?;
-    let entry = Entry {
-        id,
-        day,
-        command,
-        reply,
-    };
-    match written::<O>(&entry, row) {
-        Ok(()) => Ok((entry.reply, undo)),
+    let (reply, undo) = step_in(object, day, id.caller, command)?;
+    match written::<O>(id, day, command, &reply, row) {
+        Ok(at) => Ok((reply, undo, at)),
         Err(memory) => {
             take_back(object, undo);
             Err(memory)
@@ -111,31 +112,34 @@ fn keep<K: Keeper>(
 }
 
 impl<O: Object> Past<O> {
-    /// A new request acts, and its row is appended. On a fault the past and the keeper's rows are as before.
+    /// A new request acts, and its row, which is printed into the buffer, is appended. The place of the reply's text comes with
+    /// the reply. On a fault the past and the keeper's rows are as before.
     pub(crate) fn act<K: Keeper>(
         &mut self,
         keeper: &mut K,
+        row: &mut Vec<u8>,
         id: Id,
         day: Day,
-        command: O::Command,
-    ) -> Result<O::Reply, KeepFault>
-        requires askable { O.may_ask id day command }
+        command: &O::Command,
+    ) -> Result<(O::Reply, usize), KeepFault>
+        requires askable { O.may_ask id day command.now }
         requires new { IsNew id self.old.entries }
         requires notes { length self.old.entries < 2 ^ 20 }
-        ensures ok { IfOk result (λ reply. Adds O.stepped O.is_row
-            (record { id = id; day = day; command = command; reply = reply }) self.old self.new (K.rows keeper.old)
+        ensures ok { IfOk result (λ r. Adds O.stepped O.is_row
+            (record { id = id; day = day; command = command.now; reply = r.0 }) self.old self.new (K.rows keeper.old)
             (K.rows keeper.new)) }
+        ensures told { IfOk result (λ r. TellsFrom O.is_told r.1 row.new.items r.0) }
         ensures same { OnErr result (self.new ≡ self.old) }
         ensures rows { OnErr result (KeepsRows (K.rows keeper.old) (K.rows keeper.new)) }
         ensures cause { HasCauseFor KeepFault.Failed (K.faults keeper.old) (K.faults keeper.new) result }
     {
-        let stepped = step(&mut self.object, &mut self.row, id, day, command);
-        let Ok((reply, undo)) = stepped else {
+        let stepped = step(&mut self.object, row, id, day, command);
+        let Ok((reply, undo, at)) = stepped else {
             return Err(KeepFault::Memory);
         };
-        let row = self.row.as_slice();
-        match keep(&mut self.rows, &mut self.places, keeper, id, row) {
-            Ok(()) => Ok(reply),
+        let text = row.as_slice();
+        match keep(&mut self.rows, &mut self.places, keeper, id, text) {
+            Ok(()) => Ok((reply, at)),
             Err(fault) => {
                 take_back(&mut self.object, undo);
                 Err(fault)

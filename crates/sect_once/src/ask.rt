@@ -31,19 +31,25 @@ fn repeat<O: Object>(
 
 impl<O: Object, K: Keeper> Desk<O, K> {
     /// A new request acts.
-    fn act(&mut self, id: Id, day: Day, command: O::Command) -> Answer<O::Reply>
-        requires askable { O.may_ask id day command }
+    fn act(&mut self, id: Id, day: Day, command: &O::Command) -> Answer<O::Reply>
+        requires askable { O.may_ask id day command.now }
         requires new { IsNew id (history self.old.log) }
         requires room { IsFull O.is_row self.old.log → ⊥ }
-        ensures { Answers O.stepped O.is_row K.rows K.faults id day command self.old self.new result }
+        ensures { Answers O.stepped O.is_row K.rows K.faults id day command.now self.old self.new result }
     {
         if self.unkept.reserve(1).is_err() {
             return Answer::Memory;
         }
         let place = self.past.acted();
-        let acted = self.past.act(&mut self.keeper, id, day, command);
+        self.reply_at = None;
+        let acted = self
+            .past
+            .act(&mut self.keeper, &mut self.row, id, day, command);
         match acted {
-            Ok(reply) => Answer::Done { place, reply },
+            Ok((reply, at)) => {
+                self.reply_at = Some(at);
+                Answer::Done { place, reply }
+            }
             Err(fault) => match fault {
                 KeepFault::Failed => {
                     self.unkept.push_reserved(Unkept { behind: place, id });
@@ -55,16 +61,16 @@ impl<O: Object, K: Keeper> Desk<O, K> {
     }
 
     /// Answers a request.
-    fn answer(&mut self, id: Id, day: Day, command: O::Command) -> Answer<O::Reply>
-        requires { O.may_ask id day command }
-        ensures { Answers O.stepped O.is_row K.rows K.faults id day command self.old self.new result }
+    fn answer(&mut self, id: Id, day: Day, command: &O::Command) -> Answer<O::Reply>
+        requires { O.may_ask id day command.now }
+        ensures { Answers O.stepped O.is_row K.rows K.faults id day command.now self.old self.new result }
     {
         self.recall_sound();
         let Ok(found) = self.entry_with(&id) else {
             return Answer::Memory;
         };
         match found {
-            Some((place, entry)) => repeat::<O>(place, entry, &command),
+            Some((place, entry)) => repeat::<O>(place, entry, command),
             None => {
                 if self.is_full() {
                     Answer::LogFull
@@ -87,6 +93,15 @@ impl<O: Object, K: Keeper> Desk<O, K> {
     pub fn ask(&mut self, id: Id, day: Day, command: O::Command) -> Answer<O::Reply>
         requires { O.may_ask id day command }
         ensures answer { Answers O.stepped O.is_row K.rows K.faults id day command self.old self.new result }
+        ensures sound { IsSound O.stepped O.is_row K.rows K.faults O.start self.new }
+    {
+        self.ask_lent(id, day, &command)
+    }
+
+    /// Asks the same of a command that the caller keeps.
+    pub fn ask_lent(&mut self, id: Id, day: Day, command: &O::Command) -> Answer<O::Reply>
+        requires { O.may_ask id day command.now }
+        ensures answer { Answers O.stepped O.is_row K.rows K.faults id day command.now self.old self.new result }
         ensures sound { IsSound O.stepped O.is_row K.rows K.faults O.start self.new }
     {
         let answer = self.answer(id, day, command);

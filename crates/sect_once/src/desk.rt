@@ -1,7 +1,8 @@
 // The desk: what has acted, the log of it, and the keeper of its rows.
-ghost use Rattle.std.specs.Prelude.{◌≡◌, ◌↔◌, ◌<◌, IfNone, IfOk, IfSome, IsTrue, OnErr, length, slice_get, Some};
+ghost use Rattle.std.specs.Prelude.{◌≡◌, ◌↔◌, ◌<◌, ◌≤◌, IfNone, IfOk, IfSome, IsTrue, OnErr, drop, length, slice_get, Some};
 ghost use Rattle.sect_once.specs.Desks.{FindsIn, SeesEntry};
 ghost use Rattle.sect_once.specs.History.{history, IsFull, IsNew};
+ghost use Rattle.sect_once.specs.Told.{TellsReply};
 
 use crate::answer::Seen;
 use crate::entry::{Entry, Unkept};
@@ -15,13 +16,16 @@ use std::mem::forget;
 use std::snapshot::Snapshot;
 
 /// An object with the log of what it was asked, over a keeper that has the row of each entry. Of the log the requests that
-/// weren't kept stand apart from what has acted.
+/// weren't kept stand apart from what has acted. The row that was printed last stands in a buffer of its own, with the place of
+/// its reply's text where it is the last entry's.
 pub struct Desk<O: Object, K: Keeper> {
     pub(crate) alloc: Global,
     pub(crate) past: Past<O>,
     pub(crate) unkept: Vec<Unkept>,
     pub(crate) keeper: K,
     pub(crate) opened: Snapshot<K>,
+    pub(crate) row: Vec<u8>,
+    pub(crate) reply_at: Option<usize>,
 }
 
 /// It is written out, so that a caller does not prove again how each part is dropped.
@@ -33,6 +37,8 @@ impl<O: Object + Drop, K: Keeper + Drop> Drop for Desk<O, K> {
             unkept: _,
             keeper: _,
             opened: _,
+            row: _,
+            reply_at: _,
         } = self;
     }
 }
@@ -45,7 +51,7 @@ impl<O: Object, K: Keeper> Model for Desk<O, K> {
 
     ghost view = { λ d. record { object = d.past.object; log = log_of 0 d.unkept.items d.past.entries; keeper = d.keeper; base = K.faults d.opened.value } };
 
-    ghost invariant = { λ d. IsDesk O.is_row d.unkept.items d.past.entries (K.rows d.keeper) (K.faults d.opened.value) (K.faults d.keeper) };
+    ghost invariant = { λ d. IsDesk O.is_row O.is_told d.unkept.items d.past.entries (K.rows d.keeper) (K.faults d.opened.value) (K.faults d.keeper) d.row.items d.reply_at };
 }
 
 /// What an entry is to a command with its id.
@@ -57,6 +63,14 @@ fn seen_at<O: Object>(entry: &Entry<O::Command, O::Reply>, place: u32, command: 
     } else {
         Seen::Reused(place)
     }
+}
+
+/// The bytes from a place on.
+fn bytes_from(bytes: &[u8], at: usize) -> &[u8]
+    requires { at ≤ length bytes.now }
+    ensures { result.now ≡ drop at bytes.now }
+{
+    &bytes[at..]
 }
 
 impl<O: Object, K: Keeper> Desk<O, K> {
@@ -72,6 +86,8 @@ impl<O: Object, K: Keeper> Desk<O, K> {
             unkept: _,
             keeper,
             opened: _,
+            row: _,
+            reply_at: _,
         } = self;
         keeper
     }
@@ -89,9 +105,12 @@ impl<O: Object, K: Keeper> Desk<O, K> {
             unkept,
             keeper,
             opened: _,
+            row,
+            reply_at: _,
         } = self;
         forget(past);
         forget(unkept);
+        forget(row);
         keeper
     }
 
@@ -115,6 +134,18 @@ impl<O: Object, K: Keeper> Desk<O, K> {
         ensures { IfOk result (λ entry. slice_get (history self.now.log) place ≡ Some entry) }
     {
         self.past.entry(self.alloc, place)
+    }
+
+    /// The text of the reply of the entry at a place, where this is the last and its row is the one that was printed last.
+    pub fn reply_text(&self, place: u32) -> Option<&[u8]>
+        ensures { IfSome result (λ text. TellsReply O.is_told (history self.now.log) place text.now) }
+    {
+        let at = self.reply_at?;
+        if u64::from(place) + 1 == u64::from(self.past.acted()) {
+            Some(bytes_from(self.row.as_slice(), at))
+        } else {
+            None
+        }
     }
 
     /// The entry with an id, and its place. Where there is one, reading it takes memory.

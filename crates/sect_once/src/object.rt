@@ -5,9 +5,10 @@ ghost use Rattle.sect_base.specs.declared.limit.Id.{Id};
 ghost use Rattle.sect_once.specs.declared.entry.Entry.{Entry};
 ghost use Rattle.sect_once.specs.Desks.{NextHasRow};
 ghost use Rattle.sect_once.specs.History.{HasRow};
+ghost use Rattle.sect_once.specs.Told.{TellsFrom};
 
 use crate::entry::Entry;
-use sect_base::{Caller, Day, Memory};
+use sect_base::{Caller, Day, Id, Memory};
 use std::alloc::Global;
 
 /// An object whose commands act one at a time, and whose entries have rows as texts.
@@ -42,6 +43,9 @@ pub trait Object: Sized {
 
     /// The row is the text of the entry.
     ghost is_row: { Entry Self.Command Self.Reply → List ℕ → Type 0 };
+
+    /// The text is that of the reply.
+    ghost is_told: { Self.Reply → List ℕ → Type 0 };
 
     /// The entry that a row is read as.
     ghost entry_of: { List ℕ → Option (Entry Self.Command Self.Reply) };
@@ -80,13 +84,18 @@ pub trait Object: Sized {
     fn same_reply(a: &Self::Reply, b: &Self::Reply) -> bool
         ensures { IsTrue result ↔ (a.now ≡ b.now) };
 
-    /// Writes the row of an entry that has one behind what is there.
+    /// Writes the row of an entry that has one behind what is there. It ends in the text of the reply, whose place is given.
     fn print_entry(
-        entry: &Entry<Self::Command, Self::Reply>,
+        id: Id,
+        day: Day,
+        command: &Self::Command,
+        reply: &Self::Reply,
         into: &mut Vec<u8>,
-    ) -> Result<(), Memory>
-        requires { HasRow is_row entry.now }
-        ensures { OnOk result ((row : List ℕ) × is_row entry.now row × (into.new.items ≡ into.old.items ++ row)) };
+    ) -> Result<usize, Memory>
+        requires { HasRow is_row (record { id = id; day = day; command = command.now; reply = reply.now }) }
+        ensures row { OnOk result ((row : List ℕ) × is_row (record { id = id; day = day; command = command.now; reply = reply.now }) row
+            × (into.new.items ≡ into.old.items ++ row)) }
+        ensures told { IfOk result (λ at. TellsFrom is_told at into.new.items reply.now) };
 
     /// The entry of which this is the row, where there is one.
     fn read_entry(

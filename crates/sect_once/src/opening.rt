@@ -126,6 +126,8 @@ impl<O: Object, K: Keeper> Desk<O, K> {
             unkept: Vec::new(alloc),
             keeper,
             opened,
+            row: Vec::new(alloc),
+            reply_at: None,
         };
         desk.recall_sound();
         Ok(desk)

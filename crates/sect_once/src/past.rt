@@ -43,13 +43,11 @@ use std::collections::HashMap;
 use std::marker::Model;
 
 /// An object that is the replay of its entries. Of these the rows alone are kept, and the place of each id; an entry is read
-/// from its row when one is asked for. The row that is printed next stands in a buffer of its own. The object lies in a place of
-/// its own, so that who takes a desk over doesn't copy it.
+/// from its row when one is asked for. The object lies in a place of its own, so that who takes a desk over doesn't copy it.
 pub(crate) struct Past<O: Object> {
     pub(crate) object: Box<O>,
     pub(crate) rows: Texts,
     pub(crate) places: HashMap<u128, u32>,
-    pub(crate) row: Vec<u8>,
 }
 
 /// It is written out, so that a caller does not prove again how each part is dropped.
@@ -59,7 +57,6 @@ impl<O: Object + Drop> Drop for Past<O> {
             object: _,
             rows: _,
             places: _,
-            row: _,
         } = self;
     }
 }
@@ -137,7 +134,6 @@ impl<O: Object> Past<O> {
             object: Box::new(alloc, O::empty(alloc))?,
             rows: Texts::none(alloc),
             places: HashMap::new(alloc),
-            row: Vec::new(alloc),
         })
     }
 

@@ -3,7 +3,7 @@ ghost use Rattle.std.specs.Prelude.{◌≡◌, ℕ, ◌<◌, ◌≤◌, ◌+◌,
 ghost use Rattle.std.specs.Int.{from_be_bytes, to_be_bytes, w32, w64};
 ghost use Rattle.sect_base.specs.declared.limit.Caller.{Caller};
 ghost use Rattle.sect_once.specs.declared.entry.Entry.{Entry};
-ghost use Rattle.sect_once.specs.Tallies.{IsTallyRow, MayAsk, caller_number, caller_tag, tallied, tally_entry};
+ghost use Rattle.sect_once.specs.Tallies.{IsSumText, IsTallyRow, MayAsk, caller_number, caller_tag, tallied, tally_entry};
 
 use crate::entry::Entry;
 use crate::object::Object;
@@ -41,6 +41,8 @@ impl Object for Tally {
 
     ghost is_row = { IsTallyRow };
 
+    ghost is_told = { IsSumText };
+
     ghost entry_of = { tally_entry };
 
     ghost may_ask = { MayAsk };
@@ -71,15 +73,15 @@ impl Object for Tally {
         a == b
     }
 
-    fn print_entry(entry: &Entry<u8, u64>, into: &mut Vec<u8>) -> Result<(), Memory> {
-        let Entry {
-            id,
-            day,
-            command,
-            reply,
-        } = entry;
-        into.extend_from_slice(&row_of(*day, id.caller, id.number, *command, *reply))?;
-        Ok(())
+    fn print_entry(
+        id: Id,
+        day: Day,
+        command: &u8,
+        reply: &u64,
+        into: &mut Vec<u8>,
+    ) -> Result<usize, Memory> {
+        into.extend_from_slice(&row_of(day, id.caller, id.number, *command, *reply))?;
+        Ok(into.len() - 8)
     }
 
     fn read_entry(_alloc: Global, row: &[u8]) -> Result<Option<Entry<u8, u64>>, Memory> {

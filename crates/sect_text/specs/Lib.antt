@@ -1,3 +1,4 @@
 pub mod Commands
 pub mod Replies
 pub mod Rows
+pub mod ToldRows

@@ -6,7 +6,9 @@ mod phrase;
 mod reply_text;
 mod row_text;
 mod row_words;
+mod told_row;
 
 pub use command_text::print_command;
 pub use reply_text::print_reply;
 pub use row_text::{is_marked, print_row};
+pub use told_row::print_told_row;

@@ -2,12 +2,9 @@
 
 ghost use Rattle.std.specs.Prelude.{◌≡◌, ◌≤◌, ◌+◌, ◌++◌, ◌∷◌, [], OnOk, OnErr, drop, length, take};
 ghost use Rattle.sect_words.specs.Parts.{sentence};
-ghost use Rattle.sect_text.specs.Commands.{command_text};
-ghost use Rattle.sect_text.specs.Replies.{reply_text};
 ghost use Rattle.sect_text.specs.Rows.{is_marked as has_mark, behind_mark, row_front, id_words, row_text};
 
-use crate::command_text::print_verb;
-use crate::reply_text::print_answer_words;
+use crate::told_row::print_told_row;
 use sect_base::{Day, Id, Memory};
 use sect_command::{Command, Reply};
 use sect_once::Entry;
@@ -54,7 +51,7 @@ fn put_front(marked: bool, day: Day, id: Id, bytes: &mut [u8; 48]) -> usize
 }
 
 /// Appends the front of a row, its id and a space, all in one piece. After `Memory` the bytes are as before.
-fn print_front(marked: bool, day: Day, id: Id, into: &mut Vec<u8>) -> Result<(), Memory>
+pub(crate) fn print_front(marked: bool, day: Day, id: Id, into: &mut Vec<u8>) -> Result<(), Memory>
     ensures text { OnOk result (into.new.items ≡ into.old.items ++ (sentence (row_front marked day ++ id_words id) ++ (32 ∷ []))) }
     ensures front { take (length into.old.items) into.new.items ≡ into.old.items }
 {
@@ -64,7 +61,7 @@ fn print_front(marked: bool, day: Day, id: Id, into: &mut Vec<u8>) -> Result<(),
 }
 
 /// Appends `=` between two spaces. After `Memory` the bytes are as before.
-fn print_equals(into: &mut Vec<u8>) -> Result<(), Memory>
+pub(crate) fn print_equals(into: &mut Vec<u8>) -> Result<(), Memory>
     ensures text { OnOk result (into.new.items ≡ into.old.items ++ (32 ∷ 61 ∷ 32 ∷ [])) }
     ensures front { take (length into.old.items) into.new.items ≡ into.old.items }
 {
@@ -75,25 +72,6 @@ fn print_equals(into: &mut Vec<u8>) -> Result<(), Memory>
     Ok(())
 }
 
-/// Appends `=` between two spaces, and the reply. After `Memory` a part of them may stand at the end.
-fn print_reply_words(reply: &Reply, into: &mut Vec<u8>) -> Result<(), Memory>
-    ensures text { OnOk result (into.new.items ≡ into.old.items ++ (32 ∷ 61 ∷ 32 ∷ reply_text reply.now)) }
-    ensures front { take (length into.old.items) into.new.items ≡ into.old.items }
-{
-    print_equals(into)?;
-    print_answer_words(reply, into)
-}
-
-/// Appends the row of an entry. After `Memory` a part of it may stand at the end.
-fn print_row_words(entry: &Entry<Command, Reply>, into: &mut Vec<u8>) -> Result<(), Memory>
-    ensures text { OnOk result (into.new.items ≡ into.old.items ++ row_text entry.now) }
-    ensures front { take (length into.old.items) into.new.items ≡ into.old.items }
-{
-    print_front(is_marked(&entry.command), entry.day, entry.id, into)?;
-    print_verb(&entry.command, into)?;
-    print_reply_words(&entry.reply, into)
-}
-
 /// Appends the row of an entry, with the mark `2` exactly where the command has a first day or a class other than 5.
 /// It takes memory. After `Memory` the bytes are as before.
 pub fn print_row(entry: &Entry<Command, Reply>, into: &mut Vec<u8>) -> Result<(), Memory>
@@ -101,9 +79,11 @@ pub fn print_row(entry: &Entry<Command, Reply>, into: &mut Vec<u8>) -> Result<()
     ensures memory { OnErr result (into.new.items ≡ into.old.items) }
 {
     let before = into.len();
-    let printed = print_row_words(entry, into);
-    if printed.is_err() {
-        into.truncate(before);
+    match print_told_row(entry.id, entry.day, &entry.command, &entry.reply, into) {
+        Ok(_) => Ok(()),
+        Err(memory) => {
+            into.truncate(before);
+            Err(memory)
+        }
     }
-    printed
 }

@@ -6,7 +6,7 @@ use Rattle.sect_once.proofs.past.Past.act.Goals as goal
 pub step-stepped-requires : goal.step-stepped-requires
 step-stepped-requires g c =
     row_behind g.O.Object.start g.O.Object.stepped g.O.Object.is_row g.O.Object.may_ask g.met.O.Object.next_has_row (g.O.Object.state c.self.inside.object.value) (entries_of g.O.Object.entry_of c.self.inside.rows) c.self.inside.places c.self.inside.rows
-    c.self.invariant c.args.id c.args.day c.args.command c.requires.askable
+    c.self.invariant c.args.id c.args.day c.args.command.now c.requires.askable
 
 pub keep-requires : goal.keep-requires
 keep-requires g c = let many = as_many g.O.Object.start g.O.Object.stepped g.O.Object.is_row (g.O.Object.state c.self.inside.object.value) (entries_of g.O.Object.entry_of c.self.inside.rows) c.self.inside.places c.self.inside.rows c.args.self.now c.self.invariant c.self.view_is in record { few = omega (arith, many.1) }
@@ -14,16 +14,16 @@ keep-requires g c = let many = as_many g.O.Object.start g.O.Object.stepped g.O.O
 pub invariant_of-self-in-Ok-keep : goal.invariant_of-self-in-Ok-keep
 invariant_of-self-in-Ok-keep g c = past_added g.O.Object.start g.O.Object.stepped g.O.Object.is_row g.O.Object.entry_of g.met.O.Object.reads_row
     (g.O.Object.state c.self.inside.object.value) (g.O.Object.state c.step-stepped.new.object.value) c.self.inside.rows c.keep.new.rows c.self.inside.places c.keep.new.places
-    c.args.id c.args.day c.args.command c.in-Ok.reply c.as_slice-row.result.now c.args.self.now c.self.invariant c.self.view_is c.in-Ok-keep.ensures.added
+    c.args.id c.args.day c.args.command.now c.in-Ok.reply c.as_slice-text.result.now c.args.self.now c.self.invariant c.self.view_is c.in-Ok-keep.ensures.added
     c.in-Ok.ensures.state c.in-Ok.ensures.reply c.requires.notes c.requires.new c.keep.ensures.small c.in-Ok-keep.ensures.places
-    (subst (g.O.Object.is_row (record { id = c.args.id; day = c.args.day; command = c.args.command; reply = c.in-Ok.reply })) (sym c.as_slice-row.ensures.value) c.in-Ok.ensures.row)
+    (subst (g.O.Object.is_row (record { id = c.args.id; day = c.args.day; command = c.args.command.now; reply = c.in-Ok.reply })) (sym c.as_slice-text.ensures.value) c.in-Ok.ensures.row)
 
 pub returns-in-Ok-keep-clause-ok : goal.returns-in-Ok-keep-clause-ok
 returns-in-Ok-keep-clause-ok g c = past_adds g.O.Object.start g.O.Object.stepped g.O.Object.is_row g.O.Object.entry_of g.met.O.Object.reads_row
     (g.O.Object.state c.self.inside.object.value) (g.O.Object.state c.step-stepped.new.object.value) c.self.inside.rows c.keep.new.rows c.self.inside.places _ _
-    c.args.id c.args.day c.args.command c.in-Ok.reply c.as_slice-row.result.now c.args.self.now c.self.invariant c.self.view_is c.in-Ok-keep.ensures.added
+    c.args.id c.args.day c.args.command.now c.in-Ok.reply c.as_slice-text.result.now c.args.self.now c.self.invariant c.self.view_is c.in-Ok-keep.ensures.added
     c.in-Ok.ensures.state c.in-Ok.ensures.reply
-    (subst (g.O.Object.is_row (record { id = c.args.id; day = c.args.day; command = c.args.command; reply = c.in-Ok.reply })) (sym c.as_slice-row.ensures.value) c.in-Ok.ensures.row) c.in-Ok-keep.ensures.rows
+    (subst (g.O.Object.is_row (record { id = c.args.id; day = c.args.day; command = c.args.command.now; reply = c.in-Ok.reply })) (sym c.as_slice-text.ensures.value) c.in-Ok.ensures.row) c.in-Ok-keep.ensures.rows
 
 pub invariant_of-self-in-Err-keep : goal.invariant_of-self-in-Err-keep
 invariant_of-self-in-Err-keep g c = past_same g.O.Object.start g.O.Object.stepped g.O.Object.is_row g.O.Object.entry_of g.met.O.Object.reads_row
