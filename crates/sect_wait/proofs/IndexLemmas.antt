@@ -10,7 +10,7 @@ use Rattle.std.proofs.lemmas.List.{take_more}
 use Rattle.sect_base.specs.declared.ids.CourseId.{CourseId}
 use Rattle.sect_base.specs.declared.ids.StudentId.{StudentId}
 use Rattle.sect_base.specs.declared.table.Table.{Table}
-use Rattle.sect_base.specs.Table.{value_at, Puts, Stays}
+use Rattle.sect_base.specs.Table.{value_at}
 use Rattle.sect_catalog.proofs.SearchLemmas.{any-append}
 use Rattle.sect_model.specs.declared.held.Waiting.{Waiting}
 use Rattle.sect_model.specs.Freer.{Among}
@@ -20,7 +20,7 @@ use Rattle.sect_model.proofs.Members.{Member, both, both-left, both-right, or-le
 use Rattle.sect_model.proofs.FreerLemmas.{among, member}
 use Rattle.sect_wait.specs.declared.by_student.ByStudent.{ByStudent}
 use Rattle.sect_wait.specs.declared.index.Index.{Index}
-use Rattle.sect_wait.specs.Indexed.{tickets_by, own_tickets, has_ticket, KeepsTickets, KeepsOtherTickets, KeepsOwn, KeepsOthersOwn, is_indexed, IsIndexOf, is_told, AreTold}
+use Rattle.sect_wait.specs.Indexed.{tickets_by, own_tickets, has_ticket, KeepsTickets, KeepsOtherTickets, KeepsOwn, KeepsOthersOwn, KeepsWaited, is_indexed, IsIndexOf, is_told, AreTold}
 use Rattle.sect_wait.proofs.MarkLemmas.{among-append}
 
 -- ---- the tickets of a number
@@ -66,42 +66,28 @@ module _ (old new : BTreeMap ℕ (Vec ℕ)) (number ticket : ℕ) where
 
 -- ---- the tickets of a student
 
--- the student is marked, and others may be
-still-marked : (old new : Table Bool) (student n : ℕ) → Puts old new student true → is_some (value_at old n) ≡ true → is_some (value_at new n) ≡ true
-still-marked old new student n puts was = ap is_some (puts n) ∙ by_test (student == n)
-  where
-    by_test : (b : Bool) → is_some (cond b (Some true) (value_at old n)) ≡ true
-    by_test true = refl
-    by_test false = was
-
 module _ (old new : ByStudent) where
-  -- a ticket stands behind those of a student, who was marked before that
-  pub own-noted : (student : ℕ) → Puts old.marked new.marked student true → KeepsTickets old.tickets new.tickets → KeepsOwn old new
-  own-noted student puts keeps n t has = by_mark (is_some (value_at old.marked n)) refl has
+  -- tickets stay, and so does who waited
+  pub own-kept : KeepsWaited old new → KeepsTickets old.tickets new.tickets → KeepsOwn old new
+  own-kept waited keeps n t has = by_test (is_some (value_at old.waited n)) refl has
     where
-      by_mark : (b : Bool) → is_some (value_at old.marked n) ≡ b → has_ticket t (cond b (tickets_by old.tickets n) []) ≡ true → has_ticket t (own_tickets new n) ≡ true
-      by_mark true was h = ap (λ b. has_ticket t (cond b (tickets_by new.tickets n) [])) (still-marked old.marked new.marked student n puts was) ∙ keeps n t h
-      by_mark false was h = absurd (not_both false h refl)
+      by_test : (b : Bool) → is_some (value_at old.waited n) ≡ b → has_ticket t (cond b (tickets_by old.tickets n) []) ≡ true → has_ticket t (own_tickets new n) ≡ true
+      by_test true was h = ap (λ b. has_ticket t (cond b (tickets_by new.tickets n) [])) (waited n was) ∙ keeps n t h
+      by_test false was h = absurd (not_both false h refl)
 
-  pub own-has : {A E : Type 0} (r : Result A E) (student ticket : ℕ) → Puts old.marked new.marked student true → OnOk r (has_ticket ticket (tickets_by new.tickets student) ≡ true)
+  pub own-has : {A E : Type 0} (r : Result A E) (student ticket : ℕ) → is_some (value_at new.waited student) ≡ true → OnOk r (has_ticket ticket (tickets_by new.tickets student) ≡ true)
       → OnOk r (has_ticket ticket (own_tickets new student) ≡ true)
-  own-has (Ok x) student ticket puts has =
-      ap (λ b. has_ticket ticket (cond b (tickets_by new.tickets student) []))
-      (ap is_some (puts student) ∙ ap (λ b. is_some (cond b (Some true) (value_at old.marked student))) (eq-eqb student student refl)) ∙ has
-  own-has (Err x) student ticket puts has = tt
-
-  -- marks and tickets stay
-  pub own-stays : Stays old.marked new.marked → new.tickets ≡ old.tickets → KeepsOwn old new
-  own-stays stays same n t has = (λ i. has_ticket t (cond (is_some (stays n i)) (tickets_by (same i) n) [])) ∙ has
+  own-has (Ok x) student ticket waited has = ap (λ b. has_ticket ticket (cond b (tickets_by new.tickets student) [])) waited ∙ has
+  own-has (Err x) student ticket waited has = tt
 
   -- the ticket was taken away from those of a student
-  pub own-struck : (ticket : ℕ) → new.marked ≡ old.marked → KeepsOtherTickets ticket old.tickets new.tickets → KeepsOthersOwn ticket old new
+  pub own-struck : (ticket : ℕ) → new.waited ≡ old.waited → KeepsOtherTickets ticket old.tickets new.tickets → KeepsOthersOwn ticket old new
   own-struck ticket same keeps n other differs has =
-      ap (λ (m : Table Bool). has_ticket other (cond (is_some (value_at m n)) (tickets_by new.tickets n) [])) same ∙ by_mark (is_some (value_at old.marked n)) has
+      ap (λ (t : Table Unit). has_ticket other (cond (is_some (value_at t n)) (tickets_by new.tickets n) [])) same ∙ by_test (is_some (value_at old.waited n)) has
     where
-      by_mark : (b : Bool) → has_ticket other (cond b (tickets_by old.tickets n) []) ≡ true → has_ticket other (cond b (tickets_by new.tickets n) []) ≡ true
-      by_mark true h = keeps n other differs h
-      by_mark false h = h
+      by_test : (b : Bool) → has_ticket other (cond b (tickets_by old.tickets n) []) ≡ true → has_ticket other (cond b (tickets_by new.tickets n) []) ≡ true
+      by_test true h = keeps n other differs h
+      by_test false h = h
 
 -- one course more has the ticket
 pub courses-more : (old new : BTreeMap ℕ (Vec ℕ)) (ticket : ℕ) (cs : List CourseId) (i : ℕ) (none : CourseId) → i < length cs → KeepsTickets old new

@@ -30,9 +30,13 @@ abbrev pub KeepsOtherTickets : ℕ → BTreeMap ℕ (Vec ℕ) → BTreeMap ℕ (
 KeepsOtherTickets ticket before after =
     (number other : ℕ) → other == ticket ≡ false → has_ticket other (tickets_by before number) ≡ true → has_ticket other (tickets_by after number) ≡ true
 
--- the tickets of a student, none where the student isn't marked
+-- the tickets of a student, none where the student never waited
 abbrev pub own_tickets : ByStudent → ℕ → List ℕ
-own_tickets students student = cond (is_some (value_at students.marked student)) (tickets_by students.tickets student) []
+own_tickets students student = cond (is_some (value_at students.waited student)) (tickets_by students.tickets student) []
+
+-- who ever waited is still told
+abbrev pub KeepsWaited : ByStudent → ByStudent → Type 0
+KeepsWaited before after = (student : ℕ) → is_some (value_at before.waited student) ≡ true → is_some (value_at after.waited student) ≡ true
 
 -- each ticket is the student's whose it was, and maybe another's too
 abbrev pub KeepsOwn : ByStudent → ByStudent → Type 0

@@ -1,4 +1,4 @@
--- Nobody is marked.
+-- Nobody waited.
 use Rattle.std.proofs.Common.{ap, cond, []}
 use Rattle.std.specs.Option.{is_some}
 use Rattle.sect_wait.specs.Indexed.{tickets_by}

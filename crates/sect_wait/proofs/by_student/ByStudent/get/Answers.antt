@@ -1,4 +1,4 @@
--- The mark tells whether there are some.
+-- Who never waited has none.
 use Rattle.std.proofs.Common.{◌∙◌, ap, cond, sym, []}
 use Rattle.std.specs.Option.{is_some}
 use Rattle.sect_wait.specs.Indexed.{tickets_by}
