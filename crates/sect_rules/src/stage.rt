@@ -1,4 +1,4 @@
-// A node of a search: a path with what its options and their rules ask for, found once.
+// A node of a search: a path with the ground of its course, its reservation and its subparts, found once.
 
 ghost use Rattle.std.specs.Prelude.{◌≡◌, ◌≤◌, length, slice_get, Contains, IfSome, Some, option_copied};
 ghost use Rattle.std.specs.Option.{option_and_then, option_map};
@@ -25,8 +25,8 @@ use sect_space::World;
 use std::marker::Model;
 use std::snapshot::Snapshot;
 
-/// A path of a move in a world, with what its options and their rules ask for. Contracts see the three. The path itself
-/// isn't held, so that a search can go on along it: what asks for it is given it again.
+/// A path of a move in a world, of which contracts see the three, with what was found of its course, reservation and
+/// configuration. The path itself isn't held, so that a search can go on along it: what asks for it is given it again.
 #[derive(Drop)]
 pub struct Stage<'a, const N: usize> {
     world: &'a World,

@@ -190,7 +190,8 @@ fn mark_courses(courses: &[CourseRow], marks: &mut Marks) -> Result<(), Memory>
     Ok(())
 }
 
-/// Marks the entries that are noted as spent and want a course of the course's offering, which is looked up where some are noted.
+/// Marks the entries that are noted as spent and want a course of the offering of this course, which is looked up where some are
+/// noted. Where memory runs out, some of them are marked.
 fn mark_noted_by(
     world: &World,
     queue: &Queue,
