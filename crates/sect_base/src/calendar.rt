@@ -1,6 +1,6 @@
 // The slots of a week that are taken.
 
-ghost use Rattle.std.specs.Prelude.{◌≡◌, ◌↔◌, ◌<◌, ◌≤◌, ◌+◌, ◌*◌, ◌==◌, ◌&&◌, ◌||◌, ℕ, IsTrue, false, nat_le, nat_lt};
+ghost use Rattle.std.specs.Prelude.{◌≡◌, ◌↔◌, ◌<◌, ◌≤◌, ◌+◌, ◌*◌, ◌&&◌, ◌||◌, ℕ, IsTrue, false, nat_le, nat_lt};
 ghost use Rattle.sect_base.specs.Calendar.{is_set, is_of_word, takes_pair, HasPairsOf, IsClearFor};
 ghost use Rattle.sect_base.specs.Pattern.{Pattern, has_bit, meetings_overlap};
 

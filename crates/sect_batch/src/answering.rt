@@ -16,11 +16,11 @@ ghost use Rattle.sect_model.specs.Batch.{
 ghost use Rattle.sect_batch.specs.Lines.{Tells, MetFits, answer_by, unmet_of, met_of};
 
 use crate::lines::{Answer, Lines};
-use sect_base::{CourseId, Items, Memory, Move, Steps, StudentId};
+use sect_base::{CourseId, Memory, Steps, StudentId};
 use sect_command::LineResult;
 use sect_model::Outcome;
 use sect_people::CourseAsk;
-use sect_search::{search, usual_budget, want_of};
+use sect_search::{LentMove, LentWant, search_lent, usual_budget};
 use sect_space::World;
 use std::alloc::Global;
 use std::sync::ledger::Ledger;
@@ -109,27 +109,17 @@ fn search_for<L: Ledger>(
     ensures line { IfOk result (λ line. line ≡ search_result world.now.world student ask.now rank) }
     ensures met { IfOk result (λ line. MetFits world.now.world student line) }
 {
-    let mv = request_move(alloc, student, rank, ask)?;
-    let outcome = search(alloc, world, &mv, usual_budget(), steps)?;
+    let mv = request_move(student, rank, ask);
+    let outcome = search_lent(alloc, world, &mv, usual_budget(), steps)?;
     Ok(result_of(outcome))
 }
 
 /// The move that takes one of the request's courses.
-fn request_move(
-    alloc: Global,
-    student: StudentId,
-    rank: u8,
-    ask: &CourseAsk,
-) -> Result<Move, Memory>
-    ensures { IfOk result (λ mv. mv ≡ move_of_request student ask.now rank) }
+fn request_move(student: StudentId, rank: u8, ask: &CourseAsk) -> LentMove<'_>
+    ensures { result ≡ move_of_request student ask.now rank }
 {
-    let mut take = Vec::new(alloc);
-    take.push(want_of(alloc, ask, rank)?)?;
-    Ok(Move {
-        student,
-        give: Items::from_vec(Vec::new(alloc)),
-        take: Items::from_vec(take),
-    })
+    let want = LentWant::new(ask.courses.as_slice(), &[], rank);
+    LentMove::one(student, &[], want)
 }
 
 /// The line of a search.

@@ -14,7 +14,7 @@ use crate::planned::Planned;
 use crate::wants::wants_of;
 use sect_base::{Budget, CourseId, Duplicate, Items, Memory, Move, Steps, StudentId, Want};
 use sect_model::Enrolment;
-use sect_search::search_in;
+use sect_search::{LentMove, search_in};
 use sect_space::World;
 use std::alloc::Global;
 use std::marker::Brand;
@@ -130,7 +130,7 @@ fn plan_want<L: Ledger>(
 {
     let rank = want.rank;
     let mv = plan_move(alloc, world, student, &planned.kept, want)?;
-    let outcome = search_in::<20, L>(alloc, world, &mv, budget, steps)?;
+    let outcome = search_in::<20, L>(alloc, world, &LentMove::of(&mv), budget, steps)?;
     let Move {
         student: _,
         give: _,

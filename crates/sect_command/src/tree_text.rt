@@ -47,7 +47,7 @@ fn put_leaf(rule: Rule, number: u32, bytes: &mut [u8; 24]) -> usize
     write_digits(u64::from(number_of(rule)), bytes, colon)
 }
 
-/// Appends a leaf, all in one piece. After `Memory` the text is as before.
+/// Appends a leaf, all in one piece. After `Memory` a part of it may stand at the end.
 fn print_leaf(rule: Rule, number: u32, into: &mut Vec<u8>) -> Result<(), Memory>
     ensures text { OnOk result (into.new.items ≡ into.old.items ++ tree_text (broken rule number)) }
     ensures front { take (length into.old.items) into.new.items ≡ into.old.items }

@@ -16,10 +16,10 @@ ghost use Rattle.sect_space.specs.Undo.{Since, Undoable};
 ghost use Rattle.sect_machine.specs.Acting.{moved_world, outcome_reply};
 
 use crate::change::make;
-use sect_base::{Budget, Choice, CourseId, Duplicate, Items, Memory, Move, Steps, StudentId, Want};
+use sect_base::{Budget, Choice, CourseId, Items, Memory, Steps, StudentId, Want};
 use sect_command::Reply;
 use sect_model::{Change, Enrolment, Outcome};
-use sect_search::search;
+use sect_search::{LentMove, LentWant, search_lent};
 use sect_space::{Undo, World};
 use std::alloc::Global;
 use std::sync::ledger::Ledger;
@@ -27,7 +27,7 @@ use std::sync::ledger::Ledger;
 /// Takes the student out of the courses given up, and enrols it by each choice. Where memory runs out, some of it is done.
 fn make_move(
     world: &mut World,
-    mv: &Move,
+    mv: &LentMove,
     choices: &[Choice],
     undo: &mut Undo,
 ) -> Result<(), Memory>
@@ -38,8 +38,8 @@ fn make_move(
     ensures since { Since world.old.world undo.old.backs world.new.world undo.new.backs }
     ensures undoable { Undoable world.new undo.new.backs }
 {
-    give_up(world, mv.student, mv.give.as_slice(), undo)?;
-    take(world, mv.student, choices, undo)
+    give_up(world, mv.student(), mv.give(), undo)?;
+    take(world, mv.student(), choices, undo)
 }
 
 /// Takes the student out of each course. It holds them, and none stands twice.
@@ -90,7 +90,7 @@ fn take(
 fn search_move<L: Ledger>(
     alloc: Global,
     world: &mut World,
-    mv: &Move,
+    mv: &LentMove,
     budget: Budget,
     undo: &mut Undo,
     steps: &mut Steps<L>,
@@ -102,7 +102,7 @@ fn search_move<L: Ledger>(
     ensures since { Since world.old.world undo.old.backs world.new.world undo.new.backs }
     ensures undoable { Undoable world.new undo.new.backs }
 {
-    let outcome = search(alloc, world, mv, budget, steps)?;
+    let outcome = search_lent(alloc, world, mv, budget, steps)?;
     if let Outcome::Found(choices, _) = &outcome {
         make_move(world, mv, choices.as_slice(), undo)?;
     }
@@ -128,7 +128,7 @@ pub fn enrol<L: Ledger>(
     ensures since { Since world.old.world undo.old.backs world.new.world undo.new.backs }
     ensures undoable { Undoable world.new undo.new.backs }
 {
-    let mv = enrol_move(alloc, student, want)?;
+    let mv = LentMove::one(student, &[], LentWant::of(want));
     let outcome = search_move(alloc, world, &mv, budget, undo, steps)?;
     Ok(enrolled(outcome))
 }
@@ -156,26 +156,9 @@ pub fn swap<L: Ledger>(
     ensures since { Since world.old.world undo.old.backs world.new.world undo.new.backs }
     ensures undoable { Undoable world.new undo.new.backs }
 {
-    let mv = Move {
-        student,
-        give: give.copy(alloc)?,
-        take: take.copy(alloc)?,
-    };
+    let mv = LentMove::all(student, give.as_slice(), take.as_slice());
     let outcome = search_move(alloc, world, &mv, budget, undo, steps)?;
     Ok(swapped(outcome))
-}
-
-/// The move that takes one want.
-pub fn enrol_move(alloc: Global, student: StudentId, want: &Want) -> Result<Move, Memory>
-    ensures { IfOk result (λ mv. mv ≡ move_of_enrolment student want.now) }
-{
-    let mut take = Vec::new(alloc);
-    take.push(want.copy(alloc)?)?;
-    Ok(Move {
-        student,
-        give: Items::from_vec(Vec::new(alloc)),
-        take: Items::from_vec(take),
-    })
 }
 
 /// The reply to an enrolment with this outcome.

@@ -9,14 +9,13 @@ ghost use Rattle.sect_model.specs.Covers.{covers};
 ghost use Rattle.sect_model.specs.Premises.{MoveFits};
 ghost use Rattle.sect_model.specs.Refusals.{refusal_of};
 ghost use Rattle.sect_model.specs.Refuted.{move_in};
-ghost use Rattle.sect_model.specs.Step.{on_day};
+ghost use Rattle.sect_model.specs.Step.{enrol_move as move_of_enrolment, on_day};
 ghost use Rattle.sect_space.specs.Undo.{Since, Undoable};
 ghost use Rattle.sect_machine.specs.Standing.{state_in};
 
 use crate::change::set_day;
 use crate::machine::Machine;
-use crate::moves::enrol_move;
-use sect_base::{Block, Day, Duplicate, Memory, Move};
+use sect_base::{Block, Day, Duplicate, Items, Memory, Move, StudentId, Want};
 use sect_command::Command;
 use sect_search::verify;
 use sect_space::{Undo, World};
@@ -113,4 +112,17 @@ fn move_of(alloc: Global, command: &Command) -> Result<Option<Move>, Memory>
         })),
         _ => Ok(None),
     }
+}
+
+/// The move that takes one want.
+fn enrol_move(alloc: Global, student: StudentId, want: &Want) -> Result<Move, Memory>
+    ensures { IfOk result (λ mv. mv ≡ move_of_enrolment student want.now) }
+{
+    let mut take = Vec::new(alloc);
+    take.push(want.copy(alloc)?)?;
+    Ok(Move {
+        student,
+        give: Items::from_vec(Vec::new(alloc)),
+        take: Items::from_vec(take),
+    })
 }

@@ -2,6 +2,7 @@ pub mod Added
 pub mod Decided
 pub mod FreeTimes
 pub mod Ground
+pub mod Lent
 pub mod Listed
 pub mod Moment
 pub mod Overlapped

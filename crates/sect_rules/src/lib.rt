@@ -6,6 +6,7 @@ mod course;
 mod ground;
 mod held;
 pub mod laws;
+mod lent;
 mod moment;
 mod nth;
 mod options;
@@ -21,6 +22,7 @@ mod rules;
 mod section;
 mod stage;
 
+pub use lent::{LentMove, LentWant};
 pub use options::option;
 pub use path::{Decisions, Path, PathOf};
 pub use picked::{Picked, pick_of};

@@ -23,11 +23,12 @@ use crate::held::{
     counts_given, counts_made, credits_made, credits_staying, given_by, holds_kept, holds_made,
     made_by, max_credits,
 };
+use crate::lent::LentMove;
 use crate::overlap::{is_clear, lesser_of};
 use crate::path::PathOf;
 use crate::rows::subparts_in;
 use sect_base::{
-    Choice, ConfigId, CourseId, Day, Level, Meeting, Move, ReservationId, SectionId, StudentId,
+    Choice, ConfigId, CourseId, Day, Level, Meeting, ReservationId, SectionId, StudentId,
 };
 use sect_catalog::{Catalogue, CourseRow, OfferingRow, SubpartRow};
 use sect_model::Enrolment;
@@ -62,15 +63,19 @@ impl<'a> Model for Moment<'a> {
 
 impl<'a> Moment<'a> {
     /// The world at the path of the move.
-    pub fn new<const N: usize>(world: &'a World, mv: &'a Move, path: &'a PathOf<N>) -> Moment<'a>
+    pub fn new<const N: usize>(
+        world: &'a World,
+        mv: &'a LentMove<'a>,
+        path: &'a PathOf<N>,
+    ) -> Moment<'a>
         requires { MoveStands world.now.world mv.now }
         ensures { result ≡ record { at = world_at world.now.world mv.now path.now; student = mv.now.student } }
     {
         world.recall_kept();
         Moment {
             world,
-            student: mv.student,
-            give: mv.give.as_slice(),
+            student: mv.student(),
+            give: mv.give(),
             done: path.done(),
         }
     }

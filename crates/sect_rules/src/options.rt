@@ -14,13 +14,14 @@ ghost use Rattle.sect_rules.specs.Listed.{listed};
 ghost use Rattle.sect_rules.specs.Picked.{pick_of as decision_of, AreFound, IsConfig, IsPicked, IsSection};
 
 use crate::ground::Ground;
+use crate::lent::{LentMove, LentWant};
 use crate::nth::Ordered;
 use crate::parted::Parted;
 use crate::path::PathOf;
 use crate::picked::{Picked, pick_of};
 use crate::rows::{configs, next_sections, reservations};
 use crate::stage::Stage;
-use sect_base::{CourseId, Move, Want};
+use sect_base::{CourseId, Move};
 use sect_catalog::{ConfigRow, SectionRow, SubpartRow};
 use sect_model::Pick;
 use sect_space::World;
@@ -42,7 +43,8 @@ pub fn option<const N: usize>(world: &World, mv: &Move, path: &PathOf<N>, i: usi
     ensures value { result ≡ slice_get (options_at world.now.world mv.now path.now) i }
     ensures option { IfSome result (λ pick. Contains (options_at world.now.world mv.now path.now) pick) }
 {
-    let stage = Stage::new(world, mv, path);
+    let lent = LentMove::of(mv);
+    let stage = Stage::new(world, &lent, path);
     let picked = stage.option(&stage.options(path), i)?;
     Some(pick_of(&picked))
 }
@@ -51,7 +53,7 @@ pub fn option<const N: usize>(world: &World, mv: &Move, path: &PathOf<N>, i: usi
 #[inline(always)]
 pub fn all_options<'a, const N: usize>(
     world: &World,
-    want: Option<&'a Want>,
+    want: Option<LentWant<'a>>,
     ground: Option<Ground<'a>>,
     subparts: &'a [SubpartRow],
     path: &PathOf<N>,
@@ -60,27 +62,27 @@ pub fn all_options<'a, const N: usize>(
     requires parts { subparts.now ≡ subparts_at world.now.world path.now.course path.now.config }
     ensures listed { listed result ≡ option_map_or
         (λ want. options_for world.now.world want path.now.course path.now.reservation path.now.config path.now.sections)
-        (option_copied want.entry) [] }
+        want [] }
     ensures found { AreFound world.now.world path.now.course result }
 {
     match want {
-        Some(want) => want_options(world, want, ground, subparts, path),
+        Some(want) => want_options(world, &want, ground, subparts, path),
         None => Options::Nothing,
     }
 }
 
 /// The want that the path has come to, None where each has its choice.
-pub fn want_of<'a, const N: usize>(mv: &'a Move, path: &PathOf<N>) -> Option<&'a Want>
-    ensures { option_copied result ≡ want_at mv.now path.now }
+pub fn want_of<'a, const N: usize>(mv: &'a LentMove<'a>, path: &PathOf<N>) -> Option<LentWant<'a>>
+    ensures { result ≡ want_at mv.now path.now }
 {
-    mv.take.as_slice().get(path.done().len())
+    mv.want(path.done().len())
 }
 
 /// The options for this want.
 #[inline(always)]
 fn want_options<'a, const N: usize>(
     world: &World,
-    want: &'a Want,
+    want: &LentWant<'a>,
     ground: Option<Ground<'a>>,
     subparts: &'a [SubpartRow],
     path: &PathOf<N>,
@@ -91,7 +93,7 @@ fn want_options<'a, const N: usize>(
     ensures found { AreFound world.now.world path.now.course result }
 {
     match path.course() {
-        None => Options::Courses(want.courses.as_slice()),
+        None => Options::Courses(want.courses()),
         Some(course) => match (path.reservation(), path.config()) {
             (None, _) => Options::Reservations(Parted::new(reservations(world, course, ground))),
             (Some(_), None) => Options::Configs(Ordered::new(configs(world, course, ground))),

@@ -14,6 +14,7 @@ ghost use Rattle.sect_rules.specs.Added.{with_section};
 ghost use Rattle.sect_rules.specs.Decided.{decisions_of, restored};
 
 use crate::ground::ground_of;
+use crate::lent::LentMove;
 use crate::rows::subparts_at;
 use sect_base::{Choice, ConfigId, CourseId, Move, ReservationId, SectionId, Sections};
 use sect_model::Pick;
@@ -127,10 +128,10 @@ impl<const N: usize> PathOf<N> {
     }
 
     /// Whether each want has its choice.
-    pub fn is_complete(&self, mv: &Move) -> bool
+    pub fn is_complete(&self, mv: &LentMove) -> bool
         ensures { result ≡ has_all mv.now self.now }
     {
-        mv.take.len() <= self.done().len()
+        mv.len() <= self.done().len()
     }
 
     /// The decisions for the next want, with the number of the choices.
@@ -212,7 +213,7 @@ impl<const N: usize> PathOf<N> {
     }
 
     /// Makes one decision more, which is one of the options, where it is known how many sections are due.
-    pub(crate) fn extend(&mut self, world: &World, mv: &Move, pick: Pick, due: usize)
+    pub(crate) fn extend(&mut self, world: &World, mv: &LentMove, pick: Pick, due: usize)
         requires room { length mv.now.take ≤ N }
         requires option { Contains (options_at world.now.world mv.now self.old) pick }
         requires due { due ≡ sections_due world.now.world self.old.course self.old.config }
@@ -238,7 +239,7 @@ impl<const N: usize> PathOf<N> {
         let ground = ground_of(world, self.course());
         let subparts = subparts_at(world, self.course(), ground, self.config());
         let mut path = self.copied();
-        path.extend(world, mv, pick, subparts.len());
+        path.extend(world, &LentMove::of(mv), pick, subparts.len());
         path
     }
 }

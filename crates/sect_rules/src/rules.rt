@@ -11,19 +11,20 @@ ghost use Rattle.sect_rules.specs.Picked.{pick_of, IsPicked};
 ghost use Rattle.sect_rules.specs.Standing.{stands};
 
 use crate::ground::Ground;
+use crate::lent::{LentMove, LentWant};
 use crate::moment::Moment;
 use crate::path::PathOf;
 use crate::picked::Picked;
-use sect_base::{CourseId, Move, Rule, Want};
+use sect_base::{CourseId, Rule};
 use sect_reserve::Reservation;
 use sect_space::World;
 
 /// The first rule that the decision breaks, where the want, the ground and the reservation of the path are found.
 pub fn broken_at<const N: usize>(
     world: &World,
-    mv: &Move,
+    mv: &LentMove,
     path: &PathOf<N>,
-    want: Option<&Want>,
+    want: Option<LentWant>,
     ground: Option<Ground>,
     r: Option<&Reservation>,
     picked: &Picked,
@@ -31,13 +32,20 @@ pub fn broken_at<const N: usize>(
     requires stands { MoveStands world.now.world mv.now }
     requires option { Contains (options_at world.now.world mv.now path.now) (pick_of picked.now) }
     requires row { IsPicked world.now.world path.now.course picked.now }
-    requires want { option_copied want ≡ want_at mv.now path.now }
+    requires want { want ≡ want_at mv.now path.now }
     requires ground { IsGroundOf world.now.world path.now.course ground }
     requires joined { option_copied r ≡ option_and_then (reservation_of world.now.world) (joined path.now.reservation) }
     ensures { result ≡ leaf_of world.now.world mv.now path.now (pick_of picked.now) }
 {
     match want {
-        Some(want) => first_rule(&Moment::new(world, mv, path), ground, r, want, path, picked),
+        Some(want) => first_rule(
+            &Moment::new(world, mv, path),
+            ground,
+            r,
+            &want,
+            path,
+            picked,
+        ),
         None => None,
     }
 }
@@ -47,7 +55,7 @@ fn first_rule<const N: usize>(
     at: &Moment,
     ground: Option<Ground>,
     r: Option<&Reservation>,
-    want: &Want,
+    want: &LentWant,
     path: &PathOf<N>,
     picked: &Picked,
 ) -> Option<(Rule, u32)>
@@ -72,7 +80,7 @@ fn rule_on<const N: usize>(
     ground: &Ground,
     course: CourseId,
     r: Option<&Reservation>,
-    want: &Want,
+    want: &LentWant,
     path: &PathOf<N>,
     picked: &Picked,
 ) -> Option<(Rule, u32)>
@@ -98,7 +106,7 @@ fn rule_on<const N: usize>(
 /// The first rule that a decision breaks where no offering was found: only a course can break one.
 fn rule_on_none<const N: usize>(
     at: &Moment,
-    want: &Want,
+    want: &LentWant,
     path: &PathOf<N>,
     picked: &Picked,
 ) -> Option<(Rule, u32)>

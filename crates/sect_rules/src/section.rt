@@ -20,9 +20,10 @@ ghost use Rattle.sect_rules.specs.Tables.{standing_rules, space_rules, time_rule
 ghost use Rattle.sect_rules.specs.FreeTimes.{meets_free, first_free as first_free_time};
 
 use crate::ground::Ground;
+use crate::lent::LentWant;
 use crate::moment::Moment;
 use crate::reserved::limited;
-use sect_base::{ConfigId, CourseId, Level, Meeting, Rule, SectionId, Sections, Want, overlaps};
+use sect_base::{ConfigId, CourseId, Level, Meeting, Rule, SectionId, Sections, overlaps};
 use sect_catalog::{OfferingRow, SectionRow};
 use sect_people::Ask;
 use sect_reserve::{Reservation, admits_section};
@@ -244,7 +245,7 @@ impl Moment<'_> {
     /// The first rule on when a section meets, and on what is asked for.
     fn time_rule(
         &self,
-        want: &Want,
+        want: &LentWant,
         r: Option<&Reservation>,
         earlier: &[SectionId],
         row: &SectionRow,
@@ -257,10 +258,10 @@ impl Moment<'_> {
         if let Some(number) = self.least_overlap(r, earlier, section, meetings) {
             return Some((Rule::Overlap, number));
         }
-        if let Some(number) = self.least_free(want.rank, section, meetings) {
+        if let Some(number) = self.least_free(want.rank(), section, meetings) {
             return Some((Rule::FreeTime, number));
         }
-        if !is_asked(want.only.as_slice(), section) {
+        if !is_asked(want.only(), section) {
             return Some((Rule::NotAsked, section.0));
         }
         None
@@ -269,7 +270,7 @@ impl Moment<'_> {
     /// The first rule that the choice of a section breaks, with its number.
     pub fn section_rule(
         &self,
-        want: &Want,
+        want: &LentWant,
         ground: &Ground,
         course: CourseId,
         r: Option<&Reservation>,

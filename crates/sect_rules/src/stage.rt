@@ -13,12 +13,13 @@ ghost use Rattle.sect_rules.specs.Listed.{listed};
 ghost use Rattle.sect_rules.specs.Picked.{pick_of as decision_of, AreFound, IsPicked};
 
 use crate::ground::{Ground, ground_of};
+use crate::lent::LentMove;
 use crate::options::{Options, all_options, option_in, want_of};
 use crate::path::{Decisions, PathOf};
 use crate::picked::{Picked, pick_of};
 use crate::rows::subparts_at;
 use crate::rules::broken_at;
-use sect_base::{Move, ReservationId, Rule, SectionId};
+use sect_base::{ReservationId, Rule, SectionId};
 use sect_catalog::SubpartRow;
 use sect_reserve::Reservation;
 use sect_space::World;
@@ -30,7 +31,7 @@ use std::snapshot::Snapshot;
 #[derive(Drop)]
 pub struct Stage<'a, const N: usize> {
     world: &'a World,
-    mv: &'a Move,
+    mv: &'a LentMove<'a>,
     path: Snapshot<PathOf<N>>,
     ground: Option<Ground<'a>>,
     joined: Option<&'a Reservation>,
@@ -49,7 +50,7 @@ impl<'a, const N: usize> Model for Stage<'a, N> {
 
 impl<'a, const N: usize> Stage<'a, N> {
     /// The stage of a path.
-    pub fn new(world: &'a World, mv: &'a Move, path: &PathOf<N>) -> Stage<'a, N>
+    pub fn new(world: &'a World, mv: &'a LentMove<'a>, path: &PathOf<N>) -> Stage<'a, N>
         ensures { result ≡ record { world = world.now.world; mv = mv.now; path = path.now } }
     {
         let course = path.course();
@@ -60,7 +61,7 @@ impl<'a, const N: usize> Stage<'a, N> {
     }
 
     /// The stage of the path with no decision.
-    pub fn start(world: &'a World, mv: &'a Move, path: &PathOf<N>) -> Stage<'a, N>
+    pub fn start(world: &'a World, mv: &'a LentMove<'a>, path: &PathOf<N>) -> Stage<'a, N>
         requires { path.now ≡ start_path }
         ensures { result ≡ record { world = world.now.world; mv = mv.now; path = path.now } }
     {
@@ -140,7 +141,7 @@ impl<'a, const N: usize> Stage<'a, N> {
     #[inline(always)]
     fn on(
         world: &'a World,
-        mv: &'a Move,
+        mv: &'a LentMove<'a>,
         path: &PathOf<N>,
         ground: Option<Ground<'a>>,
         joined: Option<&'a Reservation>,

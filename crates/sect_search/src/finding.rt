@@ -13,7 +13,7 @@ use crate::walk::below;
 use crate::walked::Walked;
 use sect_base::{Block, Budget, Items, Memory, Move, Steps};
 use sect_model::Outcome;
-use sect_rules::{PathOf, Stage};
+use sect_rules::{LentMove, PathOf, Stage};
 use sect_space::World;
 use std::alloc::Global;
 use std::sync::ledger::Ledger;
@@ -35,6 +35,22 @@ pub fn search<L: Ledger>(
     ensures text { IfOk result IsTold }
     ensures steps { steps.new ≡ steps.old + 1 }
 {
+    search_lent(alloc, world, &LentMove::of(mv), budget, steps)
+}
+
+/// The same for a move whose lists are borrowed.
+pub fn search_lent<L: Ledger>(
+    alloc: Global,
+    world: &World,
+    mv: &LentMove,
+    budget: Budget,
+    steps: &mut Steps<L>,
+) -> Result<Outcome, Memory>
+    requires { MoveFits world.now.world mv.now }
+    ensures outcome { IfOk result (λ outcome. outcome ≡ outcome_of world.now.world mv.now budget) }
+    ensures text { IfOk result IsTold }
+    ensures steps { steps.new ≡ steps.old + 1 }
+{
     search_in::<4, L>(alloc, world, mv, budget, steps)
 }
 
@@ -43,7 +59,7 @@ pub fn search<L: Ledger>(
 pub fn search_in<const N: usize, L: Ledger>(
     alloc: Global,
     world: &World,
-    mv: &Move,
+    mv: &LentMove,
     budget: Budget,
     steps: &mut Steps<L>,
 ) -> Result<Outcome, Memory>
@@ -63,7 +79,7 @@ pub fn search_in<const N: usize, L: Ledger>(
 fn find<const N: usize>(
     alloc: Global,
     world: &World,
-    mv: &Move,
+    mv: &LentMove,
     budget: Budget,
 ) -> Result<Outcome, Memory>
     requires stands { MoveStands world.now.world mv.now }
@@ -88,9 +104,9 @@ fn find<const N: usize>(
 }
 
 /// The most decisions of a path: nine for each want.
-fn decisions(mv: &Move) -> u32
+fn decisions(mv: &LentMove) -> u32
     requires { length mv.now.take ≤ 20 }
     ensures { result ≡ most_decisions mv.now }
 {
-    9 * mv.take.len() as u32
+    9 * mv.len() as u32
 }

@@ -10,7 +10,8 @@ mod walked;
 mod wants;
 
 pub use budget::usual_budget;
-pub use finding::{search, search_in};
+pub use finding::{search, search_in, search_lent};
 pub use sect_model::Outcome;
+pub use sect_rules::{LentMove, LentWant};
 pub use verifying::{verify, verify_in};
 pub use wants::want_of;

@@ -11,7 +11,7 @@ ghost use Rattle.sect_rules.specs.Picked.{pick_of, IsPicked};
 ghost use Rattle.sect_search.specs.Refutes.{NoMove};
 
 use sect_base::{Block, Move, Node, Rule};
-use sect_rules::{PathOf, Picked, Stage};
+use sect_rules::{LentMove, PathOf, Picked, Stage};
 use sect_space::World;
 
 /// Whether the tree covers the path with no decision: it has one child for each option, a leaf is
@@ -23,11 +23,11 @@ pub fn verify(world: &World, mv: &Move, tree: &Block) -> bool
     ensures covers { result ≡ covers world.now.world mv.now tree.now }
     ensures refutes { IsTrue result → NoMove world.now.world mv.now }
 {
-    verify_in::<4>(world, mv, tree)
+    verify_in::<4>(world, &LentMove::of(mv), tree)
 }
 
 /// The same for a move that takes at most N.
-pub fn verify_in<const N: usize>(world: &World, mv: &Move, tree: &Block) -> bool
+pub fn verify_in<const N: usize>(world: &World, mv: &LentMove, tree: &Block) -> bool
     requires stands { MoveStands world.now.world mv.now }
     requires room { length mv.now.take ≤ N }
     requires limit { N ≤ 20 }
@@ -39,7 +39,7 @@ pub fn verify_in<const N: usize>(world: &World, mv: &Move, tree: &Block) -> bool
 }
 
 /// Whether the tree covers the path with no decision.
-fn covers_all<const N: usize>(world: &World, mv: &Move, tree: &Block) -> bool
+fn covers_all<const N: usize>(world: &World, mv: &LentMove, tree: &Block) -> bool
     requires stands { MoveStands world.now.world mv.now }
     requires room { length mv.now.take ≤ N }
     requires limit { N ≤ 20 }

@@ -14,7 +14,7 @@ use sect_catalog::{AddFault, OfferingRow};
 use sect_model::Change;
 
 impl Parts {
-    /// Adds an offering that passes its check. Where memory runs out, nothing is changed. Its reservations and restrictions get
+    /// Adds an offering that passes its check. Where memory runs out, the world is as before. Its reservations and restrictions get
     /// slots, so that those of offerings that come in order of id stand behind one another.
     pub fn put_offering(&mut self, row: OfferingRow) -> Result<Back, Memory>
         requires { Fits (roomed_of self.old).world (Change.Offering row) }

@@ -50,7 +50,7 @@ fn put_front(marked: bool, day: Day, id: Id, bytes: &mut [u8; 48]) -> usize
     put_mark(marked, bytes, start)
 }
 
-/// Appends the front of a row, its id and a space, all in one piece. After `Memory` the bytes are as before.
+/// Appends the front of a row, its id and a space, all in one piece. After `Memory` a part of it may stand at the end.
 pub(crate) fn print_front(marked: bool, day: Day, id: Id, into: &mut Vec<u8>) -> Result<(), Memory>
     ensures text { OnOk result (into.new.items ≡ into.old.items ++ (sentence (row_front marked day ++ id_words id) ++ (32 ∷ []))) }
     ensures front { take (length into.old.items) into.new.items ≡ into.old.items }
@@ -60,7 +60,7 @@ pub(crate) fn print_front(marked: bool, day: Day, id: Id, into: &mut Vec<u8>) ->
     print_bytes(&bytes[start..], into)
 }
 
-/// Appends `=` between two spaces. After `Memory` the bytes are as before.
+/// Appends `=` between two spaces. After `Memory` a part of it may stand at the end.
 pub(crate) fn print_equals(into: &mut Vec<u8>) -> Result<(), Memory>
     ensures text { OnOk result (into.new.items ≡ into.old.items ++ (32 ∷ 61 ∷ 32 ∷ [])) }
     ensures front { take (length into.old.items) into.new.items ≡ into.old.items }

@@ -8,11 +8,12 @@ ghost use Rattle.sect_model.specs.Settle.{move_of as move_of_entry, placement_of
 ghost use Rattle.sect_wait.specs.Placing.{KeepsLeft, RestNeedNone};
 ghost use Rattle.sect_wait.specs.Touched.{AddsOnly};
 
-use sect_base::{Choice, CourseId, Duplicate, Items, Memory, Move, Steps, StudentId};
+use sect_base::{Choice, CourseId, Memory, Steps};
 use sect_model::{Outcome, Waiting};
-use sect_search::{search, usual_budget};
+use sect_search::{LentMove, LentWant, search_lent, usual_budget};
 use sect_space::World;
 use std::alloc::Global;
+use std::slice::from_ref;
 use std::sync::ledger::Ledger;
 
 /// What a round leaves: the tickets of entries that must be tried again, and of those whose searches were spent.
@@ -52,8 +53,8 @@ pub fn placement<L: Ledger>(
     ensures steps { steps.new ≤ steps.old + 1 }
 {
     world.recall_kept();
-    let mv = move_of(alloc, world, entry)?;
-    match search(alloc, world, &mv, usual_budget(), steps)? {
+    let mv = move_of(world, entry);
+    match search_lent(alloc, world, &mv, usual_budget(), steps)? {
         Outcome::Found(choices, _) => {
             left.again.push(entry.ticket)?;
             Ok(choices.as_slice().first().copied())
@@ -67,32 +68,25 @@ pub fn placement<L: Ledger>(
 }
 
 /// The entry's move: it takes the want, and gives up the course where the student holds it.
-fn move_of(alloc: Global, world: &World, entry: &Waiting) -> Result<Move, Memory>
-    ensures { IfOk result (λ mv. mv ≡ move_of_entry world.now.world entry.now) }
+fn move_of<'a>(world: &World, entry: &'a Waiting) -> LentMove<'a>
+    ensures { result ≡ move_of_entry world.now.world entry.now }
 {
-    let mut take = Vec::new(alloc);
-    take.push(entry.want.copy(alloc)?)?;
-    Ok(Move {
-        student: entry.student,
-        give: given(alloc, world, entry.student, entry.give)?,
-        take: Items::from_vec(take),
-    })
+    let want = LentWant::of(&entry.want);
+    LentMove::one(entry.student, given(world, entry), want)
 }
 
-/// The course to give up, where the student holds it.
-fn given(
-    alloc: Global,
-    world: &World,
-    student: StudentId,
-    give: Option<CourseId>,
-) -> Result<Items<CourseId>, Memory>
-    ensures { IfOk result (λ courses. courses ≡ filter (is_held world.now.world student) (option_to_list give)) }
+/// The courses that the entry gives up: its course, where the student holds it.
+fn given<'a>(world: &World, entry: &'a Waiting) -> &'a [CourseId]
+    ensures { result.now ≡ filter (is_held world.now.world entry.now.student) (option_to_list entry.now.give) }
 {
-    let mut courses = Vec::new(alloc);
-    if let Some(course) = give {
-        if world.holds(student, course) {
-            courses.push(course)?;
+    match &entry.give {
+        Some(course) => {
+            if world.holds(entry.student, *course) {
+                from_ref(course)
+            } else {
+                &[]
+            }
         }
+        None => &[],
     }
-    Ok(Items::from_vec(courses))
 }

@@ -44,7 +44,7 @@ pub fn put_long(number: u64, bytes: &mut [u8], end: usize) -> usize
 
 /// Writes the digits of a number of 32 bits before a place, and returns where they start.
 #[tactic(auto, using(sect_command::proofs::DigitCounts::ten_digits))]
-pub fn put_number(number: u32, bytes: &mut [u8], end: usize) -> usize
+pub(crate) fn put_number(number: u32, bytes: &mut [u8], end: usize) -> usize
     requires { (10 ≤ end) × (end ≤ length bytes.old) }
     ensures start { (end ≤ result + 10) × (result ≤ end) }
     ensures written { drop result bytes.new ≡ decimal number ++ drop end bytes.old }

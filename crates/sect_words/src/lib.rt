@@ -3,6 +3,7 @@
 
 mod digits;
 mod fault;
+mod number;
 mod parts;
 mod printing;
 mod read_parts;
@@ -13,11 +14,12 @@ mod spelled;
 mod spelled_rows;
 mod take;
 
-pub use digits::{put, put_bytes, put_caller, put_day, put_long, put_marked, put_number};
+pub use digits::{put, put_bytes, put_caller, put_day, put_long, put_marked};
 pub use fault::Fault;
+pub use number::{number_up_to, read_between, read_number};
 pub use parts::Parts;
 pub use printing::{print_bytes, print_number, print_text};
 pub use read_terms::read_meetings;
-pub use readable::{Readable, number_up_to, read_all, read_between, read_list, read_number};
+pub use readable::{Readable, read_all, read_list};
 pub use same::same_bytes;
 pub use spelled::{Spelled, print_list, print_marked, print_whole};

@@ -5,8 +5,9 @@ ghost use Rattle.sect_words.specs.Reading.{Reads, Passes, Ends, word_at, key_at}
 ghost use Rattle.sect_words.specs.ReadingWords.{between_of};
 
 use crate::fault::Fault;
+use crate::number::read_between;
 use crate::parts::Parts;
-use crate::readable::{Readable, read_between};
+use crate::readable::Readable;
 use std::alloc::Global;
 
 impl Parts<'_> {

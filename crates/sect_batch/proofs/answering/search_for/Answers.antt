@@ -10,5 +10,5 @@ pub returns-clause-met : goal.returns-clause-met
 returns-clause-met g c =
     let w = c.args.world.now.world in
     let mv = request_move c.args.student c.args.ask.now c.args.rank in
-    let outcome : outcome_of w mv 2000 ≡ c.in_ok-outcome.outcome = sym (c.in_ok-outcome.ensures.outcome ∙ (λ i. outcome_of w (c.in_ok-mv.ensures i) (c.usual_budget.ensures i))) in
+    let outcome : outcome_of w mv 2000 ≡ c.in_ok-outcome.outcome = sym (c.in_ok-outcome.ensures.outcome ∙ (λ i. outcome_of w (c.request_move-mv.ensures i) (c.usual_budget.ensures i))) in
     subst (MetFits w c.args.student) (sym c.result_of.ensures) (met-fits w c.args.student c.args.rank c.args.ask.now c.in_ok-outcome.outcome c.requires.known outcome)

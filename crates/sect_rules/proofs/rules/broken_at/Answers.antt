@@ -61,13 +61,13 @@ unfolding leaf_of
 returns-in-Some g c =
     let p = c.args.path.now in
     c.first_rule.ensures
-    ∙ ap (λ m. first_broken (rules_on m.at m.student c.in-Some.want.now p (pick_of c.args.picked.now))) c.new.ensures
+    ∙ ap (λ m. first_broken (rules_on m.at m.student c.in-Some.want p (pick_of c.args.picked.now))) c.new.ensures
     ∙ ap (λ x. option_map_or (λ want. first_broken (rules_on (world_at c.args.world.now.world c.args.mv.now p) c.args.mv.now.student want p (pick_of c.args.picked.now))) x None)
-    (ap option_copied (sym c.in-Some.is) ∙ c.requires.want)
+    (sym c.in-Some.is ∙ c.requires.want)
 
 pub returns-in-None : goal.returns-in-None
 unfolding leaf_of
 returns-in-None g c =
     let p = c.args.path.now in
     ap (λ x. option_map_or (λ want. first_broken (rules_on (world_at c.args.world.now.world c.args.mv.now p) c.args.mv.now.student want p (pick_of c.args.picked.now))) x None)
-    (ap option_copied (sym c.in-None.is) ∙ c.requires.want)
+    (sym c.in-None.is ∙ c.requires.want)

@@ -13,7 +13,7 @@ pub returns-in-Found-clause-choice : goal.returns-in-Found-clause-choice
 returns-in-Found-clause-choice g c =
     let w = c.args.world.now.world in
     let e = c.args.entry.now in
-    let outcome : c.in_ok-choices.field-0 ≡ outcome_of w (move_of w e) 2000 = c.in_ok-choices.ensures.outcome ∙ (λ i. outcome_of w (c.in_ok-mv.ensures i) (c.usual_budget.ensures i)) in
+    let outcome : c.in_ok-choices.field-0 ≡ outcome_of w (move_of w e) 2000 = c.in_ok-choices.ensures.outcome ∙ (λ i. outcome_of w (c.move_of-mv.ensures i) (c.usual_budget.ensures i)) in
     ap (option_map (λ (x : Choice). x ∷ [])) (c.copied.ensures ∙ c.first.ensures.value ∙ ap (λ xs. slice_get xs 0) c.as_slice.ensures)
     ∙ found-choice w e c.in_ok-choices.field-0 c.in-Found.choices c.in-Found.field-1 outcome c.in-Found.is
 
@@ -21,12 +21,12 @@ pub returns-in-Blocked-clause-others : goal.returns-in-Blocked-clause-others
 returns-in-Blocked-clause-others g c =
     let w = c.args.world.now.world in
     let e = c.args.entry.now in
-    let outcome : c.in_ok-choices.field-0 ≡ outcome_of w (move_of w e) 2000 = c.in_ok-choices.ensures.outcome ∙ (λ i. outcome_of w (c.in_ok-mv.ensures i) (c.usual_budget.ensures i)) in
+    let outcome : c.in_ok-choices.field-0 ≡ outcome_of w (move_of w e) 2000 = c.in_ok-choices.ensures.outcome ∙ (λ i. outcome_of w (c.move_of-mv.ensures i) (c.usual_budget.ensures i)) in
     blocked-rest w e c.args.left.now c.in_ok-choices.field-0 c.in-Blocked.field-0 c.in-Blocked.field-1 c.recall_kept.ensures c.requires outcome c.in-Blocked.is
 
 pub returns-clause-others : goal.returns-clause-others
 returns-clause-others g c =
     let w = c.args.world.now.world in
     let e = c.args.entry.now in
-    let outcome : c.in_ok-choices.field-0 ≡ outcome_of w (move_of w e) 2000 = c.in_ok-choices.ensures.outcome ∙ (λ i. outcome_of w (c.in_ok-mv.ensures i) (c.usual_budget.ensures i)) in
+    let outcome : c.in_ok-choices.field-0 ≡ outcome_of w (move_of w e) 2000 = c.in_ok-choices.ensures.outcome ∙ (λ i. outcome_of w (c.move_of-mv.ensures i) (c.usual_budget.ensures i)) in
     spent-rest w e (record { again = c.args.left.now.again; spent = c.push-in-Spent.new.self }) c.args.left.now.spent.items c.in_ok-choices.field-0 c.in-Spent.field-0 c.in_ok-push-in-Spent.ensures.items outcome c.in-Spent.is

@@ -8,4 +8,4 @@ pub returns : goal.returns
 returns g c =
     let w = c.args.world.now.world in
     let mv = c.args.mv.now in
-    λ i. record { at = ((λ j. moved w mv.student (c.as_slice.ensures j) (c.done.ensures.value j)) ∙ sym (world-moved w mv c.args.path.now)) i; student = mv.student }
+    λ i. record { at = ((λ j. moved w (c.student.ensures j) (c.give.ensures j) (c.done.ensures.value j)) ∙ sym (world-moved w mv c.args.path.now)) i; student = c.student.ensures i }

@@ -1,6 +1,6 @@
 -- No text of a number begins with a zero before others.
 use Rattle.sect_words.proofs.Parsing.{plain}
-use Rattle.sect_words.proofs.readable.parse_number.Goals as goal
+use Rattle.sect_words.proofs.number.parse_number.Goals as goal
 
 pub returns-then-not-is_plain-clause-only : goal.returns-then-not-is_plain-clause-only
 returns-then-not-is_plain-clause-only c = λ n small is.

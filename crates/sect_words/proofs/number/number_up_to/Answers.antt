@@ -2,7 +2,7 @@
 use Rattle.std.proofs.Common.{◌<◌, ◌^◌, sym, arith}
 use Rattle.sect_words.proofs.Exact.{by_found, by_none}
 use Rattle.sect_words.proofs.Numbers.{exact_upto}
-use Rattle.sect_words.proofs.readable.number_up_to.Goals as goal
+use Rattle.sect_words.proofs.number.number_up_to.Goals as goal
 
 pub returns-in-Some-clause-value : goal.returns-in-Some-clause-value
 returns-in-Some-clause-value c =
