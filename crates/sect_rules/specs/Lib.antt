@@ -1,4 +1,5 @@
 pub mod Added
+pub mod Completed
 pub mod Decided
 pub mod FreeTimes
 pub mod Ground

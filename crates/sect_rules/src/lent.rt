@@ -111,7 +111,7 @@ impl<'a> LentMove<'a> {
     /// The move by which the student takes one want, and gives these courses up.
     #[inline(always)]
     pub fn one(student: StudentId, give: &'a [CourseId], want: LentWant<'a>) -> LentMove<'a>
-        ensures { result ≡ record { student = student; give = give.now; take = want ∷ [] } }
+        ensures { result ≡ record { student = student; give = give.now; take = want.entry ∷ [] } }
     {
         LentMove {
             student,

@@ -7,6 +7,7 @@ mod ground;
 mod held;
 pub mod laws;
 mod lent;
+mod lent_path;
 mod moment;
 mod nth;
 mod options;
@@ -24,7 +25,7 @@ mod stage;
 
 pub use lent::{LentMove, LentWant};
 pub use options::option;
-pub use path::{Decisions, Path, PathOf};
+pub use path::{Path, PathOf};
 pub use picked::{Picked, pick_of};
 pub use sect_model::Pick;
 pub use stage::Stage;

@@ -1,6 +1,6 @@
 // The world at a path, without a copy of it.
 
-ghost use Rattle.std.specs.Prelude.{◌≡◌, ◌≤◌, Some, option_copied, flat_map, IsTrue};
+ghost use Rattle.std.specs.Prelude.{◌≡◌, ◌≤◌, length, Some, option_copied, flat_map, IsTrue};
 ghost use Rattle.std.specs.List.{list_all};
 ghost use Rattle.std.specs.Option.{option_map, option_map_or};
 ghost use Rattle.sect_catalog.specs.Fault.{are_checked};
@@ -24,8 +24,8 @@ use crate::held::{
     made_by, max_credits,
 };
 use crate::lent::LentMove;
+use crate::lent_path::LentPath;
 use crate::overlap::{is_clear, lesser_of};
-use crate::path::PathOf;
 use crate::rows::subparts_in;
 use sect_base::{
     Choice, ConfigId, CourseId, Day, Level, Meeting, ReservationId, SectionId, StudentId,
@@ -63,12 +63,9 @@ impl<'a> Model for Moment<'a> {
 
 impl<'a> Moment<'a> {
     /// The world at the path of the move.
-    pub fn new<const N: usize>(
-        world: &'a World,
-        mv: &'a LentMove<'a>,
-        path: &'a PathOf<N>,
-    ) -> Moment<'a>
-        requires { MoveStands world.now.world mv.now }
+    pub fn new(world: &'a World, mv: &LentMove<'a>, path: &LentPath<'a>) -> Moment<'a>
+        requires stands { MoveStands world.now.world mv.now }
+        requires limit { length path.now.done ≤ 20 }
         ensures { result ≡ record { at = world_at world.now.world mv.now path.now; student = mv.now.student } }
     {
         world.recall_kept();

@@ -15,6 +15,7 @@ ghost use Rattle.sect_rules.specs.Picked.{pick_of as decision_of, AreFound, IsCo
 
 use crate::ground::Ground;
 use crate::lent::{LentMove, LentWant};
+use crate::lent_path::LentPath;
 use crate::nth::Ordered;
 use crate::parted::Parted;
 use crate::path::PathOf;
@@ -44,25 +45,25 @@ pub fn option<const N: usize>(world: &World, mv: &Move, path: &PathOf<N>, i: usi
     ensures option { IfSome result (λ pick. Contains (options_at world.now.world mv.now path.now) pick) }
 {
     let lent = LentMove::of(mv);
-    let stage = Stage::new(world, &lent, path);
-    let picked = stage.option(&stage.options(path), i)?;
+    let stage = Stage::new(world, &lent, path.lent());
+    let picked = stage.option(i)?;
     Some(pick_of(&picked))
 }
 
 /// The options of a path, on the ground of its course, with the subparts of its configuration. It takes no memory.
 #[inline(always)]
-pub fn all_options<'a, const N: usize>(
+pub fn all_options<'a>(
     world: &World,
     want: Option<LentWant<'a>>,
     ground: Option<Ground<'a>>,
     subparts: &'a [SubpartRow],
-    path: &PathOf<N>,
+    path: &LentPath,
 ) -> Options<'a>
     requires ground { IsGroundOf world.now.world path.now.course ground }
     requires parts { subparts.now ≡ subparts_at world.now.world path.now.course path.now.config }
     ensures listed { listed result ≡ option_map_or
         (λ want. options_for world.now.world want path.now.course path.now.reservation path.now.config path.now.sections)
-        want [] }
+        want.entry [] }
     ensures found { AreFound world.now.world path.now.course result }
 {
     match want {
@@ -72,7 +73,7 @@ pub fn all_options<'a, const N: usize>(
 }
 
 /// The want that the path has come to, None where each has its choice.
-pub fn want_of<'a, const N: usize>(mv: &'a LentMove<'a>, path: &PathOf<N>) -> Option<LentWant<'a>>
+pub fn want_of<'a>(mv: &LentMove<'a>, path: &LentPath) -> Option<LentWant<'a>>
     ensures { result ≡ want_at mv.now path.now }
 {
     mv.want(path.done().len())
@@ -80,12 +81,12 @@ pub fn want_of<'a, const N: usize>(mv: &'a LentMove<'a>, path: &PathOf<N>) -> Op
 
 /// The options for this want.
 #[inline(always)]
-fn want_options<'a, const N: usize>(
+fn want_options<'a>(
     world: &World,
     want: &LentWant<'a>,
     ground: Option<Ground<'a>>,
     subparts: &'a [SubpartRow],
-    path: &PathOf<N>,
+    path: &LentPath,
 ) -> Options<'a>
     requires ground { IsGroundOf world.now.world path.now.course ground }
     requires parts { subparts.now ≡ subparts_at world.now.world path.now.course path.now.config }

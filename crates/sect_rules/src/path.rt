@@ -5,16 +5,15 @@ ghost use Rattle.sect_model.specs.Path.{
   start as start_path,
   extend,
   close as closed,
-  is_complete as has_all,
   options_at,
   sections_due,
 };
 ghost use Rattle.sect_model.specs.Stands.{MoveStands};
 ghost use Rattle.sect_rules.specs.Added.{with_section};
-ghost use Rattle.sect_rules.specs.Decided.{decisions_of, restored};
+ghost use Rattle.sect_rules.specs.Completed.{opened};
 
 use crate::ground::ground_of;
-use crate::lent::LentMove;
+use crate::lent_path::LentPath;
 use crate::rows::subparts_at;
 use sect_base::{Choice, ConfigId, CourseId, Move, ReservationId, SectionId, Sections};
 use sect_model::Pick;
@@ -23,12 +22,12 @@ use std::marker::Model;
 
 /// What a path has beside its cells: how many of them are choices, and the decisions for the next want.
 #[derive(Clone, Copy)]
-pub struct Decisions {
-    pub len: u8,
-    pub course: Option<CourseId>,
-    pub reservation: Option<Option<ReservationId>>,
-    pub config: Option<ConfigId>,
-    pub sections: Sections,
+struct Decisions {
+    len: u8,
+    course: Option<CourseId>,
+    reservation: Option<Option<ReservationId>>,
+    config: Option<ConfigId>,
+    sections: Sections,
 }
 
 /// The choices that are complete, at most N, and the decisions for the next want. It lies in the
@@ -88,13 +87,6 @@ impl<const N: usize> PathOf<N> {
         &self.cells[..usize::from(self.decisions.len)]
     }
 
-    /// Does nothing: the contract tells that a path is short.
-    pub fn is_short(&self)
-        ensures { N ≤ 20 }
-    {
-        let _ = &self.cells;
-    }
-
     /// The course decided on for the next want, if one was.
     pub fn course(&self) -> Option<CourseId>
         ensures { result ≡ self.now.course }
@@ -127,28 +119,42 @@ impl<const N: usize> PathOf<N> {
         self.decisions.sections
     }
 
-    /// Whether each want has its choice.
-    pub fn is_complete(&self, mv: &LentMove) -> bool
-        ensures { result ≡ has_all mv.now self.now }
-    {
-        mv.len() <= self.done().len()
-    }
-
-    /// The decisions for the next want, with the number of the choices.
-    pub fn decisions(&self) -> Decisions
-        ensures { result ≡ decisions_of self.now }
+    /// The same path, with its choices where they are.
+    pub fn lent(&self) -> LentPath<'_>
+        ensures { result ≡ self.now }
     {
         let _ = &self.cells;
-        self.decisions
+        LentPath::new(
+            self.done(),
+            self.decisions.course,
+            self.decisions.reservation,
+            self.decisions.config,
+            self.decisions.sections,
+        )
     }
 
-    /// Takes back what was decided since.
-    pub(crate) fn restore(&mut self, before: Decisions)
-        requires { before.len ≤ length self.old.done }
-        ensures { self.new ≡ restored self.old before }
+    /// The path of these choices, with no decision for the next want.
+    fn of(done: &[Choice]) -> PathOf<N>
+        requires room { length done.now ≤ N }
+        requires limit { N ≤ 20 }
+        ensures { result ≡ opened done.now }
     {
-        let _ = &self.cells;
-        self.decisions = before;
+        let mut path = PathOf::start();
+        for choice in done {
+            path.push(*choice);
+        }
+        path
+    }
+
+    /// The path of these choices and one more, with no decision for the next want.
+    pub fn made(done: &[Choice], choice: Choice) -> PathOf<N>
+        requires room { length done.now < N }
+        requires limit { N ≤ 20 }
+        ensures { result ≡ opened (done.now ++ choice ∷ []) }
+    {
+        let mut path = PathOf::of(done);
+        path.push(choice);
+        path
     }
 
     /// The same path, as a value of its own.
@@ -156,10 +162,7 @@ impl<const N: usize> PathOf<N> {
         ensures { result ≡ self.now }
     {
         let _ = &self.cells;
-        let mut path = PathOf::start();
-        for choice in self.done() {
-            path.push(*choice);
-        }
+        let mut path = PathOf::of(self.done());
         path.decisions.course = self.decisions.course;
         path.decisions.reservation = self.decisions.reservation;
         path.decisions.config = self.decisions.config;
@@ -213,7 +216,7 @@ impl<const N: usize> PathOf<N> {
     }
 
     /// Makes one decision more, which is one of the options, where it is known how many sections are due.
-    pub(crate) fn extend(&mut self, world: &World, mv: &LentMove, pick: Pick, due: usize)
+    pub(crate) fn extend(&mut self, world: &World, mv: &Move, pick: Pick, due: usize)
         requires room { length mv.now.take ≤ N }
         requires option { Contains (options_at world.now.world mv.now self.old) pick }
         requires due { due ≡ sections_due world.now.world self.old.course self.old.config }
@@ -239,7 +242,7 @@ impl<const N: usize> PathOf<N> {
         let ground = ground_of(world, self.course());
         let subparts = subparts_at(world, self.course(), ground, self.config());
         let mut path = self.copied();
-        path.extend(world, &LentMove::of(mv), pick, subparts.len());
+        path.extend(world, mv, pick, subparts.len());
         path
     }
 }

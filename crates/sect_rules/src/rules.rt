@@ -1,6 +1,6 @@
 // The first rule that a decision breaks.
 
-ghost use Rattle.std.specs.Prelude.{◌≡◌, Contains, IsTrue, Some, None, option_copied};
+ghost use Rattle.std.specs.Prelude.{◌≡◌, ◌≤◌, length, Contains, IsTrue, Some, None, option_copied};
 ghost use Rattle.std.specs.Option.{option_and_then};
 ghost use Rattle.sect_model.specs.Path.{options_at, want_at};
 ghost use Rattle.sect_model.specs.Stands.{MoveStands};
@@ -12,24 +12,25 @@ ghost use Rattle.sect_rules.specs.Standing.{stands};
 
 use crate::ground::Ground;
 use crate::lent::{LentMove, LentWant};
+use crate::lent_path::LentPath;
 use crate::moment::Moment;
-use crate::path::PathOf;
 use crate::picked::Picked;
 use sect_base::{CourseId, Rule};
 use sect_reserve::Reservation;
 use sect_space::World;
 
 /// The first rule that the decision breaks, where the want, the ground and the reservation of the path are found.
-pub fn broken_at<const N: usize>(
+pub fn broken_at(
     world: &World,
     mv: &LentMove,
-    path: &PathOf<N>,
+    path: &LentPath,
     want: Option<LentWant>,
     ground: Option<Ground>,
     r: Option<&Reservation>,
     picked: &Picked,
 ) -> Option<(Rule, u32)>
     requires stands { MoveStands world.now.world mv.now }
+    requires few { length mv.now.take ≤ 20 }
     requires option { Contains (options_at world.now.world mv.now path.now) (pick_of picked.now) }
     requires row { IsPicked world.now.world path.now.course picked.now }
     requires want { want ≡ want_at mv.now path.now }
@@ -51,12 +52,12 @@ pub fn broken_at<const N: usize>(
 }
 
 /// The first rule that a decision for this want breaks.
-fn first_rule<const N: usize>(
+fn first_rule(
     at: &Moment,
     ground: Option<Ground>,
     r: Option<&Reservation>,
     want: &LentWant,
-    path: &PathOf<N>,
+    path: &LentPath,
     picked: &Picked,
 ) -> Option<(Rule, u32)>
     requires stands { IsTrue (stands at.now.at path.now (pick_of picked.now)) }
@@ -75,13 +76,13 @@ fn first_rule<const N: usize>(
 }
 
 /// The first rule that a decision breaks, on this ground and by this reservation, or by none.
-fn rule_on<const N: usize>(
+fn rule_on(
     at: &Moment,
     ground: &Ground,
     course: CourseId,
     r: Option<&Reservation>,
     want: &LentWant,
-    path: &PathOf<N>,
+    path: &LentPath,
     picked: &Picked,
 ) -> Option<(Rule, u32)>
     requires stands { IsTrue (stands at.now.at path.now (pick_of picked.now)) }
@@ -104,10 +105,10 @@ fn rule_on<const N: usize>(
 }
 
 /// The first rule that a decision breaks where no offering was found: only a course can break one.
-fn rule_on_none<const N: usize>(
+fn rule_on_none(
     at: &Moment,
     want: &LentWant,
-    path: &PathOf<N>,
+    path: &LentPath,
     picked: &Picked,
 ) -> Option<(Rule, u32)>
     requires { option_and_then (offering_of at.now.at) path.now.course ≡ None }

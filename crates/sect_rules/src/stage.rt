@@ -1,57 +1,57 @@
-// A node of a search: a path with the ground of its course, its reservation and its subparts, found once.
+// A node of a search: a path with the ground of its course, its reservation, its subparts and its options, found once.
 
-ghost use Rattle.std.specs.Prelude.{◌≡◌, ◌≤◌, length, slice_get, Contains, IfSome, Some, option_copied};
+ghost use Rattle.std.specs.Prelude.{◌≡◌, ◌≤◌, length, slice_get, Contains, IfSome, Some, None, option_copied};
 ghost use Rattle.std.specs.Option.{option_and_then, option_map};
 ghost use Rattle.sect_model.specs.declared.pick.Pick.TheVariants.{Section as to_section};
-ghost use Rattle.sect_model.specs.Path.{start as start_path, options_at, extend, is_complete as has_all};
+ghost use Rattle.sect_model.specs.Path.{options_at, extend, is_complete as has_all};
 ghost use Rattle.sect_model.specs.Stands.{MoveStands};
 ghost use Rattle.sect_model.specs.World.{reservation_of};
 ghost use Rattle.sect_model.specs.Rules.{leaf_of, joined as decided};
-ghost use Rattle.sect_rules.specs.Decided.{decisions_of, subparts_at as parts_at};
+ghost use Rattle.sect_rules.specs.Completed.{opened, completed, completed_by};
+ghost use Rattle.sect_rules.specs.Decided.{subparts_at as parts_at};
 ghost use Rattle.sect_rules.specs.Ground.{IsGroundOf};
-ghost use Rattle.sect_rules.specs.Listed.{listed};
-ghost use Rattle.sect_rules.specs.Picked.{pick_of as decision_of, AreFound, IsPicked};
+ghost use Rattle.sect_rules.specs.Picked.{pick_of as decision_of, IsPicked};
 
 use crate::ground::{Ground, ground_of};
 use crate::lent::LentMove;
+use crate::lent_path::LentPath;
 use crate::options::{Options, all_options, option_in, want_of};
-use crate::path::{Decisions, PathOf};
-use crate::picked::{Picked, pick_of};
+use crate::picked::Picked;
 use crate::rows::subparts_at;
 use crate::rules::broken_at;
-use sect_base::{ReservationId, Rule, SectionId};
+use sect_base::{Choice, ReservationId, Rule, SectionId};
 use sect_catalog::SubpartRow;
 use sect_reserve::Reservation;
 use sect_space::World;
 use std::marker::Model;
-use std::snapshot::Snapshot;
 
 /// A path of a move in a world, of which contracts see the three, with what was found of its course, reservation and
-/// configuration. The path itself isn't held, so that a search can go on along it: what asks for it is given it again.
+/// configuration, and with its options.
 #[derive(Drop)]
-pub struct Stage<'a, const N: usize> {
+pub struct Stage<'a> {
     world: &'a World,
     mv: &'a LentMove<'a>,
-    path: Snapshot<PathOf<N>>,
+    path: LentPath<'a>,
     ground: Option<Ground<'a>>,
     joined: Option<&'a Reservation>,
     subparts: &'a [SubpartRow],
+    options: Options<'a>,
 }
 
-impl<'a, const N: usize> Model for Stage<'a, N> {
-    ghost use Rattle.sect_rules.specs.Place.{Place, IsPlace};
+impl<'a> Model for Stage<'a> {
+    ghost use Rattle.sect_rules.specs.Place.{Place, IsPlace, HasOptions};
 
     ghost Value = { Place };
 
-    ghost view = { λ s. record { world = s.world.now.world; mv = s.mv.now; path = s.path.value } };
+    ghost view = { λ s. record { world = s.world.now.world; mv = s.mv.now; path = s.path } };
 
-    ghost invariant = { λ s. IsPlace s.world.now.world s.path.value s.ground s.joined s.subparts.now };
+    ghost invariant = { λ s. IsPlace s.world.now.world s.path s.ground s.joined s.subparts.now × HasOptions s.world.now.world s.mv.now s.path s.options };
 }
 
-impl<'a, const N: usize> Stage<'a, N> {
+impl<'a> Stage<'a> {
     /// The stage of a path.
-    pub fn new(world: &'a World, mv: &'a LentMove<'a>, path: &PathOf<N>) -> Stage<'a, N>
-        ensures { result ≡ record { world = world.now.world; mv = mv.now; path = path.now } }
+    pub fn new(world: &'a World, mv: &'a LentMove<'a>, path: LentPath<'a>) -> Stage<'a>
+        ensures { result ≡ record { world = world.now.world; mv = mv.now; path = path.entry } }
     {
         let course = path.course();
         let ground = ground_of(world, course);
@@ -60,42 +60,62 @@ impl<'a, const N: usize> Stage<'a, N> {
         Stage::on(world, mv, path, ground, joined, subparts)
     }
 
-    /// The stage of the path with no decision.
-    pub fn start(world: &'a World, mv: &'a LentMove<'a>, path: &PathOf<N>) -> Stage<'a, N>
-        requires { path.now ≡ start_path }
-        ensures { result ≡ record { world = world.now.world; mv = mv.now; path = path.now } }
+    /// The stage at which the search for the next want begins, behind these choices.
+    pub fn start(world: &'a World, mv: &'a LentMove<'a>, done: &'a [Choice]) -> Stage<'a>
+        ensures { result ≡ record { world = world.now.world; mv = mv.now; path = opened done.now } }
     {
-        Stage::on(world, mv, path, None, None, &[])
+        Stage::on(world, mv, LentPath::opened(done), None, None, &[])
     }
 
-    /// The stage of the path with one decision more. What was found is taken over, but for what the decision is about; where
-    /// it completes a choice, the next want begins.
+    /// The world.
+    pub fn world(&self) -> &'a World
+        ensures { result.now.world ≡ self.now.world }
+    {
+        self.world
+    }
+
+    /// The move.
+    pub fn mv(&self) -> &'a LentMove<'a>
+        ensures { result.now ≡ self.now.mv }
+    {
+        self.mv
+    }
+
+    /// The choices that are complete.
+    pub fn done(&self) -> &'a [Choice]
+        ensures { result.now ≡ self.now.path.done }
+    {
+        self.path.done()
+    }
+
+    /// The stage of the path with one decision more, which completes no choice. What was found is taken over, but for what the
+    /// decision is about.
     #[inline(always)]
-    pub fn next(&self, path: &PathOf<N>, picked: &Picked<'a>) -> Stage<'a, N>
-        requires path { path.now ≡ extend self.now.world self.now.path (decision_of picked.now) }
+    pub fn next(&self, picked: &Picked<'a>) -> Stage<'a>
+        requires open { completed self.now.world self.now.path (decision_of picked.now) ≡ None }
+        requires option { Contains (options_at self.now.world self.now.mv self.now.path) (decision_of picked.now) }
         requires row { IsPicked self.now.world self.now.path.course picked.now }
-        ensures { result ≡ record { world = self.now.world; mv = self.now.mv; path = path.now } }
+        ensures { result ≡ record { world = self.now.world; mv = self.now.mv; path = extend self.now.world self.now.path (decision_of picked.now) } }
     {
         match *picked {
-            Picked::Course(_) => Stage::new(self.world, self.mv, path),
-            Picked::Reservation(id) => self.by(path, id),
-            Picked::Config(row) => self.taking(path, row.subparts.as_slice()),
-            Picked::Section(row) => self.behind(path, row.id),
+            Picked::Course(id) => Stage::new(self.world, self.mv, self.path.with_course(id)),
+            Picked::Reservation(id) => self.by(id),
+            Picked::Config(row) => {
+                self.taking(self.path.with_config(row.id), row.subparts.as_slice())
+            }
+            Picked::Section(row) => self.behind(row.id),
         }
     }
 
     /// The stage of the path on which a reservation was decided on, or that there is to be none.
-    fn by(&self, path: &PathOf<N>, id: Option<ReservationId>) -> Stage<'a, N>
-        requires course { path.now.course ≡ self.now.path.course }
-        requires config { path.now.config ≡ self.now.path.config }
-        requires by { path.now.reservation ≡ Some id }
-        ensures { result ≡ record { world = self.now.world; mv = self.now.mv; path = path.now } }
+    fn by(&self, id: Option<ReservationId>) -> Stage<'a>
+        ensures { result ≡ record { world = self.now.world; mv = self.now.mv; path = record self.now.path { reservation = Some id } } }
     {
         let joined = joined(self.world, Some(id));
         Stage::on(
             self.world,
             self.mv,
-            path,
+            self.path.with_reservation(id),
             self.ground,
             joined,
             self.subparts,
@@ -103,11 +123,11 @@ impl<'a, const N: usize> Stage<'a, N> {
     }
 
     /// The stage of a path of the same course and reservation, with the subparts of its configuration.
-    fn taking(&self, path: &PathOf<N>, subparts: &'a [SubpartRow]) -> Stage<'a, N>
-        requires course { path.now.course ≡ self.now.path.course }
-        requires by { path.now.reservation ≡ self.now.path.reservation }
-        requires parts { subparts.now ≡ parts_at self.now.world path.now.course path.now.config }
-        ensures { result ≡ record { world = self.now.world; mv = self.now.mv; path = path.now } }
+    fn taking(&self, path: LentPath<'a>, subparts: &'a [SubpartRow]) -> Stage<'a>
+        requires course { path.course ≡ self.now.path.course }
+        requires by { path.reservation ≡ self.now.path.reservation }
+        requires parts { subparts.now ≡ parts_at self.now.world path.course path.config }
+        ensures { result ≡ record { world = self.now.world; mv = self.now.mv; path = path.entry } }
     {
         Stage::on(
             self.world,
@@ -119,22 +139,14 @@ impl<'a, const N: usize> Stage<'a, N> {
         )
     }
 
-    /// The stage of the path with a section more. Where that completes a choice, nothing is taken over.
-    fn behind(&self, path: &PathOf<N>, section: SectionId) -> Stage<'a, N>
-        requires { path.now ≡ extend self.now.world self.now.path (to_section section) }
-        ensures { result ≡ record { world = self.now.world; mv = self.now.mv; path = path.now } }
+    /// The stage of the path with a section more, which completes no choice.
+    fn behind(&self, section: SectionId) -> Stage<'a>
+        requires open { completed_by self.now.world self.now.path section ≡ None }
+        requires option { Contains (options_at self.now.world self.now.mv self.now.path) (to_section section) }
+        ensures { result ≡ record { world = self.now.world; mv = self.now.mv; path = extend self.now.world self.now.path (to_section section) } }
     {
-        match path.course() {
-            Some(_) => Stage::on(
-                self.world,
-                self.mv,
-                path,
-                self.ground,
-                self.joined,
-                self.subparts,
-            ),
-            None => Stage::new(self.world, self.mv, path),
-        }
+        self.world.recall_kept();
+        self.taking(self.path.with_section(section), self.subparts)
     }
 
     /// The stage of a path, with what was found there.
@@ -142,82 +154,82 @@ impl<'a, const N: usize> Stage<'a, N> {
     fn on(
         world: &'a World,
         mv: &'a LentMove<'a>,
-        path: &PathOf<N>,
+        path: LentPath<'a>,
         ground: Option<Ground<'a>>,
         joined: Option<&'a Reservation>,
         subparts: &'a [SubpartRow],
-    ) -> Stage<'a, N>
-        requires ground { IsGroundOf world.now.world path.now.course ground }
-        requires joined { option_copied joined ≡ option_and_then (reservation_of world.now.world) (decided path.now.reservation) }
-        requires parts { subparts.now ≡ parts_at world.now.world path.now.course path.now.config }
-        ensures { result ≡ record { world = world.now.world; mv = mv.now; path = path.now } }
+    ) -> Stage<'a>
+        requires ground { IsGroundOf world.now.world path.course ground }
+        requires joined { option_copied joined ≡ option_and_then (reservation_of world.now.world) (decided path.reservation) }
+        requires parts { subparts.now ≡ parts_at world.now.world path.course path.config }
+        ensures { result ≡ record { world = world.now.world; mv = mv.now; path = path.entry } }
     {
+        let options = all_options(world, want_of(mv, &path), ground, subparts, &path);
         Stage {
             world,
             mv,
-            path: Snapshot::of(path),
+            path,
             ground,
             joined,
             subparts,
+            options,
         }
     }
 
-    /// The options of the path.
-    pub fn options(&self, path: &PathOf<N>) -> Options<'a>
-        requires { path.now ≡ self.now.path }
-        ensures listed { listed result ≡ options_at self.now.world self.now.mv self.now.path }
-        ensures found { AreFound self.now.world self.now.path.course result }
-    {
-        let want = want_of(self.mv, path);
-        all_options(self.world, want, self.ground, self.subparts, path)
-    }
-
     /// The option at a place among those of the path. None exactly past the last. It takes no memory.
-    pub fn option(&self, options: &Options<'a>, i: usize) -> Option<Picked<'a>>
-        requires listed { listed options.now ≡ options_at self.now.world self.now.mv self.now.path }
-        requires found { AreFound self.now.world self.now.path.course options.now }
+    #[inline(always)]
+    pub fn option(&self, i: usize) -> Option<Picked<'a>>
         ensures value { option_map decision_of result ≡ slice_get (options_at self.now.world self.now.mv self.now.path) i }
         ensures option { IfSome result (λ picked. Contains (options_at self.now.world self.now.mv self.now.path) (decision_of picked)) }
         ensures row { IfSome result (IsPicked self.now.world self.now.path.course) }
     {
-        let _ = &self.world;
-        option_in(options, i)
+        option_in(&self.options, i)
     }
 
-    /// Makes one decision more on the path, which is one of the options.
+    /// The choice that the decision completes, if it completes one. The decision is one of the options.
     #[inline(always)]
-    pub fn extend(&self, path: &mut PathOf<N>, picked: &Picked)
-        requires room { length self.now.mv.take ≤ N }
-        requires path { path.old ≡ self.now.path }
-        requires option { Contains (options_at self.now.world self.now.mv self.now.path) (decision_of picked.now) }
-        ensures { path.new ≡ extend self.now.world self.now.path (decision_of picked.now) }
+    pub fn completed(&self, picked: &Picked) -> Option<Choice>
+        requires { Contains (options_at self.now.world self.now.mv self.now.path) (decision_of picked.now) }
+        ensures { result ≡ completed self.now.world self.now.path (decision_of picked.now) }
     {
-        path.extend(self.world, self.mv, pick_of(picked), self.subparts.len());
+        match *picked {
+            Picked::Course(_) => None,
+            Picked::Reservation(_) => None,
+            Picked::Config(_) => None,
+            Picked::Section(row) => self.completed_by(row.id),
+        }
     }
 
-    /// Takes the decision back.
-    pub fn restore(&self, path: &mut PathOf<N>, picked: &Picked, before: Decisions)
-        requires path { path.old ≡ extend self.now.world self.now.path (decision_of picked.now) }
-        requires before { before ≡ decisions_of self.now.path }
-        ensures { path.new ≡ self.now.path }
+    /// The choice that the section completes, if it is the last that is due.
+    fn completed_by(&self, section: SectionId) -> Option<Choice>
+        requires { Contains (options_at self.now.world self.now.mv self.now.path) (to_section section) }
+        ensures { result ≡ completed_by self.now.world self.now.path section }
     {
-        let _ = &self.world;
-        let _ = picked;
-        path.restore(before);
+        self.world.recall_kept();
+        let mut sections = self.path.sections();
+        sections.push(section);
+        if self.subparts.len() > sections.len() {
+            return None;
+        }
+        Some(Choice {
+            course: self.path.course()?,
+            reservation: self.path.reservation()?,
+            config: self.path.config()?,
+            sections,
+        })
     }
 
     /// Whether each want of the move has its choice on the path.
-    pub fn is_complete_by(&self, path: &PathOf<N>) -> bool
-        ensures { result ≡ has_all self.now.mv path.now }
+    pub fn is_complete(&self) -> bool
+        ensures { result ≡ has_all self.now.mv self.now.path }
     {
-        path.is_complete(self.mv)
+        self.mv.len() <= self.path.done().len()
     }
 
     /// The first rule that the decision breaks, with its number. The decision is one of the options. It takes no memory.
-    pub fn broken(&self, path: &PathOf<N>, picked: &Picked) -> Option<(Rule, u32)>
-        requires limit { N ≤ 20 }
+    pub fn broken(&self, picked: &Picked) -> Option<(Rule, u32)>
         requires stands { MoveStands self.now.world self.now.mv }
-        requires path { path.now ≡ self.now.path }
+        requires few { length self.now.mv.take ≤ 20 }
         requires option { Contains (options_at self.now.world self.now.mv self.now.path) (decision_of picked.now) }
         requires row { IsPicked self.now.world self.now.path.course picked.now }
         ensures { result ≡ leaf_of self.now.world self.now.mv self.now.path (decision_of picked.now) }
@@ -225,8 +237,8 @@ impl<'a, const N: usize> Stage<'a, N> {
         broken_at(
             self.world,
             self.mv,
-            path,
-            want_of(self.mv, path),
+            &self.path,
+            want_of(self.mv, &self.path),
             self.ground,
             self.joined,
             picked,

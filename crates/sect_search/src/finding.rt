@@ -13,7 +13,7 @@ use crate::walk::below;
 use crate::walked::Walked;
 use sect_base::{Block, Budget, Items, Memory, Move, Steps};
 use sect_model::Outcome;
-use sect_rules::{LentMove, PathOf, Stage};
+use sect_rules::{LentMove, Stage};
 use sect_space::World;
 use std::alloc::Global;
 use std::sync::ledger::Ledger;
@@ -88,19 +88,16 @@ fn find<const N: usize>(
     ensures numbers { IfOk result OutcomeNumbers }
     ensures found { IfOk result (λ outcome. outcome ≡ searched_outcome budget (search_of world.now.world mv.now budget)) }
 {
-    let mut path = PathOf::<N>::start();
-    if path.is_complete(mv) {
+    let stage = Stage::start(world, mv, &[]);
+    if stage.is_complete() {
         return Ok(Outcome::Found(Items::from_vec(Vec::new(alloc)), 0));
     }
-    let stage = Stage::start(world, mv, &path);
     let mut left = budget.get();
-    Ok(
-        match below(alloc, &stage, &mut path, decisions(mv), &mut left)? {
-            Walked::Found(choices) => Outcome::Found(choices, budget.get() - left),
-            Walked::Refuted(trees) => Outcome::Blocked(Block::split(trees), budget.get() - left),
-            Walked::Spent => Outcome::Spent(budget.get()),
-        },
-    )
+    Ok(match below::<N>(alloc, &stage, decisions(mv), &mut left)? {
+        Walked::Found(choices) => Outcome::Found(choices, budget.get() - left),
+        Walked::Refuted(trees) => Outcome::Blocked(Block::split(trees), budget.get() - left),
+        Walked::Spent => Outcome::Spent(budget.get()),
+    })
 }
 
 /// The most decisions of a path: nine for each want.

@@ -1,16 +1,17 @@
 // Whether a tree refutes every choice.
 
-ghost use Rattle.std.specs.Prelude.{◌≡◌, ◌<◌, ◌≤◌, ◌&&◌, not, length, IfSome, Contains, IsTrue, slice_get, option_copied};
+ghost use Rattle.std.specs.Prelude.{◌≡◌, ◌<◌, ◌≤◌, ◌&&◌, ◌++◌, ◌∷◌, [], not, length, IfSome, Contains, IsTrue, slice_get, option_copied};
 ghost use Rattle.sect_base.specs.TreeOf.{tree_of};
 ghost use Rattle.sect_base.specs.Tree.{split, trees_of, size_of, sizes_of};
 ghost use Rattle.sect_model.specs.Covers.{covers, covers_with, cover_each, is_leaf};
-ghost use Rattle.sect_model.specs.Path.{extend, is_complete, options_at};
+ghost use Rattle.sect_model.specs.Path.{is_complete, options_at};
 ghost use Rattle.sect_model.specs.Premises.{MoveFits};
 ghost use Rattle.sect_model.specs.Stands.{MoveStands};
+ghost use Rattle.sect_rules.specs.Completed.{opened};
 ghost use Rattle.sect_rules.specs.Picked.{pick_of, IsPicked};
 ghost use Rattle.sect_search.specs.Refutes.{NoMove};
 
-use sect_base::{Block, Move, Node, Rule};
+use sect_base::{Block, Choice, Move, Node, Rule};
 use sect_rules::{LentMove, PathOf, Picked, Stage};
 use sect_space::World;
 
@@ -45,15 +46,9 @@ fn covers_all<const N: usize>(world: &World, mv: &LentMove, tree: &Block) -> boo
     requires limit { N ≤ 20 }
     ensures { result ≡ covers world.now.world mv.now tree.now }
 {
-    let mut path = PathOf::<N>::start();
     match tree.node() {
         Node::Broken(_, _) => false,
-        Node::Split(trees) => {
-            if path.is_complete(mv) {
-                return false;
-            }
-            cover(&Stage::start(world, mv, &path), &mut path, trees)
-        }
+        Node::Split(trees) => covers_behind::<N>(&Stage::start(world, mv, &[]), trees),
     }
 }
 
@@ -92,24 +87,17 @@ fn is_same(leaf: Option<(Rule, u32)>, rule: Rule, number: u32) -> bool
     }
 }
 
-/// Whether the tree covers the path with one decision more. The path is as it was.
+/// Whether the tree covers the path with one decision more.
 #[cycle(covering)]
-fn covers_pick<'a, const N: usize>(
-    stage: &Stage<'a, N>,
-    path: &mut PathOf<N>,
-    picked: &Picked<'a>,
-    tree: &Block,
-) -> bool
+fn covers_pick<'a, const N: usize>(stage: &Stage<'a>, picked: &Picked<'a>, tree: &Block) -> bool
     requires stands { MoveStands stage.now.world stage.now.mv }
     requires room { length stage.now.mv.take ≤ N }
     requires limit { N ≤ 20 }
-    requires path { path.old ≡ stage.now.path }
     requires option { Contains (options_at stage.now.world stage.now.mv stage.now.path) (pick_of picked.now) }
     requires row { IsPicked stage.now.world stage.now.path.course picked.now }
-    ensures covers { result ≡ covers_with stage.now.world stage.now.mv stage.now.path (pick_of picked.now) tree.now }
-    ensures path { path.new ≡ path.old }
+    ensures { result ≡ covers_with stage.now.world stage.now.mv stage.now.path (pick_of picked.now) tree.now }
 {
-    let leaf = stage.broken(path, picked);
+    let leaf = stage.broken(picked);
     match tree.node() {
         Node::Broken(rule, number) => is_same(leaf, *rule, *number),
         Node::Split(trees) => {
@@ -117,55 +105,57 @@ fn covers_pick<'a, const N: usize>(
                 return false;
             }
             let trees = below(tree, trees);
-            let before = path.decisions();
-            stage.extend(path, picked);
-            let covered = covers_behind(stage, path, picked, trees);
-            stage.restore(path, picked, before);
-            covered
+            match stage.completed(picked) {
+                Some(choice) => covers_ended::<N>(stage, choice, trees),
+                None => covers_behind::<N>(&stage.next(picked), trees),
+            }
         }
     }
 }
 
-/// Whether the path behind an option isn't complete, and the trees cover it. The path is as it was.
+/// Whether the path with one choice more isn't complete, and the trees cover it.
 #[cycle(covering)]
-fn covers_behind<'a, const N: usize>(
-    stage: &Stage<'a, N>,
-    path: &mut PathOf<N>,
-    picked: &Picked<'a>,
-    trees: &[Block],
-) -> bool
+fn covers_ended<const N: usize>(stage: &Stage, choice: Choice, trees: &[Block]) -> bool
     requires stands { MoveStands stage.now.world stage.now.mv }
     requires room { length stage.now.mv.take ≤ N }
     requires limit { N ≤ 20 }
-    requires path { path.old ≡ extend stage.now.world stage.now.path (pick_of picked.now) }
-    requires row { IsPicked stage.now.world stage.now.path.course picked.now }
-    ensures covers { result ≡ not (is_complete stage.now.mv path.old)
-        && cover_each stage.now.world stage.now.mv path.old (options_at stage.now.world stage.now.mv path.old) (trees_of trees.now) }
-    ensures path { path.new ≡ path.old }
+    requires wanted { length stage.now.path.done < length stage.now.mv.take }
+    ensures { result ≡ not (is_complete stage.now.mv (opened (stage.now.path.done ++ choice ∷ [])))
+        && cover_each stage.now.world stage.now.mv (opened (stage.now.path.done ++ choice ∷ []))
+        (options_at stage.now.world stage.now.mv (opened (stage.now.path.done ++ choice ∷ []))) (trees_of trees.now) }
 {
-    if stage.is_complete_by(path) {
-        return false;
-    }
-    cover(&stage.next(path, picked), path, trees)
+    let path = PathOf::<N>::made(stage.done(), choice);
+    let next = Stage::start(stage.world(), stage.mv(), path.done());
+    covers_behind::<N>(&next, trees)
 }
 
-/// Whether there are as many trees as options, and each covers its option. The path is as it was.
+/// Whether the path isn't complete, and the trees cover it.
 #[cycle(covering)]
-fn cover<const N: usize>(stage: &Stage<N>, path: &mut PathOf<N>, trees: &[Block]) -> bool
+fn covers_behind<const N: usize>(stage: &Stage, trees: &[Block]) -> bool
     requires stands { MoveStands stage.now.world stage.now.mv }
     requires room { length stage.now.mv.take ≤ N }
     requires limit { N ≤ 20 }
-    requires path { path.old ≡ stage.now.path }
-    ensures covers { result ≡ cover_each stage.now.world stage.now.mv stage.now.path
+    ensures { result ≡ not (is_complete stage.now.mv stage.now.path)
+        && cover_each stage.now.world stage.now.mv stage.now.path
         (options_at stage.now.world stage.now.mv stage.now.path) (trees_of trees.now) }
-    ensures path { path.new ≡ path.old }
 {
-    let options = stage.options(path);
+    !stage.is_complete() && cover::<N>(stage, trees)
+}
+
+/// Whether there are as many trees as options, and each covers its option.
+#[cycle(covering)]
+fn cover<const N: usize>(stage: &Stage, trees: &[Block]) -> bool
+    requires stands { MoveStands stage.now.world stage.now.mv }
+    requires room { length stage.now.mv.take ≤ N }
+    requires limit { N ≤ 20 }
+    ensures { result ≡ cover_each stage.now.world stage.now.mv stage.now.path
+        (options_at stage.now.world stage.now.mv stage.now.path) (trees_of trees.now) }
+{
     let mut at = 0;
-    'options: while let Some(picked) = stage.option(&options, at) {
+    'options: while let Some(picked) = stage.option(at) {
         match tree_at(trees, at) {
             Some(tree) => {
-                if !covers_pick(stage, path, &picked, tree) {
+                if !covers_pick::<N>(stage, &picked, tree) {
                     return false;
                 }
             }

@@ -10,25 +10,25 @@ use Rattle.sect_rules.proofs.GroundLemmas.{of-both, of-both_inside}
 use Rattle.sect_rules.proofs.rules.rule_on.Goals as goal
 
 pub config_rule-requires-clause-row : goal.config_rule-requires-clause-row
-config_rule-requires-clause-row g c =
+config_rule-requires-clause-row c =
     let w = c.args.at.now.at in
     let at = c.args.path.now.course in
     its-config w c.args.course at c.args.ground.now.offering.now c.in-Config.row.now c.requires.course c.requires.offering (subst (IsPicked w at) c.in-Config.is c.requires.row)
 
 pub section_rule-requires-clause-row : goal.section_rule-requires-clause-row
-section_rule-requires-clause-row g c = subst (IsPicked c.args.at.now.at c.args.path.now.course) c.in-Section.is c.requires.row
+section_rule-requires-clause-row c = subst (IsPicked c.args.at.now.at c.args.path.now.course) c.in-Section.is c.requires.row
 
 pub section_rule-requires-clause-own : goal.section_rule-requires-clause-own
-section_rule-requires-clause-own g c =
+section_rule-requires-clause-own c =
     (λ i. stands_at c.args.at.now.at (sym c.requires.course i) (c.in_ok-config-in-Section.ensures i) (c.sections.ensures i) (pick_of (sym c.in-Section.is i))) ∙ c.requires.stands
 
 pub returns-in-Course : goal.returns-in-Course
-returns-in-Course g c =
+returns-in-Course c =
     let v = c.args.at.now in
     c.course_rule.ensures ∙ ap (λ k. first_broken (rules_on v.at v.student c.args.want.now c.args.path.now (pick_of k))) (sym c.in-Course.is)
 
 pub returns-in-Reservation : goal.returns-in-Reservation
-returns-in-Reservation g c =
+returns-in-Reservation c =
     let v = c.args.at.now in
     let o = c.args.ground.now.offering.now in
     let id = c.in-Reservation.id in
@@ -39,7 +39,7 @@ returns-in-Reservation g c =
     ∙ ap (λ k. first_broken (rules_on v.at v.student c.args.want.now c.args.path.now (pick_of k))) (sym c.in-Reservation.is)
 
 pub returns-in-Config : goal.returns-in-Config
-returns-in-Config g c =
+returns-in-Config c =
     let v = c.args.at.now in
     let o = c.args.ground.now.offering.now in
     let id = c.in-Config.row.now.id in
@@ -50,7 +50,7 @@ returns-in-Config g c =
     ∙ ap (λ k. first_broken (rules_on v.at v.student c.args.want.now c.args.path.now (pick_of k))) (sym c.in-Config.is)
 
 pub returns-in_ok-config-in-Section : goal.returns-in_ok-config-in-Section
-returns-in_ok-config-in-Section g c =
+returns-in_ok-config-in-Section c =
     let v = c.args.at.now in
     let p = c.args.path.now in
     let o = c.args.ground.now.offering.now in

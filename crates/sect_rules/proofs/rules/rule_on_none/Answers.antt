@@ -8,12 +8,12 @@ use Rattle.sect_rules.proofs.GroundLemmas.{of-none, of-none_inside}
 use Rattle.sect_rules.proofs.rules.rule_on_none.Goals as goal
 
 pub returns-in-Course : goal.returns-in-Course
-returns-in-Course g c =
+returns-in-Course c =
     let v = c.args.at.now in
     c.course_rule.ensures ∙ ap (λ k. first_broken (rules_on v.at v.student c.args.want.now c.args.path.now (pick_of k))) (sym c.in-Course.is)
 
 pub returns-in-Reservation : goal.returns-in-Reservation
-returns-in-Reservation g c =
+returns-in-Reservation c =
     let v = c.args.at.now in
     let p = c.args.path.now in
     let id = c.in-Reservation.field-0 in
@@ -21,7 +21,7 @@ returns-in-Reservation g c =
     ∙ ap (λ k. first_broken (rules_on v.at v.student c.args.want.now p (pick_of k))) (sym c.in-Reservation.is)
 
 pub returns-in-Config : goal.returns-in-Config
-returns-in-Config g c =
+returns-in-Config c =
     let v = c.args.at.now in
     let p = c.args.path.now in
     let id = c.in-Config.field-0.now.id in
@@ -30,7 +30,7 @@ returns-in-Config g c =
     ∙ ap (λ k. first_broken (rules_on v.at v.student c.args.want.now p (pick_of k))) (sym c.in-Config.is)
 
 pub returns-in-Section : goal.returns-in-Section
-returns-in-Section g c =
+returns-in-Section c =
     let v = c.args.at.now in
     let p = c.args.path.now in
     let id = c.in-Section.field-0.now.id in

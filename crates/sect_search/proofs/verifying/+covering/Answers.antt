@@ -18,23 +18,22 @@ cover-options-preserved g t c =
     let within : c.options.at < length trees = slice_get_within trees c.options.at c.in-Some-tree_at.tree.now (sym c.in-Some-tree_at.ensures.value) in record {
       same = c.options.invariant.same
           ∙ cover-one w mv p (options_at w mv p) trees c.options.at (pick_of c.in-Some.picked) c.in-Some-tree_at.tree.now (sym c.in-Some.ensures.value) (sym c.in-Some-tree_at.ensures.value)
-          ∙ (λ i. (sym c.covers_pick.ensures.covers ∙ c.if-not-covers_pick.false) i && from w mv p (options_at w mv p) trees (c.options.at + 1));
+          ∙ (λ i. (sym c.covers_pick.ensures ∙ c.if-not-covers_pick.false) i && from w mv p (options_at w mv p) trees (c.options.at + 1));
       within = omega (arith, within);
-      path_is = c.covers_pick.ensures.path ∙ c.options.invariant.path_is;
     }
 
-pub cover-returns-then-not-covers_pick-clause-covers : goal.cover-returns-then-not-covers_pick-clause-covers
-cover-returns-then-not-covers_pick-clause-covers g t c =
+pub cover-returns-then-not-covers_pick : goal.cover-returns-then-not-covers_pick
+cover-returns-then-not-covers_pick g t c =
     let w = c.args.stage.now.world in
     let mv = c.args.stage.now.mv in
     let p = c.args.stage.now.path in
     let trees = c.args.trees.now in
     sym (c.options.invariant.same
     ∙ cover-one w mv p (options_at w mv p) trees c.options.at (pick_of c.in-Some.picked) c.in-Some-tree_at.tree.now (sym c.in-Some.ensures.value) (sym c.in-Some-tree_at.ensures.value)
-    ∙ (λ i. (sym c.covers_pick.ensures.covers ∙ c.if-not-covers_pick.true) i && from w mv p (options_at w mv p) trees (c.options.at + 1)))
+    ∙ (λ i. (sym c.covers_pick.ensures ∙ c.if-not-covers_pick.true) i && from w mv p (options_at w mv p) trees (c.options.at + 1)))
 
-pub cover-returns-in-None-clause-covers : goal.cover-returns-in-None-clause-covers
-cover-returns-in-None-clause-covers g t c =
+pub cover-returns-in-None : goal.cover-returns-in-None
+cover-returns-in-None g t c =
     let w = c.args.stage.now.world in
     let mv = c.args.stage.now.mv in
     let p = c.args.stage.now.path in
@@ -42,8 +41,8 @@ cover-returns-in-None-clause-covers g t c =
     sym (c.options.invariant.same
     ∙ cover-none w mv p (options_at w mv p) trees c.options.at (pick_of c.in-Some.picked) (sym c.in-Some.ensures.value) (sym c.tree_at.ensures.value ∙ ap option_copied c.in-None.is))
 
-pub cover-returns-clause-covers : goal.cover-returns-clause-covers
-cover-returns-clause-covers g t c =
+pub cover-returns : goal.cover-returns
+cover-returns g t c =
     let w = c.args.stage.now.world in
     let mv = c.args.stage.now.mv in
     let p = c.args.stage.now.path in

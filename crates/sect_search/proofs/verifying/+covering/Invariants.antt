@@ -10,17 +10,19 @@ invariant-cover-options g l = record {
   same : cover_each l.stage.world l.stage.mv l.stage.path (options_at l.stage.world l.stage.mv l.stage.path) (trees_of l.trees)
       ≡ cover_each l.stage.world l.stage.mv l.stage.path (drop l.at (options_at l.stage.world l.stage.mv l.stage.path)) (trees_of (drop l.at l.trees));
   within : l.at ≤ length l.trees;
-  path_is : l.path ≡ l.stage.path;
 }
 
 abbrev pub decreases-cover-options : goal.decreases-cover-options
 decreases-cover-options g l = length l.trees - l.at
 
 abbrev pub decreases-covers_pick : goal.decreases-covers_pick
-decreases-covers_pick g l = 2 * size_of l.tree.now
+decreases-covers_pick g l = 4 * size_of l.tree.now
+
+abbrev pub decreases-covers_ended : goal.decreases-covers_ended
+decreases-covers_ended g l = 4 * sizes_of (trees_of l.trees.now) + 3
 
 abbrev pub decreases-covers_behind : goal.decreases-covers_behind
-decreases-covers_behind g l = 2 * sizes_of (trees_of l.trees.now) + 1
+decreases-covers_behind g l = 4 * sizes_of (trees_of l.trees.now) + 2
 
 abbrev pub decreases-cover : goal.decreases-cover
-decreases-cover g l = 2 * sizes_of (trees_of l.trees.now)
+decreases-cover g l = 4 * sizes_of (trees_of l.trees.now) + 1

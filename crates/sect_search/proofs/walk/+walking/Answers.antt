@@ -60,7 +60,6 @@ below-options-preserved g t c =
       whole = c.options.invariant.whole;
       numbers = subst (λ trees. HaveNumbers (trees_of trees)) (sym c.in_ok-push-in-Refuted.ensures.items)
           (more-numbers c.options.trees.items c.in-Refuted.tree c.options.invariant.numbers (subst SeenNumbers c.in-Refuted.is c.in_ok-choices.ensures.numbers));
-      path_is = c.visit.ensures.path ∙ c.options.invariant.path_is;
     }
 
 pub below-returns-clause-found : goal.below-returns-clause-found
@@ -72,13 +71,3 @@ below-returns-clause-found g t c =
     ∙ c.options.invariant.same
     ∙ from-none w mv (search_from w mv (c.args.decisions - 1)) p (options_at w mv p) c.options.trees.items c.options.at c.options.left (sym c.option.ensures.value ∙ ap (option_map pick_of) c.in_default.is))
 
-pub visit-returns-clause-found : goal.visit-returns-clause-found
-visit-returns-clause-found g t c =
-    let w = c.args.stage.now.world in
-    let mv = c.args.stage.now.mv in
-    let p = c.args.stage.now.path in
-    let e : c.extend.new.path ≡ extend w p (pick_of c.args.picked.now) = c.extend.ensures in
-    let n : None ≡ leaf_of w mv p (pick_of c.args.picked.now) = sym c.in_default.is ∙ c.broken.ensures in
-    subst (λ x. IfOk c.behind-visited.result (λ r. seen r c.behind-visited.new.left ≡ x))
-    (λ i. search_pick (n i) (is_complete mv (e i)) (e i).done (search_from w mv (c.args.decisions - 1) (e i)) (λ left. refuted [] left) c.args.left.now)
-    c.behind-visited.ensures.found

@@ -8,13 +8,16 @@ use Rattle.sect_search.specs.Told.{with_trees}
 use Rattle.sect_search.proofs.walk.+walking.Given as goal
 
 abbrev pub decreases-below : goal.decreases-below
-decreases-below g l = 3 * l.decisions + 1
+decreases-below g l = 4 * l.decisions + 1
 
 abbrev pub decreases-visit : goal.decreases-visit
-decreases-visit g l = 3 * l.decisions
+decreases-visit g l = 4 * l.decisions
 
-abbrev pub decreases-behind : goal.decreases-behind
-decreases-behind g l = 3 * l.decisions + 2
+abbrev pub decreases-ended : goal.decreases-ended
+decreases-ended g l = 4 * l.decisions + 3
+
+abbrev pub decreases-go_on : goal.decreases-go_on
+decreases-go_on g l = 4 * l.decisions + 2
 
 abbrev pub invariant-below-options : goal.invariant-below-options
 invariant-below-options g l = record {
@@ -23,7 +26,6 @@ invariant-below-options g l = record {
   less : l.at + l.left ≤ l.budget;
   whole : l.budget ≡ l.initial.left;
   numbers : HaveNumbers (trees_of l.trees.items);
-  path_is : l.path ≡ l.stage.path;
 }
 
 abbrev pub decreases-below-options : goal.decreases-below-options

@@ -5,7 +5,7 @@ use Rattle.sect_rules.proofs.MomentLemmas.{world-moved}
 use Rattle.sect_rules.proofs.moment.Moment.new.Goals as goal
 
 pub returns : goal.returns
-returns g c =
+returns c =
     let w = c.args.world.now.world in
     let mv = c.args.mv.now in
-    λ i. record { at = ((λ j. moved w (c.student.ensures j) (c.give.ensures j) (c.done.ensures.value j)) ∙ sym (world-moved w mv c.args.path.now)) i; student = c.student.ensures i }
+    λ i. record { at = ((λ j. moved w (c.student.ensures j) (c.give.ensures j) (c.done.ensures j)) ∙ sym (world-moved w mv c.args.path.now)) i; student = c.student.ensures i }
