@@ -1,6 +1,6 @@
 // A node of a search: a path with the ground of its course, its reservation, its subparts and its options, found once.
 
-ghost use Rattle.std.specs.Prelude.{◌≡◌, ◌≤◌, length, slice_get, Contains, IfSome, Some, None, option_copied};
+ghost use Rattle.std.specs.Prelude.{◌≡◌, ◌≤◌, ◌<◌, length, slice_get, Contains, IfSome, Some, None, option_copied};
 ghost use Rattle.std.specs.Option.{option_and_then, option_map};
 ghost use Rattle.sect_model.specs.declared.pick.Pick.TheVariants.{Section as to_section};
 ghost use Rattle.sect_model.specs.Path.{options_at, extend, is_complete as has_all};
@@ -190,7 +190,8 @@ impl<'a> Stage<'a> {
     #[inline(always)]
     pub fn completed(&self, picked: &Picked) -> Option<Choice>
         requires { Contains (options_at self.now.world self.now.mv self.now.path) (decision_of picked.now) }
-        ensures { result ≡ completed self.now.world self.now.path (decision_of picked.now) }
+        ensures value { result ≡ completed self.now.world self.now.path (decision_of picked.now) }
+        ensures wanted { IfSome result (λ choice. length self.now.path.done < length self.now.mv.take) }
     {
         match *picked {
             Picked::Course(_) => None,

@@ -70,4 +70,3 @@ below-returns-clause-found g t c =
     sym (search-some w mv c.args.decisions p c.args.left.now (omega (arith, c.if-decisions-eq0.false))
     ∙ c.options.invariant.same
     ∙ from-none w mv (search_from w mv (c.args.decisions - 1)) p (options_at w mv p) c.options.trees.items c.options.at c.options.left (sym c.option.ensures.value ∙ ap (option_map pick_of) c.in_default.is))
-

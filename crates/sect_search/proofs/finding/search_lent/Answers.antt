@@ -2,7 +2,7 @@
 use Rattle.std.proofs.Common.{length}
 use Rattle.sect_search.proofs.TextLemmas.{told-four}
 use Rattle.sect_model.proofs.StandLemmas.{stands}
-use Rattle.sect_search.proofs.finding.search.Goals as goal
+use Rattle.sect_search.proofs.finding.search_lent.Goals as goal
 
 pub search_in-requires-clause-stands : goal.search_in-requires-clause-stands
 search_in-requires-clause-stands g c = stands c.args.world.now.world c.args.mv.now c.requires
