@@ -1,21 +1,18 @@
--- Each row that options are read from is the one that its id finds, and what a decision leaves as it was.
-use Rattle.std.specs.Prelude.{◌≡◌, ℕ, zero, suc, Bool, true, false, nat_le, cond, List, [], ◌∷◌, ◌++◌, length, slice_get, Option, Some, None, Contains, IfSome, option_copied, refl}
+-- Each row that options are read from is the one that its id finds.
+use Rattle.std.specs.Prelude.{◌≡◌, ℕ, zero, suc, true, List, [], ◌∷◌, slice_get, Option, Some, None, Contains, IfSome, option_copied, refl}
 use Rattle.std.specs.Borrow.{Bor}
 use Rattle.std.specs.List.{All}
-use Rattle.std.specs.Option.{option_map, option_map_or, option_and_then}
+use Rattle.std.specs.Option.{option_map, option_and_then}
 use Rattle.std.proofs.Common.{sym, ◌∙◌, ap, subst, arith, inl, inr}
 use Rattle.sect_catalog.specs.Fault.{are_checked}
 use Rattle.sect_people.specs.Order.{sorted_by}
-use Rattle.sect_model.specs.Data.{CourseId, ReservationId, ConfigId, SectionId, OfferingRow, ConfigRow, SubpartRow}
+use Rattle.sect_model.specs.Data.{CourseId, ConfigId, OfferingRow, ConfigRow, SubpartRow}
 use Rattle.sect_model.specs.declared.pick.Pick.{Pick}
-use Rattle.sect_model.specs.declared.pick.Pick.TheVariants.{Section}
 use Rattle.sect_model.specs.World.{World, offering_of}
 use Rattle.sect_model.specs.Choice.{config_in, subparts_of}
-use Rattle.sect_model.specs.Path.{Path, extend, close, close_if_whole, sections_due}
 use Rattle.sect_model.proofs.Members.{Member}
 use Rattle.sect_model.proofs.ListLemmas.{contains-more}
 use Rattle.sect_rules.specs.declared.picked.Picked.{Picked}
-use Rattle.sect_rules.specs.Decided.{subparts_at}
 use Rattle.sect_rules.specs.Picked.{pick_of, IsConfig, IsSection}
 use Rattle.sect_rules.proofs.IdLemmas.{config-itself, section-itself}
 use Rattle.sect_rules.proofs.NthLemmas.{got-contained, member-got, member-of_sorted}
@@ -55,38 +52,6 @@ module _ (w : World) (checked : are_checked w.catalogue.rows ≡ true) where
 pub its-config : (w : World) (course : CourseId) (at : Option CourseId) (o : OfferingRow) (row : ConfigRow) → at ≡ Some course → offering_of w course ≡ Some o → IsConfig w at row
     → config_in o row.id ≡ Some row
 its-config w course at o row e f h = sym (ap (option_and_then (λ o. config_in o row.id)) (ap (option_and_then (offering_of w)) e ∙ f)) ∙ h
-
--- it has the subparts that are decided on with it
-pub config-parts : (w : World) (at : Option CourseId) (row : ConfigRow) → IsConfig w at row → row.subparts ≡ subparts_at w at (Some row.id)
-config-parts w None row h = cc
-config-parts w (Some c) row h = sym (ap (λ g. option_map_or (λ g. g.subparts) g []) h)
-
--- where a section leaves a course, it leaves the other decisions
-pub record Stays (p q : Path) : Type 0 where
-  pub course : q.course ≡ p.course
-  pub reservation : q.reservation ≡ p.reservation
-  pub config : q.config ≡ p.config
-
-closed-stays : (p : Path) (course : CourseId) (c : Option CourseId) (r : Option (Option ReservationId)) (g : Option ConfigId) → (close p c r g).course ≡ Some course → Stays p (close p c r g)
-closed-stays p course None r g h = record { course = refl; reservation = refl; config = refl }
-closed-stays p course (Some c) None g h = record { course = refl; reservation = refl; config = refl }
-closed-stays p course (Some c) (Some r) None h = record { course = refl; reservation = refl; config = refl }
-closed-stays p course (Some c) (Some r) (Some g) h = cc
-
-section-stays : (w : World) (p : Path) (section : SectionId) (course : CourseId) → (close_if_whole w (record p { sections = p.sections ++ section ∷ [] })).course ≡ Some course
-    → Stays p (close_if_whole w (record p { sections = p.sections ++ section ∷ [] }))
-section-stays w p section course = by_test (nat_le (sections_due w p.course p.config) (length (p.sections ++ section ∷ [])))
-  where
-    q : Path
-    q = record p { sections = p.sections ++ section ∷ [] }
-
-    by_test : (b : Bool) → (cond b (close q q.course q.reservation q.config) q).course ≡ Some course → Stays p (cond b (close q q.course q.reservation q.config) q)
-    by_test true h = let s = closed-stays q course q.course q.reservation q.config h in record { course = s.course; reservation = s.reservation; config = s.config }
-    by_test false h = record { course = refl; reservation = refl; config = refl }
-
--- the same of a path with a section more
-pub stays-by : (w : World) (p : Path) (section : SectionId) (q : Path) (course : CourseId) → q ≡ extend w p (Section section) → q.course ≡ Some course → Stays p q
-stays-by w p section q course e h = subst (Stays p) (sym e) (section-stays w p section course (ap (λ q. q.course) (sym e) ∙ h))
 
 -- an option with its row stands among the options
 pub picked-contained : (xs : List Pick) (i : ℕ) (r : Option Picked) → option_map pick_of r ≡ slice_get xs i → IfSome r (λ picked. Contains xs (pick_of picked))

@@ -1,5 +1,5 @@
 -- The choice that a decision completes.
-use Rattle.std.specs.Prelude.{ℕ, Bool, nat_le, cond, List, [], ◌∷◌, ◌++◌, length, Option, Some, None}
+use Rattle.std.specs.Prelude.{nat_le, cond, List, [], ◌∷◌, ◌++◌, length, Option, Some, None}
 use Rattle.sect_model.specs.Data.{CourseId, ReservationId, ConfigId, SectionId, Choice}
 use Rattle.sect_model.specs.declared.pick.Pick.{Pick}
 use Rattle.sect_model.specs.declared.pick.Pick.TheVariants.{Course, Reservation, Config, Section}

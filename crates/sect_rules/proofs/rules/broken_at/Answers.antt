@@ -2,7 +2,6 @@
 use Rattle.std.proofs.Common.{arith, ◌≡◌, ◌∙◌, sym, ap, subst, Option, None, List}
 use Rattle.std.specs.Prelude.{refl}
 use Rattle.std.specs.Option.{option_map_or, option_and_then}
-use Rattle.std.specs.Prelude.{option_copied}
 use Rattle.sect_model.specs.Data.{StudentId, CourseId, Choice}
 use Rattle.sect_model.specs.declared.pick.Pick.{Pick}
 use Rattle.sect_model.specs.declared.pick.Pick.TheVariants.{Course as picks_course, Reservation as picks_reservation, Config as picks_config, Section as picks_section}

@@ -1,10 +1,8 @@
 -- option by option, with the trees of those in front
 use Rattle.std.proofs.Common.{◌-◌, ◌+◌, sym, ◌∙◌, ap, subst, arith}
-use Rattle.std.specs.Prelude.{◌≡◌, [], None, IfOk}
 use Rattle.std.specs.Option.{option_map}
-use Rattle.sect_model.specs.Path.{options_at, extend, is_complete}
-use Rattle.sect_model.specs.Rules.{leaf_of}
-use Rattle.sect_model.specs.Search.{refuted, search_pick, search_from}
+use Rattle.sect_model.specs.Path.{options_at}
+use Rattle.sect_model.specs.Search.{search_from}
 use Rattle.sect_base.specs.Tree.{trees_of}
 use Rattle.sect_rules.specs.Picked.{pick_of}
 use Rattle.sect_search.specs.Texts.{HaveNumbers}

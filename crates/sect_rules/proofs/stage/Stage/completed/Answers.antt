@@ -1,5 +1,5 @@
 -- where there is an option, a want is left
-use Rattle.std.specs.Prelude.{◌<◌, length, Option, None, Some, IfSome}
+use Rattle.std.specs.Prelude.{length, Option, None, Some, IfSome}
 use Rattle.std.proofs.Common.{arith}
 use Rattle.sect_rules.specs.Picked.{pick_of}
 use Rattle.sect_rules.proofs.OwnLemmas.{done-few}
