@@ -38,8 +38,9 @@ fn make_move(
     ensures since { Since world.old.world undo.old.backs world.new.world undo.new.backs }
     ensures undoable { Undoable world.new undo.new.backs }
 {
-    give_up(world, mv.student(), mv.give(), undo)?;
-    take(world, mv.student(), choices, undo)
+    let student = mv.student();
+    give_up(world, student, mv.give(), undo)?;
+    take(world, student, choices, undo)
 }
 
 /// Takes the student out of each course. It holds them, and none stands twice.

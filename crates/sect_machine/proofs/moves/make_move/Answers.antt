@@ -8,8 +8,11 @@ use Rattle.sect_machine.proofs.moves.make_move.Goals as goal
 
 pub take-requires-clause-known : goal.take-requires-clause-known
 take-requires-clause-known c =
-    subst (λ ss. IsTrue (is_some (find_student ss c.args.mv.now.student)))
-    (sym (ap (λ w. w.students) c.in_ok-give_up.ensures.ok ∙ leave_all-students c.give.result.now c.args.world.now.world c.args.mv.now.student)) c.requires.fits.student
+    let student = c.student-student.result in
+    let w = c.args.world.now.world in
+    subst (λ ss. IsTrue (is_some (find_student ss student)))
+    (sym (ap (λ w. w.students) c.in_ok-give_up.ensures.ok ∙ leave_all-students c.give.result.now w student))
+    (subst (λ id. IsTrue (is_some (find_student w.students id))) (sym c.student-student.ensures) c.requires.fits.student)
 
 pub returns-clause-since : goal.returns-clause-since
 returns-clause-since c =
