@@ -2,6 +2,7 @@ pub mod Cuts
 pub mod Dates
 pub mod DayLaws
 pub mod Exact
+pub mod Fronts
 pub mod Loops
 pub mod Numbers
 pub mod Parsing

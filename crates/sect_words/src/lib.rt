@@ -9,6 +9,7 @@ mod printing;
 mod read_parts;
 mod read_terms;
 mod readable;
+mod readable_ids;
 mod same;
 mod spelled;
 mod spelled_rows;

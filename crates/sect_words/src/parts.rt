@@ -1,12 +1,35 @@
 // The parts of a text between marks, from the first to the last.
 
-ghost use Rattle.std.specs.Prelude.{◌≡◌, ℕ, ◌==◌, ◌≤◌, ◌<◌, ◌+◌, drop, length, List, [], position, if◌then◌else◌};
+ghost use Rattle.std.specs.Prelude.{
+  ◌≡◌,
+  ℕ,
+  ◌==◌,
+  ◌≤◌,
+  ◌<◌,
+  ◌+◌,
+  take,
+  drop,
+  length,
+  get_or,
+  List,
+  [],
+  ◌∷◌,
+  Some,
+  position,
+  if◌then◌else◌,
+  IfOk,
+  IsTrue,
+  false,
+};
 ghost use Rattle.std.specs.Option.{option_map};
 ghost use Rattle.std.specs.Str.{bytes_eq};
+ghost use Rattle.std.specs.Str.Parse.{AllDigits};
 ghost use Rattle.sect_words.specs.Parts.{pieces};
-ghost use Rattle.sect_words.specs.Reading.{first_part, later_parts, begins, is_nil, marked_if};
+ghost use Rattle.sect_words.specs.Reading.{Reads, word_at, first_part, later_parts, begins, is_nil, marked_if};
+ghost use Rattle.sect_words.specs.ReadingWords.{number_of};
 
-use crate::same::same_bytes;
+use crate::fault::Fault;
+use crate::number::read_number;
 use std::marker::Model;
 
 /// What is left of a text in parts, as the words of a line between spaces. Contracts see the list of the parts.
@@ -14,21 +37,17 @@ use std::marker::Model;
 pub struct Parts<'a> {
     text: &'a [u8],
     mark: u8,
-    // The place of the first mark. It is found once a part, and asked for as often as the part is.
-    end: Option<usize>,
     // Whether the last part was taken.
     done: bool,
 }
 
 impl<'a> Model for Parts<'a> {
-    ghost use Rattle.std.specs.Prelude.{◌≡◌, ◌==◌, ℕ, List, position};
+    ghost use Rattle.std.specs.Prelude.{ℕ, List};
     ghost use Rattle.sect_words.specs.Parts.{parts_left};
 
     ghost Value = { List (List ℕ) };
 
     ghost view = { λ p. parts_left p.done p.mark p.text.now };
-
-    ghost invariant = { λ p. p.end ≡ position (λ byte. byte == p.mark) p.text.now };
 }
 
 /// The place of the first mark.
@@ -46,6 +65,42 @@ fn behind(text: &[u8], at: usize) -> &[u8]
     &text[at + 1..]
 }
 
+/// Whether the first part of a text is this word. It looks no further than the word is long.
+#[inline(always)]
+fn begins_with(text: &[u8], mark: u8, word: &[u8]) -> bool
+    ensures { result ≡ begins word.now (pieces mark text.now) }
+{
+    let mut rest = text;
+    let mut other = word;
+    while let [byte, more @ ..] = other {
+        match rest {
+            [first, later @ ..] if *first == *byte && *first != mark => rest = later,
+            _ => return false,
+        }
+        other = more;
+    }
+    match rest {
+        [] => true,
+        [first, ..] => *first == mark,
+    }
+}
+
+/// Whether so many digits at the front of a text are its first part, and no zero stands there before others.
+fn ends_number(text: &[u8], mark: u8, count: usize) -> bool
+    requires within { count ≤ length text.now }
+    requires digits { AllDigits 10 (take count text.now) }
+    ensures part { IsTrue result → first_part (pieces mark text.now) ≡ Some (take count text.now) }
+    ensures plain { IsTrue result → (0 < count) × (get_or text.now 0 0 ≡ 48 → count ≡ 1) }
+{
+    if count == 0 || mark.is_ascii_digit() {
+        return false;
+    }
+    if text[0] == b'0' && count > 1 {
+        return false;
+    }
+    count == text.len() || text[count] == mark
+}
+
 impl<'a> Parts<'a> {
     /// The parts of a text.
     pub fn new(text: &'a [u8], mark: u8) -> Parts<'a>
@@ -54,7 +109,6 @@ impl<'a> Parts<'a> {
         Parts {
             text,
             mark,
-            end: mark_in(text, mark),
             done: false,
         }
     }
@@ -67,7 +121,7 @@ impl<'a> Parts<'a> {
         if self.done {
             return None;
         }
-        match self.end {
+        match mark_in(self.text, self.mark) {
             Some(at) => Some(&self.text[..at]),
             None => Some(self.text),
         }
@@ -80,12 +134,22 @@ impl<'a> Parts<'a> {
         if self.done {
             return;
         }
-        match self.end {
-            Some(at) => {
-                self.text = behind(self.text, at);
-                self.end = mark_in(self.text, self.mark);
-            }
+        match mark_in(self.text, self.mark) {
+            Some(at) => self.text = behind(self.text, at),
             None => self.done = true,
+        }
+    }
+
+    /// Takes the first part off, of which the length is known.
+    #[inline(always)]
+    fn pass(&mut self, len: usize)
+        requires { option_map length (first_part self.now) ≡ Some len }
+        ensures { self.new ≡ later_parts self.old }
+    {
+        if len < self.text.len() {
+            self.text = behind(self.text, len);
+        } else {
+            self.done = true;
         }
     }
 
@@ -98,10 +162,9 @@ impl<'a> Parts<'a> {
             return None;
         }
         let text = self.text;
-        match self.end {
+        match mark_in(text, self.mark) {
             Some(at) => {
                 self.text = behind(text, at);
-                self.end = mark_in(self.text, self.mark);
                 Some(&text[..at])
             }
             None => {
@@ -123,10 +186,7 @@ impl<'a> Parts<'a> {
     pub fn begins(&self, word: &[u8]) -> bool
         ensures { result ≡ begins word.now self.now }
     {
-        match self.first() {
-            Some(part) => same_bytes(part, word),
-            None => false,
-        }
+        !self.done && begins_with(self.text, self.mark, word)
     }
 
     /// Takes the next part where it is this word, and tells whether it was.
@@ -138,8 +198,51 @@ impl<'a> Parts<'a> {
     {
         let found = self.begins(word);
         if found {
-            self.take();
+            self.pass(word.len());
         }
         found
+    }
+
+    /// Takes this byte off the front of the next part where the part begins with it, and tells whether it did.
+    #[inline(always)]
+    pub(crate) fn strips(&mut self, byte: u8) -> bool
+        ensures found { IsTrue result → first_part self.old ≡ option_map (λ part. byte ∷ part) (first_part self.new) }
+        ensures later { later_parts self.new ≡ later_parts self.old }
+        ensures same { result ≡ false → self.new ≡ self.old }
+    {
+        if self.done || byte == self.mark {
+            return false;
+        }
+        match self.text {
+            [first, rest @ ..] if *first == byte => {
+                self.text = rest;
+                true
+            }
+            _ => false,
+        }
+    }
+
+    /// The number of at most `most` in the next part, which is taken. Where the part is such a number of fewer than twenty
+    /// digits, as most are, one look at each of its bytes finds both the number and the end.
+    pub(crate) fn number(&mut self, most: u64) -> Result<u64, Fault>
+        ensures range { IfOk result (λ n. n ≤ most) }
+        ensures reads { Reads result self.new (word_at (number_of most) self.old) }
+        ensures shorter { IfOk result (λ _. length self.new < length self.old) }
+    {
+        let text = self.text;
+        let mut number: u64 = 0;
+        let mut count: usize = 0;
+        while count < 19 && count < text.len() && text[count].is_ascii_digit() {
+            number = number * 10 + u64::from(text[count] - b'0');
+            count += 1;
+        }
+        if number <= most && !self.done && ends_number(text, self.mark, count) {
+            self.pass(count);
+            return Ok(number);
+        }
+        match self.next() {
+            Some(part) => read_number(part, most),
+            None => Err(Fault::Bad),
+        }
     }
 }

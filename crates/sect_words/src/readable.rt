@@ -1,6 +1,6 @@
 // Reading what stands in one word.
 
-ghost use Rattle.std.specs.Prelude.{◌≡◌, ℕ, List, Option};
+ghost use Rattle.std.specs.Prelude.{◌≡◌, ◌<◌, ℕ, List, Option, IfOk, length};
 ghost use Rattle.std.specs.Option.{option_map};
 ghost use Rattle.sect_words.specs.Parts.{pieces};
 ghost use Rattle.sect_words.specs.Reading.{Means, Reads, all_of, word_at};
@@ -11,18 +11,6 @@ ghost use Rattle.sect_words.specs.ReadingWords.{
   u64_of,
   day_of,
   meeting_of,
-  course_of,
-  config_of,
-  subpart_of,
-  offering_of,
-  restriction_of,
-  section_of,
-  reservation_of,
-  student_of,
-  group_of,
-  area_of,
-  class_of,
-  major_of,
   list_of,
   flag_of,
   optional_of,
@@ -38,9 +26,8 @@ use crate::number::read_number;
 use crate::parts::Parts;
 use crate::same::same_bytes;
 use sect_base::{
-    AreaId, Block, Caller, ClassId, ConfigId, CourseId, Day, GroupId, Items, Limit, MajorId,
-    Meeting, OfferingId, ReservationId, RestrictionId, SectionId, Sections, StudentId, SubpartId,
-    read_day, read_meeting,
+    Block, Caller, Day, Items, Limit, Meeting, SectionId, Sections, StudentId, read_day,
+    read_meeting,
 };
 use sect_command::read_block;
 use std::alloc::Global;
@@ -53,6 +40,17 @@ pub trait Readable: Drop {
     /// The value of a word. `Bad` exactly where it has none, unless memory ran out.
     fn read(alloc: Global, word: &[u8]) -> Result<Self, Fault>
         ensures { Means result (reads word.now) };
+
+    /// The value of the next part, which is taken. `Bad` exactly where it has none, unless memory ran out.
+    fn read_next(alloc: Global, parts: &mut Parts) -> Result<Self, Fault>
+        ensures value { Reads result parts.new (word_at reads parts.old) }
+        ensures shorter { IfOk result (λ _. length parts.new < length parts.old) }
+    {
+        match parts.next() {
+            Some(part) => Self::read(alloc, part),
+            None => Err(Fault::Bad),
+        }
+    }
 }
 
 impl Readable for u8 {
@@ -77,6 +75,10 @@ impl Readable for u32 {
     fn read(_alloc: Global, word: &[u8]) -> Result<u32, Fault> {
         Ok(read_number(word, 4_294_967_295)? as u32)
     }
+
+    fn read_next(_alloc: Global, parts: &mut Parts) -> Result<u32, Fault> {
+        Ok(parts.number(4_294_967_295)? as u32)
+    }
 }
 
 impl Readable for u64 {
@@ -84,102 +86,6 @@ impl Readable for u64 {
 
     fn read(_alloc: Global, word: &[u8]) -> Result<u64, Fault> {
         read_number(word, u64::MAX)
-    }
-}
-
-impl Readable for AreaId {
-    ghost reads = { area_of };
-
-    fn read(alloc: Global, word: &[u8]) -> Result<AreaId, Fault> {
-        Ok(AreaId(u32::read(alloc, word)?))
-    }
-}
-
-impl Readable for ClassId {
-    ghost reads = { class_of };
-
-    fn read(alloc: Global, word: &[u8]) -> Result<ClassId, Fault> {
-        Ok(ClassId(u32::read(alloc, word)?))
-    }
-}
-
-impl Readable for ConfigId {
-    ghost reads = { config_of };
-
-    fn read(alloc: Global, word: &[u8]) -> Result<ConfigId, Fault> {
-        Ok(ConfigId(u32::read(alloc, word)?))
-    }
-}
-
-impl Readable for CourseId {
-    ghost reads = { course_of };
-
-    fn read(alloc: Global, word: &[u8]) -> Result<CourseId, Fault> {
-        Ok(CourseId(u32::read(alloc, word)?))
-    }
-}
-
-impl Readable for GroupId {
-    ghost reads = { group_of };
-
-    fn read(alloc: Global, word: &[u8]) -> Result<GroupId, Fault> {
-        Ok(GroupId(u32::read(alloc, word)?))
-    }
-}
-
-impl Readable for MajorId {
-    ghost reads = { major_of };
-
-    fn read(alloc: Global, word: &[u8]) -> Result<MajorId, Fault> {
-        Ok(MajorId(u32::read(alloc, word)?))
-    }
-}
-
-impl Readable for OfferingId {
-    ghost reads = { offering_of };
-
-    fn read(alloc: Global, word: &[u8]) -> Result<OfferingId, Fault> {
-        Ok(OfferingId(u32::read(alloc, word)?))
-    }
-}
-
-impl Readable for ReservationId {
-    ghost reads = { reservation_of };
-
-    fn read(alloc: Global, word: &[u8]) -> Result<ReservationId, Fault> {
-        Ok(ReservationId(u32::read(alloc, word)?))
-    }
-}
-
-impl Readable for RestrictionId {
-    ghost reads = { restriction_of };
-
-    fn read(alloc: Global, word: &[u8]) -> Result<RestrictionId, Fault> {
-        Ok(RestrictionId(u32::read(alloc, word)?))
-    }
-}
-
-impl Readable for SectionId {
-    ghost reads = { section_of };
-
-    fn read(alloc: Global, word: &[u8]) -> Result<SectionId, Fault> {
-        Ok(SectionId(u32::read(alloc, word)?))
-    }
-}
-
-impl Readable for StudentId {
-    ghost reads = { student_of };
-
-    fn read(alloc: Global, word: &[u8]) -> Result<StudentId, Fault> {
-        Ok(StudentId(u32::read(alloc, word)?))
-    }
-}
-
-impl Readable for SubpartId {
-    ghost reads = { subpart_of };
-
-    fn read(alloc: Global, word: &[u8]) -> Result<SubpartId, Fault> {
-        Ok(SubpartId(u32::read(alloc, word)?))
     }
 }
 
@@ -270,6 +176,16 @@ impl Readable for Caller {
             _ => Err(Fault::Bad),
         }
     }
+
+    fn read_next(alloc: Global, parts: &mut Parts) -> Result<Caller, Fault> {
+        if parts.strips(b's') {
+            return Ok(Caller::Student(StudentId(u32::read_next(alloc, parts)?)));
+        }
+        match parts.next() {
+            Some(part) => Caller::read(alloc, part),
+            None => Err(Fault::Bad),
+        }
+    }
 }
 
 /// The values of all parts of a text between marks, of which there is one at least. It takes memory.
@@ -277,9 +193,9 @@ pub fn read_all<T: Readable>(alloc: Global, word: &[u8], mark: u8) -> Result<Ite
     ensures { Means result (all_of T.reads (pieces mark word.now)) }
 {
     let mut parts = Parts::new(word, mark);
-    let mut items = Vec::new(alloc);
-    while let Some(part) = parts.next() {
-        items.push(T::read(alloc, part)?)?;
+    let mut items = Vec::with_capacity(alloc, 4)?;
+    while !parts.is_empty() {
+        items.push(T::read_next(alloc, &mut parts)?)?;
     }
     Ok(Items::from_vec(items))
 }

@@ -5,7 +5,6 @@ ghost use Rattle.sect_words.specs.Reading.{Reads, Passes, Ends, word_at, key_at}
 ghost use Rattle.sect_words.specs.ReadingWords.{between_of};
 
 use crate::fault::Fault;
-use crate::number::read_between;
 use crate::parts::Parts;
 use crate::readable::Readable;
 use std::alloc::Global;
@@ -16,22 +15,21 @@ impl Parts<'_> {
         ensures reads { Reads result self.new (word_at T.reads self.old) }
         ensures shorter { IfOk result (λ _. length self.new < length self.old) }
     {
-        match self.next() {
-            Some(part) => T::read(alloc, part),
-            None => Err(Fault::Bad),
-        }
+        T::read_next(alloc, self)
     }
 
     /// The number from `least` to `most` in the next part, which is taken.
+    #[tactic(auto, unfolding(crate::specs::ReadingWords::between_of))]
     pub fn between(&mut self, least: u32, most: u32) -> Result<u32, Fault>
         ensures range { IfOk result (λ n. (least ≤ n) × (n ≤ most)) }
         ensures reads { Reads result self.new (word_at (between_of least most) self.old) }
         ensures shorter { IfOk result (λ _. length self.new < length self.old) }
     {
-        match self.next() {
-            Some(part) => read_between(part, least, most),
-            None => Err(Fault::Bad),
+        let number = self.number(u64::from(most))? as u32;
+        if number < least {
+            return Err(Fault::Bad);
         }
+        Ok(number)
     }
 
     /// Takes the next part, which has to be this word.
