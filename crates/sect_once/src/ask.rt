@@ -1,5 +1,7 @@
 // A request asked of the desk, and a look at its object.
-ghost use Rattle.std.specs.Prelude.{◌≡◌, ◌≢◌, ◌⊎◌, IfOk};
+ghost use Rattle.std.specs.Prelude.{◌≡◌, ◌≢◌, ◌⊎◌, ◌<◌, ℕ, IfNone, IfOk, IfSome, Some, length, slice_get};
+ghost use Rattle.sect_once.specs.declared.entry.Entry.{Entry};
+ghost use Rattle.sect_once.specs.Opening.{HasActed};
 ghost use Rattle.sect_once.specs.declared.answer.Answer.TheVariants.{Done, NumberReused};
 ghost use Rattle.sect_once.specs.Desks.{Answers, IsSound};
 ghost use Rattle.sect_once.specs.History.{history, state_after, IsFull, IsNew};
@@ -30,6 +32,27 @@ fn repeat<O: Object>(
 }
 
 impl<O: Object, K: Keeper> Desk<O, K> {
+    /// The place of the entry with an id.
+    fn place_with(&self, id: &Id) -> Option<u32>
+        ensures found { IfSome result (λ place. HasActed O.start O.stepped O.is_row id.now (history self.now.log) × (place < length (history self.now.log))
+            × ((e : Entry O.Command O.Reply) → slice_get (history self.now.log) place ≡ Some e → e.id ≡ id.now)) }
+        ensures none { IfNone result (IsNew id.now (history self.now.log)) }
+    {
+        self.past.place_of(id)
+    }
+
+    /// What is answered to the id that the entry at a place has. Reading the entry takes memory.
+    fn again(&self, id: Id, place: u32, command: &O::Command) -> Answer<O::Reply>
+        requires { HasActed O.start O.stepped O.is_row id (history self.now.log) × (place < length (history self.now.log))
+            × ((e : Entry O.Command O.Reply) → slice_get (history self.now.log) place ≡ Some e → e.id ≡ id) }
+        ensures { (day : ℕ) → Answers O.stepped O.is_row K.rows K.faults id day command.now self.now self.now result }
+    {
+        match self.entry(place) {
+            Ok(entry) => repeat::<O>(place, entry, command),
+            Err(Memory) => Answer::Memory,
+        }
+    }
+
     /// A new request acts.
     fn act(&mut self, id: Id, day: Day, command: &O::Command) -> Answer<O::Reply>
         requires askable { O.may_ask id day command.now }
@@ -65,20 +88,13 @@ impl<O: Object, K: Keeper> Desk<O, K> {
         requires { O.may_ask id day command.now }
         ensures { Answers O.stepped O.is_row K.rows K.faults id day command.now self.old self.new result }
     {
-        self.recall_sound();
-        let Ok(found) = self.entry_with(&id) else {
-            return Answer::Memory;
-        };
-        match found {
-            Some((place, entry)) => repeat::<O>(place, entry, command),
-            None => {
-                if self.is_full() {
-                    Answer::LogFull
-                } else {
-                    self.act(id, day, command)
-                }
-            }
+        if let Some(place) = self.place_with(&id) {
+            return self.again(id, place, command);
         }
+        if self.is_full() {
+            return Answer::LogFull;
+        }
+        self.act(id, day, command)
     }
 
     /// The log is legal and was never full, the object is the replay of its history, and the rows, where they are told, are those of it. The type keeps this.
