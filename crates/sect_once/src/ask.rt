@@ -58,9 +58,11 @@ impl<O: Object, K: Keeper> Desk<O, K> {
         requires askable { O.may_ask id day command.now }
         requires new { IsNew id (history self.old.log) }
         requires room { IsFull O.is_row self.old.log → ⊥ }
-        ensures { Answers O.stepped O.is_row K.rows K.faults id day command.now self.old self.new result }
+        ensures sound { IsSound O.stepped O.is_row K.rows K.faults O.start self.new }
+        ensures answer { Answers O.stepped O.is_row K.rows K.faults id day command.now self.old self.new result }
     {
         if self.unkept.reserve(1).is_err() {
+            self.recall_sound();
             return Answer::Memory;
         }
         let place = self.past.acted();
@@ -71,30 +73,21 @@ impl<O: Object, K: Keeper> Desk<O, K> {
         match acted {
             Ok((reply, at)) => {
                 self.reply_at = Some(at);
+                self.recall_sound();
                 Answer::Done { place, reply }
             }
             Err(fault) => match fault {
                 KeepFault::Failed => {
                     self.unkept.push_reserved(Unkept { behind: place, id });
+                    self.recall_sound();
                     Answer::KeeperFault
                 }
-                KeepFault::Memory => Answer::Memory,
+                KeepFault::Memory => {
+                    self.recall_sound();
+                    Answer::Memory
+                }
             },
         }
-    }
-
-    /// Answers a request.
-    fn answer(&mut self, id: Id, day: Day, command: &O::Command) -> Answer<O::Reply>
-        requires { O.may_ask id day command.now }
-        ensures { Answers O.stepped O.is_row K.rows K.faults id day command.now self.old self.new result }
-    {
-        if let Some(place) = self.place_with(&id) {
-            return self.again(id, place, command);
-        }
-        if self.is_full() {
-            return Answer::LogFull;
-        }
-        self.act(id, day, command)
     }
 
     /// The log is legal and was never full, the object is the replay of its history, and the rows, where they are told, are those of it. The type keeps this.
@@ -120,9 +113,14 @@ impl<O: Object, K: Keeper> Desk<O, K> {
         ensures answer { Answers O.stepped O.is_row K.rows K.faults id day command.now self.old self.new result }
         ensures sound { IsSound O.stepped O.is_row K.rows K.faults O.start self.new }
     {
-        let answer = self.answer(id, day, command);
         self.recall_sound();
-        answer
+        if let Some(place) = self.place_with(&id) {
+            return self.again(id, place, command);
+        }
+        if self.is_full() {
+            return Answer::LogFull;
+        }
+        self.act(id, day, command)
     }
 
     /// Looks at the object, which is the replay of the history.
