@@ -55,32 +55,6 @@ pub(crate) fn take_back<O: Object>(object: &mut Box<O>, undo: O::Undo)
     object.as_mut().undo(undo);
 }
 
-/// Steps the object, and prints the row of the entry that this makes, which has one, with the place of the reply's text in it.
-fn step<O: Object>(
-    object: &mut Box<O>,
-    row: &mut Vec<u8>,
-    id: Id,
-    day: Day,
-    command: &O::Command,
-) -> Result<(O::Reply, O::Undo, usize), Memory>
-    requires { HasRow O.is_row (record { id = id; day = day; command = command.now; reply = (O.stepped (O.state object.old.value) day id.caller command.now).1 }) }
-    ensures state { IfOk result (λ r. O.state object.new.value ≡ (O.stepped (O.state object.old.value) day id.caller command.now).0) }
-    ensures reply { IfOk result (λ r. r.0 ≡ (O.stepped (O.state object.old.value) day id.caller command.now).1) }
-    ensures row { IfOk result (λ r. O.is_row (record { id = id; day = day; command = command.now; reply = r.0 }) row.new.items) }
-    ensures told { IfOk result (λ r. TellsFrom O.is_told r.2 row.new.items r.0) }
-    ensures undo { IfOk result (λ r. O.restores r.1 object.new.value (O.state object.old.value)) }
-    ensures err { OnErr result (O.state object.new.value ≡ O.state object.old.value) }
-{
-    let (reply, undo) = step_in(object, day, id.caller, command)?;
-    match written::<O>(id, day, command, &reply, row) {
-        Ok(at) => Ok((reply, undo, at)),
-        Err(memory) => {
-            take_back(object, undo);
-            Err(memory)
-        }
-    }
-}
-
 /// Takes the row behind the others, and appends it to the keeper's. On a fault all is as before.
 fn keep<K: Keeper>(
     rows: &mut Texts,
@@ -133,8 +107,11 @@ impl<O: Object> Past<O> {
         ensures rows { OnErr result (KeepsRows (K.rows keeper.old) (K.rows keeper.new)) }
         ensures cause { HasCauseFor KeepFault.Failed (K.faults keeper.old) (K.faults keeper.new) result }
     {
-        let stepped = step(&mut self.object, row, id, day, command);
-        let Ok((reply, undo, at)) = stepped else {
+        let Ok((reply, undo)) = step_in(&mut self.object, day, id.caller, command) else {
+            return Err(KeepFault::Memory);
+        };
+        let Ok(at) = written::<O>(id, day, command, &reply, row) else {
+            take_back(&mut self.object, undo);
             return Err(KeepFault::Memory);
         };
         let text = row.as_slice();

@@ -1,5 +1,7 @@
 // A request asked of the desk, and a look at its object.
-ghost use Rattle.std.specs.Prelude.{◌≡◌, ◌≢◌, ◌⊎◌, IfOk};
+ghost use Rattle.std.specs.Prelude.{◌≡◌, ◌≢◌, ◌⊎◌, ◌<◌, ℕ, IfNone, IfOk, IfSome, Some, length, slice_get};
+ghost use Rattle.sect_once.specs.declared.entry.Entry.{Entry};
+ghost use Rattle.sect_once.specs.Opening.{HasActed};
 ghost use Rattle.sect_once.specs.declared.answer.Answer.TheVariants.{Done, NumberReused};
 ghost use Rattle.sect_once.specs.Desks.{Answers, IsSound};
 ghost use Rattle.sect_once.specs.History.{history, state_after, IsFull, IsNew};
@@ -30,14 +32,37 @@ fn repeat<O: Object>(
 }
 
 impl<O: Object, K: Keeper> Desk<O, K> {
+    /// The place of the entry with an id.
+    fn place_with(&self, id: &Id) -> Option<u32>
+        ensures found { IfSome result (λ place. HasActed O.start O.stepped O.is_row id.now (history self.now.log) × (place < length (history self.now.log))
+            × ((e : Entry O.Command O.Reply) → slice_get (history self.now.log) place ≡ Some e → e.id ≡ id.now)) }
+        ensures none { IfNone result (IsNew id.now (history self.now.log)) }
+    {
+        self.past.place_of(id)
+    }
+
+    /// What is answered to the id that the entry at a place has. Reading the entry takes memory.
+    fn again(&self, id: Id, place: u32, command: &O::Command) -> Answer<O::Reply>
+        requires { HasActed O.start O.stepped O.is_row id (history self.now.log) × (place < length (history self.now.log))
+            × ((e : Entry O.Command O.Reply) → slice_get (history self.now.log) place ≡ Some e → e.id ≡ id) }
+        ensures { (day : ℕ) → Answers O.stepped O.is_row K.rows K.faults id day command.now self.now self.now result }
+    {
+        match self.entry(place) {
+            Ok(entry) => repeat::<O>(place, entry, command),
+            Err(Memory) => Answer::Memory,
+        }
+    }
+
     /// A new request acts.
     fn act(&mut self, id: Id, day: Day, command: &O::Command) -> Answer<O::Reply>
         requires askable { O.may_ask id day command.now }
         requires new { IsNew id (history self.old.log) }
         requires room { IsFull O.is_row self.old.log → ⊥ }
-        ensures { Answers O.stepped O.is_row K.rows K.faults id day command.now self.old self.new result }
+        ensures sound { IsSound O.stepped O.is_row K.rows K.faults O.start self.new }
+        ensures answer { Answers O.stepped O.is_row K.rows K.faults id day command.now self.old self.new result }
     {
         if self.unkept.reserve(1).is_err() {
+            self.recall_sound();
             return Answer::Memory;
         }
         let place = self.past.acted();
@@ -48,36 +73,20 @@ impl<O: Object, K: Keeper> Desk<O, K> {
         match acted {
             Ok((reply, at)) => {
                 self.reply_at = Some(at);
+                self.recall_sound();
                 Answer::Done { place, reply }
             }
             Err(fault) => match fault {
                 KeepFault::Failed => {
                     self.unkept.push_reserved(Unkept { behind: place, id });
+                    self.recall_sound();
                     Answer::KeeperFault
                 }
-                KeepFault::Memory => Answer::Memory,
-            },
-        }
-    }
-
-    /// Answers a request.
-    fn answer(&mut self, id: Id, day: Day, command: &O::Command) -> Answer<O::Reply>
-        requires { O.may_ask id day command.now }
-        ensures { Answers O.stepped O.is_row K.rows K.faults id day command.now self.old self.new result }
-    {
-        self.recall_sound();
-        let Ok(found) = self.entry_with(&id) else {
-            return Answer::Memory;
-        };
-        match found {
-            Some((place, entry)) => repeat::<O>(place, entry, command),
-            None => {
-                if self.is_full() {
-                    Answer::LogFull
-                } else {
-                    self.act(id, day, command)
+                KeepFault::Memory => {
+                    self.recall_sound();
+                    Answer::Memory
                 }
-            }
+            },
         }
     }
 
@@ -104,9 +113,14 @@ impl<O: Object, K: Keeper> Desk<O, K> {
         ensures answer { Answers O.stepped O.is_row K.rows K.faults id day command.now self.old self.new result }
         ensures sound { IsSound O.stepped O.is_row K.rows K.faults O.start self.new }
     {
-        let answer = self.answer(id, day, command);
         self.recall_sound();
-        answer
+        if let Some(place) = self.place_with(&id) {
+            return self.again(id, place, command);
+        }
+        if self.is_full() {
+            return Answer::LogFull;
+        }
+        self.act(id, day, command)
     }
 
     /// Looks at the object, which is the replay of the history.

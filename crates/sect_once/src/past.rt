@@ -164,7 +164,7 @@ impl<O: Object> Past<O> {
     }
 
     /// The place of the entry with an id.
-    fn place_of(&self, id: &Id) -> Option<u32>
+    pub(crate) fn place_of(&self, id: &Id) -> Option<u32>
         ensures found { IfSome result (λ place. HasActed O.start O.stepped O.is_row id.now self.now.entries × (place < length self.now.entries) × ((e : Entry O.Command O.Reply) → slice_get self.now.entries place ≡ Some e → e.id ≡ id.now)) }
         ensures none { IfNone result (IsNew id.now self.now.entries) }
     {

@@ -15,8 +15,8 @@ invariant_of-self-in-Ok g c = let room = subst (λ d. IsFull g.O.Object.is_row d
     rw (c.reserve.ensures.items, c.in-Ok.ensures.ok.entries)
     (desk_acted g.O.Object.is_row g.O.Object.is_told c.self.inside.unkept.items c.self.inside.past.entries _ c.in-Ok.ensures.ok.row _ _ _ _ _ _ _ _ _ c.self.invariant room c.in-Ok.ensures.ok.written c.in-Ok.ensures.ok.added c.act-acted.ensures.cause.later c.in-Ok.ensures.told)
 
-pub returns-in-Ok : goal.returns-in-Ok
-returns-in-Ok g c = rw c.reserve.ensures.items
+pub returns-in-Ok-clause-answer : goal.returns-in-Ok-clause-answer
+returns-in-Ok-clause-answer g c = rw c.reserve.ensures.items
     (acted_answer g.O.Object.stepped g.O.Object.is_row g.K.Keeper.rows g.K.Keeper.faults c.self.inside.past c.act-acted.new.self c.self.inside.unkept.items c.self.inside.keeper c.act-acted.new.keeper _ c.args.self.now
     c.args.id c.args.day c.args.command.now c.in-Ok.reply c.acted-place.result c.self.view_is c.self.invariant.placed c.requires.new c.requires.room c.in-Ok.ensures.ok c.acted-place.ensures c.act-acted.ensures.cause.later)
 
@@ -25,7 +25,7 @@ invariant_of-self-in-Failed g c = let room = subst (λ d. IsFull g.O.Object.is_r
     rw (c.push_reserved.ensures.items, c.reserve.ensures.items, c.in-Err.ensures.same)
     (desk_faulted g.O.Object.is_row g.O.Object.is_told c.self.inside.unkept.items c.self.inside.past.entries c.args.id c.acted-place.result _ _ _ _ _ _ _ _ c.self.invariant room c.acted-place.ensures c.in-Err.ensures.rows (c.in-Err.ensures.cause.failed (ap Err c.in-Failed.is)))
 
-pub returns-in-Failed : goal.returns-in-Failed
-returns-in-Failed g c = rw (c.push_reserved.ensures.items, c.reserve.ensures.items)
+pub returns-in-Failed-clause-answer : goal.returns-in-Failed-clause-answer
+returns-in-Failed-clause-answer g c = rw (c.push_reserved.ensures.items, c.reserve.ensures.items)
     (faulted_answer g.O.Object.stepped g.O.Object.is_row g.K.Keeper.rows g.K.Keeper.faults c.self.inside.past c.act-acted.new.self c.self.inside.unkept.items c.self.inside.keeper c.act-acted.new.keeper _ c.args.self.now c.args.id c.acted-place.result
     c.self.view_is c.self.invariant.placed c.requires.new c.requires.room c.acted-place.ensures c.in-Err.ensures.same c.in-Err.ensures.rows (c.in-Err.ensures.cause.failed (ap Err c.in-Failed.is)))
