@@ -19,6 +19,7 @@ use std::alloc::Global;
 
 /// A number from 1 to `most` behind its key, or the default where the key isn't there.
 #[tactic(auto, unfolding(crate::specs::ReadingCommands::stated_at))]
+#[inline(always)]
 pub(crate) fn read_stated(
     key: &[u8],
     most: u32,

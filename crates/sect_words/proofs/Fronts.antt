@@ -52,10 +52,40 @@ front_by mark text len (Some at) e is =
     let there : at ≡ len = sym size ∙ same in
     ((λ _. sym (ap later_parts cut ∙ ap (λ k. pieces mark (drop (k + 1) text)) there)), (λ past. absurd (omega (arith, within, there, past))))
 
-pub pass_some : (done : Bool) (mark : ℕ) (text rest : List ℕ) (len : ℕ) → option_map length (first_part (parts_left done mark text)) ≡ Some len → len < length text → rest ≡ drop (len + 1) text
+-- a text's first part is no longer than the text
+within_by : (mark : ℕ) (text : List ℕ) (len : ℕ) (o : Option ℕ) → o ≡ position (λ byte. byte == mark) text → option_map length (first_part (pieces mark text)) ≡ Some len → len ≤ length text
+within_by mark text len None e is =
+    let long : Some (length text) ≡ Some len = sym (ap (λ ps. option_map length (first_part ps)) (pieces_none mark text e)) ∙ is in
+    let same : length text ≡ len = cc in
+    omega (arith, same)
+within_by mark text len (Some at) e is =
+    let long : Some (length (take at text)) ≡ Some len = sym (ap (λ ps. option_map length (first_part ps)) (pieces_some mark text at e)) ∙ is in
+    let same : length (take at text) ≡ len = cc in
+    let within = mark_within mark text at e in
+    let size : length (take at text) ≡ at = length-take-le at text (omega (arith, within)) in
+    omega (arith, within, size, same)
+
+part_within : (done : Bool) (mark : ℕ) (text : List ℕ) (len : ℕ) → option_map length (first_part (parts_left done mark text)) ≡ Some len → len ≤ length text
+part_within true mark text len is = absurd (cc)
+part_within false mark text len is = within_by mark text len (position (λ byte. byte == mark) text) refl is
+
+-- no text begins with a word that is longer
+pub begins_short : (word : List ℕ) (mark : ℕ) (text : List ℕ) → length text < length word → begins word (pieces mark text) ≡ false
+begins_short word mark text short = by (begins word (pieces mark text)) refl
+  where
+    by : (b : Bool) → begins word (pieces mark text) ≡ b → b ≡ false
+    by true e = absurd (omega (arith, short, part_within false mark text (length word) (begins_len word (pieces mark text) e)))
+    by false e = refl
+
+pub pass_some : (done : Bool) (mark : ℕ) (text rest : List ℕ) (len : ℕ) → option_map length (first_part (parts_left done mark text)) ≡ Some len → (len ≡ length text → ⊥) → rest ≡ drop (len + 1) text
     → parts_left done mark rest ≡ later_parts (parts_left done mark text)
-pass_some true mark text rest len is within behind = refl
-pass_some false mark text rest len is within behind = ap (pieces mark) behind ∙ (front_by mark text len (position (λ byte. byte == mark) text) refl is).0 within
+pass_some true mark text rest len is more behind = refl
+pass_some false mark text rest len is more behind =
+    ap (pieces mark) behind ∙ (front_by mark text len (position (λ byte. byte == mark) text) refl is).0 (omega (arith, part_within false mark text len is, more))
+
+-- the place where the part ends is within the text
+pub pass_within : (done : Bool) (mark : ℕ) (text : List ℕ) (len : ℕ) → option_map length (first_part (parts_left done mark text)) ≡ Some len → (len ≡ length text → ⊥) → len < length text
+pass_within done mark text len is more = omega (arith, part_within done mark text len is, more)
 
 pub pass_none : (done : Bool) (mark : ℕ) (text : List ℕ) (len : ℕ) → option_map length (first_part (parts_left done mark text)) ≡ Some len → length text ≤ len → [] ≡ later_parts (parts_left done mark text)
 pass_none true mark text len is past = refl
@@ -102,11 +132,11 @@ pub digits_next : (at : ℕ) (digits : List ℕ) → at < length digits → IsIn
 digits_next at digits within range all = digits_more 10 digits at within all (omega (arith, digit_value_digit (get_or digits at 0) range, range))
 
 -- the digits are a number's
-pub plain_front : (text : List ℕ) (count : ℕ) → count ≤ length text → 0 < count → (get_or text 0 0 ≡ 48 → count ≡ 1) → IsPlain (take count text)
-plain_front text count within some one =
+pub plain_front : (text : List ℕ) (count : ℕ) → count ≤ length text → 0 < count → 49 ≤ get_or text 0 0 → IsPlain (take count text)
+plain_front text count within some high =
     let size : length (take count text) ≡ count = length-take-le count text within in
     let first : get_or (take count text) 0 0 ≡ get_or text 0 0 = get_or-take count text 0 0 some in
-    (omega (arith, size, some), (λ zero. size ∙ one (sym first ∙ zero)))
+    (omega (arith, size, some), (λ zero. absurd (omega (arith, first, zero, high))))
 
 -- the value of the first part, and the parts behind it
 pub word_front : {X : Type 0} (of : List ℕ → Option X) (parts rest : List (List ℕ)) (part : List ℕ) (x : X) → first_part parts ≡ Some part → rest ≡ later_parts parts → of part ≡ Some x

@@ -24,9 +24,10 @@ ghost use Rattle.std.specs.Prelude.{
 ghost use Rattle.std.specs.Option.{option_map};
 ghost use Rattle.std.specs.Str.{bytes_eq};
 ghost use Rattle.std.specs.Str.Parse.{AllDigits};
+ghost use Rattle.std.specs.Int.{IsInRange};
 ghost use Rattle.sect_words.specs.Parts.{pieces};
 ghost use Rattle.sect_words.specs.Reading.{Reads, word_at, first_part, later_parts, begins, is_nil, marked_if};
-ghost use Rattle.sect_words.specs.ReadingWords.{number_of};
+ghost use Rattle.sect_words.specs.ReadingWords.{number_of, u32_of};
 
 use crate::fault::Fault;
 use crate::number::read_number;
@@ -70,32 +71,37 @@ fn behind(text: &[u8], at: usize) -> &[u8]
 fn begins_with(text: &[u8], mark: u8, word: &[u8]) -> bool
     ensures { result ≡ begins word.now (pieces mark text.now) }
 {
+    if text.len() < word.len() {
+        return false;
+    }
     let mut rest = text;
     let mut other = word;
     while let [byte, more @ ..] = other {
-        match rest {
-            [first, later @ ..] if *first == *byte && *first != mark => rest = later,
-            _ => return false,
+        if rest[0] != *byte || *byte == mark {
+            return false;
         }
+        rest = &rest[1..];
         other = more;
     }
-    match rest {
-        [] => true,
-        [first, ..] => *first == mark,
-    }
+    rest.is_empty() || rest[0] == mark
 }
 
-/// Whether so many digits at the front of a text are its first part, and no zero stands there before others.
+/// Whether a text begins with a digit from 1 to 9.
+#[inline(always)]
+fn begins_number(text: &[u8]) -> bool
+    ensures { IsTrue result → (0 < length text.now) × IsInRange 49 57 (get_or text.now 0 0) }
+{
+    !text.is_empty() && text[0] >= b'1' && text[0] <= b'9'
+}
+
+/// Whether so many digits at the front of a text are its first part.
+#[inline(always)]
 fn ends_number(text: &[u8], mark: u8, count: usize) -> bool
     requires within { count ≤ length text.now }
     requires digits { AllDigits 10 (take count text.now) }
-    ensures part { IsTrue result → first_part (pieces mark text.now) ≡ Some (take count text.now) }
-    ensures plain { IsTrue result → (0 < count) × (get_or text.now 0 0 ≡ 48 → count ≡ 1) }
+    ensures { IsTrue result → first_part (pieces mark text.now) ≡ Some (take count text.now) }
 {
-    if count == 0 || mark.is_ascii_digit() {
-        return false;
-    }
-    if text[0] == b'0' && count > 1 {
+    if mark.is_ascii_digit() {
         return false;
     }
     count == text.len() || text[count] == mark
@@ -146,10 +152,10 @@ impl<'a> Parts<'a> {
         requires { option_map length (first_part self.now) ≡ Some len }
         ensures { self.new ≡ later_parts self.old }
     {
-        if len < self.text.len() {
-            self.text = behind(self.text, len);
-        } else {
+        if len == self.text.len() {
             self.done = true;
+        } else {
+            self.text = behind(self.text, len);
         }
     }
 
@@ -222,27 +228,50 @@ impl<'a> Parts<'a> {
         }
     }
 
-    /// The number of at most `most` in the next part, which is taken. Where the part is such a number of fewer than twenty
-    /// digits, as most are, one look at each of its bytes finds both the number and the end.
-    pub(crate) fn number(&mut self, most: u64) -> Result<u64, Fault>
+    /// The number of at most `most` in the next part, which is taken. Where the part is such a number of 1 to 19 digits and
+    /// isn't 0, one look at each of its bytes finds both the number and the end.
+    #[inline(always)]
+    pub(crate) fn take_number(&mut self, most: u64) -> Result<u64, Fault>
         ensures range { IfOk result (λ n. n ≤ most) }
         ensures reads { Reads result self.new (word_at (number_of most) self.old) }
         ensures shorter { IfOk result (λ _. length self.new < length self.old) }
     {
         let text = self.text;
-        let mut number: u64 = 0;
-        let mut count: usize = 0;
+        if self.done || !begins_number(text) {
+            return self.take_any_number(most);
+        }
+        let mut number = u64::from(text[0] - b'0');
+        let mut count: usize = 1;
         while count < 19 && count < text.len() && text[count].is_ascii_digit() {
             number = number * 10 + u64::from(text[count] - b'0');
             count += 1;
         }
-        if number <= most && !self.done && ends_number(text, self.mark, count) {
+        if number <= most && ends_number(text, self.mark, count) {
             self.pass(count);
             return Ok(number);
         }
+        self.take_any_number(most)
+    }
+
+    /// The number of at most `most` in the next part, whatever stands there. The part is taken.
+    #[inline(never)]
+    fn take_any_number(&mut self, most: u64) -> Result<u64, Fault>
+        ensures range { IfOk result (λ n. n ≤ most) }
+        ensures reads { Reads result self.new (word_at (number_of most) self.old) }
+        ensures shorter { IfOk result (λ _. length self.new < length self.old) }
+    {
         match self.next() {
             Some(part) => read_number(part, most),
             None => Err(Fault::Bad),
         }
+    }
+
+    /// The number of 32 bits in the next part, which is taken.
+    #[inline(always)]
+    pub(crate) fn take_u32(&mut self) -> Result<u32, Fault>
+        ensures reads { Reads result self.new (word_at u32_of self.old) }
+        ensures shorter { IfOk result (λ _. length self.new < length self.old) }
+    {
+        Ok(self.take_number(4_294_967_295)? as u32)
     }
 }

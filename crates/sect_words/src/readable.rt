@@ -77,7 +77,7 @@ impl Readable for u32 {
     }
 
     fn read_next(_alloc: Global, parts: &mut Parts) -> Result<u32, Fault> {
-        Ok(parts.number(4_294_967_295)? as u32)
+        parts.take_u32()
     }
 }
 
@@ -179,7 +179,7 @@ impl Readable for Caller {
 
     fn read_next(alloc: Global, parts: &mut Parts) -> Result<Caller, Fault> {
         if parts.strips(b's') {
-            return Ok(Caller::Student(StudentId(u32::read_next(alloc, parts)?)));
+            return Ok(Caller::Student(StudentId(parts.take_u32()?)));
         }
         match parts.next() {
             Some(part) => Caller::read(alloc, part),

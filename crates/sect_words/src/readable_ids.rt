@@ -32,8 +32,8 @@ impl Readable for AreaId {
         Ok(AreaId(u32::read(alloc, word)?))
     }
 
-    fn read_next(alloc: Global, parts: &mut Parts) -> Result<AreaId, Fault> {
-        Ok(AreaId(u32::read_next(alloc, parts)?))
+    fn read_next(_alloc: Global, parts: &mut Parts) -> Result<AreaId, Fault> {
+        Ok(AreaId(parts.take_u32()?))
     }
 }
 
@@ -44,8 +44,8 @@ impl Readable for ClassId {
         Ok(ClassId(u32::read(alloc, word)?))
     }
 
-    fn read_next(alloc: Global, parts: &mut Parts) -> Result<ClassId, Fault> {
-        Ok(ClassId(u32::read_next(alloc, parts)?))
+    fn read_next(_alloc: Global, parts: &mut Parts) -> Result<ClassId, Fault> {
+        Ok(ClassId(parts.take_u32()?))
     }
 }
 
@@ -56,8 +56,8 @@ impl Readable for ConfigId {
         Ok(ConfigId(u32::read(alloc, word)?))
     }
 
-    fn read_next(alloc: Global, parts: &mut Parts) -> Result<ConfigId, Fault> {
-        Ok(ConfigId(u32::read_next(alloc, parts)?))
+    fn read_next(_alloc: Global, parts: &mut Parts) -> Result<ConfigId, Fault> {
+        Ok(ConfigId(parts.take_u32()?))
     }
 }
 
@@ -68,8 +68,8 @@ impl Readable for CourseId {
         Ok(CourseId(u32::read(alloc, word)?))
     }
 
-    fn read_next(alloc: Global, parts: &mut Parts) -> Result<CourseId, Fault> {
-        Ok(CourseId(u32::read_next(alloc, parts)?))
+    fn read_next(_alloc: Global, parts: &mut Parts) -> Result<CourseId, Fault> {
+        Ok(CourseId(parts.take_u32()?))
     }
 }
 
@@ -80,8 +80,8 @@ impl Readable for GroupId {
         Ok(GroupId(u32::read(alloc, word)?))
     }
 
-    fn read_next(alloc: Global, parts: &mut Parts) -> Result<GroupId, Fault> {
-        Ok(GroupId(u32::read_next(alloc, parts)?))
+    fn read_next(_alloc: Global, parts: &mut Parts) -> Result<GroupId, Fault> {
+        Ok(GroupId(parts.take_u32()?))
     }
 }
 
@@ -92,8 +92,8 @@ impl Readable for MajorId {
         Ok(MajorId(u32::read(alloc, word)?))
     }
 
-    fn read_next(alloc: Global, parts: &mut Parts) -> Result<MajorId, Fault> {
-        Ok(MajorId(u32::read_next(alloc, parts)?))
+    fn read_next(_alloc: Global, parts: &mut Parts) -> Result<MajorId, Fault> {
+        Ok(MajorId(parts.take_u32()?))
     }
 }
 
@@ -104,8 +104,8 @@ impl Readable for OfferingId {
         Ok(OfferingId(u32::read(alloc, word)?))
     }
 
-    fn read_next(alloc: Global, parts: &mut Parts) -> Result<OfferingId, Fault> {
-        Ok(OfferingId(u32::read_next(alloc, parts)?))
+    fn read_next(_alloc: Global, parts: &mut Parts) -> Result<OfferingId, Fault> {
+        Ok(OfferingId(parts.take_u32()?))
     }
 }
 
@@ -116,8 +116,8 @@ impl Readable for ReservationId {
         Ok(ReservationId(u32::read(alloc, word)?))
     }
 
-    fn read_next(alloc: Global, parts: &mut Parts) -> Result<ReservationId, Fault> {
-        Ok(ReservationId(u32::read_next(alloc, parts)?))
+    fn read_next(_alloc: Global, parts: &mut Parts) -> Result<ReservationId, Fault> {
+        Ok(ReservationId(parts.take_u32()?))
     }
 }
 
@@ -128,8 +128,8 @@ impl Readable for RestrictionId {
         Ok(RestrictionId(u32::read(alloc, word)?))
     }
 
-    fn read_next(alloc: Global, parts: &mut Parts) -> Result<RestrictionId, Fault> {
-        Ok(RestrictionId(u32::read_next(alloc, parts)?))
+    fn read_next(_alloc: Global, parts: &mut Parts) -> Result<RestrictionId, Fault> {
+        Ok(RestrictionId(parts.take_u32()?))
     }
 }
 
@@ -140,8 +140,8 @@ impl Readable for SectionId {
         Ok(SectionId(u32::read(alloc, word)?))
     }
 
-    fn read_next(alloc: Global, parts: &mut Parts) -> Result<SectionId, Fault> {
-        Ok(SectionId(u32::read_next(alloc, parts)?))
+    fn read_next(_alloc: Global, parts: &mut Parts) -> Result<SectionId, Fault> {
+        Ok(SectionId(parts.take_u32()?))
     }
 }
 
@@ -152,8 +152,8 @@ impl Readable for StudentId {
         Ok(StudentId(u32::read(alloc, word)?))
     }
 
-    fn read_next(alloc: Global, parts: &mut Parts) -> Result<StudentId, Fault> {
-        Ok(StudentId(u32::read_next(alloc, parts)?))
+    fn read_next(_alloc: Global, parts: &mut Parts) -> Result<StudentId, Fault> {
+        Ok(StudentId(parts.take_u32()?))
     }
 }
 
@@ -164,7 +164,7 @@ impl Readable for SubpartId {
         Ok(SubpartId(u32::read(alloc, word)?))
     }
 
-    fn read_next(alloc: Global, parts: &mut Parts) -> Result<SubpartId, Fault> {
-        Ok(SubpartId(u32::read_next(alloc, parts)?))
+    fn read_next(_alloc: Global, parts: &mut Parts) -> Result<SubpartId, Fault> {
+        Ok(SubpartId(parts.take_u32()?))
     }
 }

@@ -25,7 +25,7 @@ impl Parts<'_> {
         ensures reads { Reads result self.new (word_at (between_of least most) self.old) }
         ensures shorter { IfOk result (λ _. length self.new < length self.old) }
     {
-        let number = self.number(u64::from(most))? as u32;
+        let number = self.take_number(u64::from(most))? as u32;
         if number < least {
             return Err(Fault::Bad);
         }

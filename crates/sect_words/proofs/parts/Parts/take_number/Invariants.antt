@@ -2,11 +2,12 @@
 use Rattle.std.proofs.Common.{◌≡◌, ◌-◌, ◌<◌, ◌≤◌, ◌^◌, length, take}
 use Rattle.std.specs.Str.Parse.{AllDigits}
 use Rattle.sect_words.proofs.Parsing.{read_on}
-use Rattle.sect_words.proofs.parts.Parts.number.Given as goal
+use Rattle.sect_words.proofs.parts.Parts.take_number.Given as goal
 
 abbrev pub invariant-loop-count : goal.invariant-loop-count
 invariant-loop-count l = record {
   below : l.number < 10 ^ l.count;
+  some : 0 < l.count;
   few : l.count ≤ 19;
   within : l.count ≤ length l.text;
   digits : AllDigits 10 (take l.count l.text);
