@@ -1,6 +1,6 @@
 -- Lines that ask, and what answers them.
 use Rattle.std.proofs.Common.{◌≡◌, ℕ, false, true, List, ◌++◌, refl, sym, ap, ◌∙◌, subst}
-use Rattle.std.specs.Prelude.{Option, Some, Result, Ok, Err, codes, decimal, slice_get}
+use Rattle.std.specs.Prelude.{Option, Some, Ok, Err, codes, decimal, slice_get}
 use Rattle.sect_base.specs.declared.limit.Caller.{Caller}
 use Rattle.sect_base.specs.declared.limit.Id.{Id}
 use Rattle.sect_command.specs.declared.command.Command.{Command}

@@ -1,5 +1,5 @@
 -- What a desk notes over the lines of a run.
-use Rattle.std.proofs.Common.{◌≡◌, ◌⊎◌, ℕ, ◌+◌, ◌-◌, ◌<◌, ◌≤◌, ◌^◌, Bool, true, false, List, [], ◌∷◌, ◌++◌, zero, suc, length, refl, sym, ap, ◌∙◌, subst, append_assoc, append-nil, arith, inl, inr, Option, Some, None}
+use Rattle.std.proofs.Common.{◌≡◌, ℕ, ◌+◌, Bool, true, false, List, [], ◌∷◌, ◌++◌, zero, suc, refl, sym, ap, ◌∙◌, subst, append_assoc, append-nil, arith, inl, inr, Option, Some, None}
 use Rattle.std.specs.List.{AllZip}
 use Rattle.sect_base.specs.declared.limit.Id.{Id}
 use Rattle.sect_base.specs.declared.limit.Caller.{Caller}
@@ -14,7 +14,7 @@ use Rattle.sect_once.specs.declared.entry.Note.{Note}
 use Rattle.sect_once.specs.declared.entry.Note.TheVariants.{Acted, Faulted}
 use Rattle.sect_once.specs.Desks.{Answers as AnswersAsk, IsSound, Standing}
 use Rattle.sect_once.specs.Faults.{AtMostFaults}
-use Rattle.sect_once.specs.History.{acted_log, faulted, history}
+use Rattle.sect_once.specs.History.{faulted, history}
 use Rattle.sect_once.specs.Opening.{IsOpened}
 use Rattle.sect_script.specs.declared.script.RunEnd.{RunEnd}
 use Rattle.sect_script.specs.declared.status.Status.{Status}

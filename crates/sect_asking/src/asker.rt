@@ -5,16 +5,19 @@ ghost use Rattle.sect_once.specs.Desks.{Answers as AnswersAsk, IsSound};
 ghost use Rattle.sect_asking.specs.Asks.{is_passed_over, AnswersScript, HasReply, IsAskedOn, IsKnown};
 ghost use Rattle.sect_asking.specs.AnswerLines.{answer_line};
 ghost use Rattle.sect_script.specs.Run.{MayAnswer};
+ghost use Rattle.sect_read.specs.declared.fault.WireFault.TheVariants as wire;
 ghost use Rattle.sect_wire.specs.Fits.{FitsCommand, FitsDay, FitsId};
 ghost use Rattle.sect_wire.specs.Lines.{IsLine};
 
 use crate::answer::{print_answer, print_told};
-use sect_base::{Day, Memory};
+use sect_base::{Day, Id, Memory};
 use sect_command::{Command, Reply};
 use sect_edge::{Clock, Keeper};
 use sect_once::{Answer, Desk, Object};
+use sect_read::{read_line_command, read_line_front};
 use sect_script::{Handler, LineFault};
 use sect_wire::{LineAsk, TextObject, WireFault, read_line};
+use sect_words::Parts;
 use std::alloc::Global;
 use std::marker::Model;
 
@@ -85,8 +88,17 @@ impl<O: TextObject, K: Keeper, C: Clock> Asker<O, K, C> {
         ensures { (day : ℕ) × IsAskedOn ask.day self.old.days self.new.days day
             × AnswersAsk O.stepped O.is_row K.rows K.faults ask.id day ask.command self.old.desk self.new.desk result }
     {
-        let day = asked_on(ask.day, &mut self.clock);
-        self.desk.ask_lent(ask.id, day, &ask.command)
+        self.ask_lent(ask.day, ask.id, &ask.command)
+    }
+
+    /// Asks a command with a text, which the caller keeps, on the day that was named, or where none was on the clock's.
+    fn ask_lent(&mut self, named: Option<Day>, id: Id, command: &Command) -> Answer<Reply>
+        requires { FitsId id × FitsCommand command.now }
+        ensures { (day : ℕ) × IsAskedOn named self.old.days self.new.days day
+            × AnswersAsk O.stepped O.is_row K.rows K.faults id day command.now self.old.desk self.new.desk result }
+    {
+        let day = asked_on(named, &mut self.clock);
+        self.desk.ask_lent(id, day, command)
     }
 
     /// Appends the line of an answer of the desk. Where its entry is the last, the text of the reply is that in the entry's row.
@@ -111,8 +123,18 @@ impl<O: TextObject, K: Keeper, C: Clock> Asker<O, K, C> {
         ensures kept { IsErrOf result faults.Bad → self.new ≡ self.old }
         ensures memory { IsErrOf result faults.Memory → MayAnswer (AnswersScript O.stepped O.is_row K.rows K.faults) self.old line.now self.new }
     {
-        let ask = read_request(*into.allocator(), line)?;
-        let answer = self.ask(ask);
+        let alloc = *into.allocator();
+        let mut words = Parts::new(line, b' ');
+        let front = match read_line_front(alloc, &mut words) {
+            Ok(front) => front,
+            Err(fault) => return Err(line_fault(fault)),
+        };
+        let read = read_line_command(alloc, front.verb, &mut words);
+        let command = match &read {
+            Ok(command) => command,
+            Err(fault) => return Err(line_fault(WireFault::from(*fault))),
+        };
+        let answer = self.ask_lent(front.day, front.id, command);
         match self.print_line(&answer, into) {
             Ok(()) => Ok(()),
             Err(Memory) => Err(LineFault::Memory),
@@ -144,10 +166,19 @@ pub fn read_request(alloc: Global, line: &[u8]) -> Result<LineAsk, LineFault>
 {
     match read_line(alloc, line) {
         Ok(ask) => Ok(ask),
-        Err(WireFault::BadLine) => Err(LineFault::Bad),
-        Err(WireFault::UnknownVerb) => Err(LineFault::Bad),
-        Err(WireFault::BadBody(_)) => Err(LineFault::Bad),
-        Err(WireFault::Memory) => Err(LineFault::Memory),
+        Err(fault) => Err(line_fault(fault)),
+    }
+}
+
+/// Why a line wasn't read, as a script tells it.
+fn line_fault(fault: WireFault) -> LineFault
+    ensures { result ≡ faults.Bad → fault ≡ wire.Memory → ⊥ }
+{
+    match fault {
+        WireFault::BadLine => LineFault::Bad,
+        WireFault::UnknownVerb => LineFault::Bad,
+        WireFault::BadBody(_) => LineFault::Bad,
+        WireFault::Memory => LineFault::Memory,
     }
 }
 

@@ -9,8 +9,13 @@ use Rattle.sect_command.specs.declared.command.Command.{Command}
 use Rattle.sect_read.specs.Lines.{IsCommand, IsLine, HasUnknownVerb}
 use Rattle.sect_words.specs.Parts.{pieces}
 use Rattle.sect_words.specs.Reading.{Finds, whole}
-use Rattle.sect_read.specs.ReadingCommands.{command_at}
-use Rattle.sect_read.specs.ReadingLines.{command_in, commanded, line_of, Says}
+use Rattle.sect_read.specs.declared.line.LineFront.{LineFront}
+use Rattle.sect_words.specs.declared.fault.Fault.{Fault}
+use Rattle.sect_words.specs.declared.fault.Fault.TheVariants as faults
+use Rattle.sect_words.specs.Reading.{Means}
+use Rattle.sect_read.specs.Faults.{line_fault}
+use Rattle.sect_read.specs.ReadingCommands.{arguments_at, command_at}
+use Rattle.sect_read.specs.ReadingLines.{asked, command_in, commanded, line_of, Says}
 use Rattle.sect_read.proofs.Steps.{Exact, quiet_end, whole_found}
 use Rattle.sect_read.proofs.CommandLaws.{command_again, command_found}
 use Rattle.sect_read.proofs.LineLaws.{Outcome, line_found, line_again, unknown_again}
@@ -61,3 +66,13 @@ command_only text r e c is =
     (ap (λ (ws : List (List ℕ)). commanded (whole (command_at true ws))) (sym (append-nil (pieces 32 text)))
     ∙ ap (λ o. commanded (whole o)) (command_again true c (pieces 32 text) [] is quiet_end))
     e
+
+module _ (line : List ℕ) (front : LineFront) (rest : List (List ℕ)) (at : line_of line ≡ asked (front.day, front.id) (whole (arguments_at true front.verb rest))) where
+  -- the command behind the front of a line is that of the line
+  pub front_found : (command : Command) → whole (arguments_at true front.verb rest) ≡ Some command → IsLine line (record { day = front.day; id = front.id; command = command })
+  front_found command is = says_found line (Ok (record { day = front.day; id = front.id; command = command })) (at ∙ ap (asked (front.day, front.id)) is)
+
+  -- where no command is behind the front, the line asks nothing
+  pub front_only : (fault : Fault) → Means {X = Command} (Err fault) (whole (arguments_at true front.verb rest)) → (ask : LineAsk) → IsLine line ask → Says {X = LineAsk} (Err (line_fault fault)) (Ok ask)
+  front_only faults.Bad none = λ ask is. says_only line (Err wire.BadLine) (at ∙ ap (asked (front.day, front.id)) none) ask is
+  front_only faults.Memory none = λ ask is. tt

@@ -10,6 +10,7 @@ use Rattle.sect_words.specs.Reading.{◌>>=◌, word_at, key_at, mark_at, with_r
 use Rattle.sect_words.specs.ReadingWords.{u64_of, day_of, caller_of}
 use Rattle.sect_read.specs.declared.verb.Verb.{Verb}
 use Rattle.sect_read.specs.declared.line.LineAsk.{LineAsk}
+use Rattle.sect_read.specs.declared.line.LineFront.{LineFront}
 use Rattle.sect_read.specs.declared.fault.WireFault.{WireFault}
 use Rattle.sect_read.specs.declared.fault.WireFault.TheVariants as wire
 use Rattle.sect_read.specs.ReadingCommands.{command_at, arguments_at, verb_of}
@@ -71,6 +72,11 @@ Says (Err wire.BadLine) read = read ≡ Err wire.BadLine
 Says (Err wire.UnknownVerb) read = read ≡ Err wire.UnknownVerb
 Says (Err (wire.BadBody cause)) read = ⊥
 Says (Err wire.Memory) read = Unit {0}
+
+-- what a line says behind what was read of it, with the parts that are left: the day, the id and the verb, or why it asks nothing
+abbrev pub Fronts : Result LineFront WireFault → List (List ℕ) → Result LineAsk WireFault → Type 0
+Fronts (Ok front) rest said = said ≡ asked (front.day, front.id) (whole (arguments_at true front.verb rest))
+Fronts (Err fault) rest said = Says {X = LineAsk} (Err fault) said
 
 -- the command, or that there is none
 abbrev pub commanded : Option Command → Result Command WireFault

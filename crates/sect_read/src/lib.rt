@@ -20,7 +20,9 @@ pub use laws::{
     a_printed_text_is_of_one_command, a_row_is_of_one_entry, a_text_is_of_one_reply,
     an_entry_has_one_row,
 };
-pub use line::{LineAsk, behind_at, read_command, read_line};
+pub use line::{
+    LineAsk, LineFront, behind_at, read_command, read_line, read_line_command, read_line_front,
+};
 pub use reply::read_reply;
 pub use row::read_row;
 pub use verb::{Verb, verb_of};

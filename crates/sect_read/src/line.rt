@@ -3,8 +3,9 @@
 ghost use Rattle.std.specs.Prelude.{◌≡◌, IfOk, Ok, Err, true};
 ghost use Rattle.std.specs.Option.{option_map};
 ghost use Rattle.sect_words.specs.Parts.{pieces};
-ghost use Rattle.sect_words.specs.Reading.{Reads};
-ghost use Rattle.sect_read.specs.ReadingLines.{at_of, line_day_at, front_at, line_of, command_in, Says};
+ghost use Rattle.sect_words.specs.Reading.{Means, Reads, whole};
+ghost use Rattle.sect_read.specs.ReadingCommands.{arguments_at};
+ghost use Rattle.sect_read.specs.ReadingLines.{at_of, line_day_at, front_at, line_at, line_of, command_in, Fronts, Says};
 ghost use Rattle.sect_read.specs.Lines.{IsCommand, IsLine, HasUnknownVerb};
 ghost use Rattle.sect_command.specs.declared.command.Command.{Command};
 ghost use Rattle.sect_read.specs.declared.line.LineAsk.{LineAsk};
@@ -12,7 +13,7 @@ ghost use Rattle.sect_read.specs.declared.line.LineAsk.{LineAsk};
 use crate::commands::{read_arguments, read_command_words};
 use crate::fault::WireFault;
 use crate::row::read_id;
-use crate::verb::verb_of;
+use crate::verb::{Verb, verb_of};
 use sect_base::{Day, Id};
 use sect_command::Command;
 use sect_words::{Fault, Parts, Readable};
@@ -24,6 +25,14 @@ pub struct LineAsk {
     pub day: Option<Day>,
     pub id: Id,
     pub command: Command,
+}
+
+/// What stands before the arguments of a line's command: its day, where it names one, its id and its verb.
+#[derive(Clone, Copy)]
+pub struct LineFront {
+    pub day: Option<Day>,
+    pub id: Id,
+    pub verb: Verb,
 }
 
 /// What stands behind `@` in the next word, None where it doesn't begin so. It takes no memory.
@@ -58,20 +67,38 @@ fn read_front(alloc: Global, words: &mut Parts) -> Result<(Option<Day>, Id), Fau
     Ok((day, id))
 }
 
-/// What the line asks.
-fn read_ask(alloc: Global, line: &[u8]) -> Result<LineAsk, WireFault>
-    ensures { Says result (line_of line.now) }
+/// What stands in the words of a line before its command's arguments, which are left.
+pub fn read_line_front(alloc: Global, words: &mut Parts) -> Result<LineFront, WireFault>
+    ensures { Fronts result words.new (line_at (front_at words.old)) }
 {
-    let mut words = Parts::new(line, b' ');
-    let (day, id) = read_front(alloc, &mut words)?;
+    let (day, id) = read_front(alloc, words)?;
     let Some(verb) = words.next() else {
         return Err(WireFault::BadLine);
     };
     let Some(verb) = verb_of(verb) else {
         return Err(WireFault::UnknownVerb);
     };
-    let command = read_arguments(alloc, true, verb, &mut words)?;
-    words.end()?;
+    Ok(LineFront { day, id, verb })
+}
+
+/// The command of a line whose verb was read: all words that are left say it. It takes memory.
+pub fn read_line_command(alloc: Global, verb: Verb, words: &mut Parts) -> Result<Command, Fault>
+    ensures { Means result (whole (arguments_at true verb words.old)) }
+{
+    let read = read_arguments(alloc, true, verb, words);
+    if read.is_ok() {
+        words.end()?;
+    }
+    read
+}
+
+/// What the line asks.
+fn read_ask(alloc: Global, line: &[u8]) -> Result<LineAsk, WireFault>
+    ensures { Says result (line_of line.now) }
+{
+    let mut words = Parts::new(line, b' ');
+    let LineFront { day, id, verb } = read_line_front(alloc, &mut words)?;
+    let command = read_line_command(alloc, verb, &mut words)?;
     Ok(LineAsk { day, id, command })
 }
 

@@ -1,25 +1,44 @@
-use Rattle.std.proofs.Common.{inr}
+use Rattle.std.proofs.Common.{◌≡◌, ℕ, List, inr, ap, sym, ◌∙◌, subst}
+use Rattle.std.specs.Prelude.{Ok, Err}
+use Rattle.sect_read.specs.declared.line.LineAsk.{LineAsk}
+use Rattle.sect_read.specs.ReadingLines.{front_at, line_at, Says}
+use Rattle.sect_read.proofs.Found.{front_found, front_only, says_only}
+use Rattle.sect_script.specs.declared.script.LineFault.TheVariants as faults
 use Rattle.sect_asking.specs.AnswerLines.{answer_line}
-use Rattle.sect_asking.proofs.Asking.{answers_request, has_reply, line_fits}
+use Rattle.sect_asking.proofs.Asking.{answers_request, is_bad, line_fits}
 use Rattle.sect_asking.proofs.asker.Asker.answer_request.Goals as goal
+
+pub returns-in-Err-clause-bad : goal.returns-in-Err-clause-bad
+returns-in-Err-clause-bad g c = λ said. let told : c.line_fault.result ≡ faults.Bad = cc in is_bad c.args.line.now c.in-Err.fault c.requires.request
+    (λ ask is. says_only c.args.line.now (Err c.in-Err.fault)
+    (subst (λ (ws : List (List ℕ)). Says {X = LineAsk} (Err c.in-Err.fault) (line_at (front_at ws))) c.new-words.ensures c.in-Err.ensures) ask is)
+    (c.line_fault.ensures told)
+
+pub returns-in-Err-read-clause-bad : goal.returns-in-Err-read-clause-bad
+returns-in-Err-read-clause-bad g c = λ said. let told : c.line_fault-in-Err-read.result ≡ faults.Bad = cc in is_bad c.args.line.now c.from.result c.requires.request
+    (λ ask is. subst (λ fault. Says {X = LineAsk} (Err fault) (Ok ask)) (sym c.from.ensures)
+    (front_only c.args.line.now c.in-Ok.front c.read_line_front.new.words (ap (λ (ws : List (List ℕ)). line_at (front_at ws)) (sym c.new-words.ensures) ∙ c.in-Ok.ensures)
+    c.in-Err-read.fault (rw c.in-Err-read.is at c.read_line_command-read.ensures) ask is))
+    (c.line_fault-in-Err-read.ensures told)
+
+pub ask_lent-answer-requires : goal.ask_lent-answer-requires
+ask_lent-answer-requires g c = line_fits c.args.line.now (record { day = c.in-Ok.front.day; id = c.in-Ok.front.id; command = c.in-Ok-read.command })
+    (front_found c.args.line.now c.in-Ok.front c.read_line_front.new.words (ap (λ (ws : List (List ℕ)). line_at (front_at ws)) (sym c.new-words.ensures) ∙ c.in-Ok.ensures)
+    c.in-Ok-read.command (rw c.in-Ok-read.is at c.read_line_command-read.ensures))
+
+pub returns-in-Ok-print_line-clause-answered : goal.returns-in-Ok-print_line-clause-answered
+returns-in-Ok-print_line-clause-answered g c = rw (c.in-Ok-print_line.ensures, c.requires.empty) (answers_request g.O.Object.stepped g.O.Object.is_row g.K.Keeper.rows g.K.Keeper.faults c.args.self.now c.ask_lent-answer.new.self c.args.line.now
+    (record { day = c.in-Ok.front.day; id = c.in-Ok.front.id; command = c.in-Ok-read.command }) c.ask_lent-answer.ensures.0 c.ask_lent-answer.result c.requires.request
+    (front_found c.args.line.now c.in-Ok.front c.read_line_front.new.words (ap (λ (ws : List (List ℕ)). line_at (front_at ws)) (sym c.new-words.ensures) ∙ c.in-Ok.ensures)
+    c.in-Ok-read.command (rw c.in-Ok-read.is at c.read_line_command-read.ensures))
+    c.ask_lent-answer.ensures.1 c.ask_lent-answer.ensures.2)
 
 pub returns-clause-memory : goal.returns-clause-memory
 returns-clause-memory g c = λ out. inr (
-  answer_line c.ask-answer.result,
-  answers_request g.O.Object.stepped g.O.Object.is_row g.K.Keeper.rows g.K.Keeper.faults c.args.self.now c.ask-answer.new.self c.args.line.now
-      c.in_ok-ask.ask c.ask-answer.ensures.0 c.ask-answer.result c.requires.request c.in_ok-ask.ensures.found c.ask-answer.ensures.1 c.ask-answer.ensures.2,
+  answer_line c.ask_lent-answer.result,
+  answers_request g.O.Object.stepped g.O.Object.is_row g.K.Keeper.rows g.K.Keeper.faults c.args.self.now c.ask_lent-answer.new.self c.args.line.now
+      (record { day = c.in-Ok.front.day; id = c.in-Ok.front.id; command = c.in-Ok-read.command }) c.ask_lent-answer.ensures.0 c.ask_lent-answer.result c.requires.request
+      (front_found c.args.line.now c.in-Ok.front c.read_line_front.new.words (ap (λ (ws : List (List ℕ)). line_at (front_at ws)) (sym c.new-words.ensures) ∙ c.in-Ok.ensures)
+      c.in-Ok-read.command (rw c.in-Ok-read.is at c.read_line_command-read.ensures))
+      c.ask_lent-answer.ensures.1 c.ask_lent-answer.ensures.2,
 )
-
-pub ask-answer-requires : goal.ask-answer-requires
-ask-answer-requires g c = line_fits c.args.line.now c.in_ok-ask.ask c.in_ok-ask.ensures.found
-
-pub returns-in-Ok-clause-answered : goal.returns-in-Ok-clause-answered
-returns-in-Ok-clause-answered g c =
-    rw (c.in-Ok.ensures, c.requires.empty)
-    (answers_request g.O.Object.stepped g.O.Object.is_row g.K.Keeper.rows g.K.Keeper.faults c.args.self.now c.ask-answer.new.self c.args.line.now
-    c.in_ok-ask.ask c.ask-answer.ensures.0 c.ask-answer.result c.requires.request c.in_ok-ask.ensures.found c.ask-answer.ensures.1 c.ask-answer.ensures.2)
-
-pub print_line-requires : goal.print_line-requires
-print_line-requires g c =
-    has_reply g.O.Object.stepped g.O.Object.is_row g.K.Keeper.rows g.K.Keeper.faults c.args.self.now.desk c.ask-answer.new.self.desk
-    c.in_ok-ask.ask.id c.ask-answer.ensures.0 c.in_ok-ask.ask.command c.ask-answer.result c.ask-answer.ensures.2
