@@ -214,7 +214,7 @@ GROUPS = [
         ('Budget 1 to 20,000', STUDENTS, ['sect_text/specs/Commands.antt: budget_words'], ['sect_base/src/budget.rt: new',
          'sect_read/src/read_want.rt: read_budget'], RUNS + 's1 1 enrol 1 1 budget 20001'),
         ('Credits 0 to 30, ranks 1 to 21, classes 1 to 9', 'Words', ['sect_words/specs/ReadingWords.antt: between_of'],
-         ['sect_words/src/number.rt: read_between'], RUNS + 's1 1 enrol 1 1 rank 22'),
+         ['sect_words/src/take.rt: between'], RUNS + 's1 1 enrol 1 1 rank 22'),
         ('Weeks 1 to 60', 'Words', ['sect_base/specs/WeekText.antt: IsWeeksText'], ['sect_base/src/week_scan.rt: read_weeks'],
          RUNS + '# Meetings that are none.'),
         ('Days of 1970 to 2199', 'Words', ['sect_base/specs/DayText.antt: IsDayText'], ['sect_base/src/day_text.rt: read_day'],
