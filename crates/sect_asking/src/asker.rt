@@ -134,6 +134,10 @@ impl<O: TextObject, K: Keeper, C: Clock> Asker<O, K, C> {
             Ok(command) => command,
             Err(fault) => return Err(line_fault(WireFault::from(*fault))),
         };
+        match words.end() {
+            Ok(()) => {}
+            Err(fault) => return Err(line_fault(WireFault::from(fault))),
+        }
         let answer = self.ask_lent(front.day, front.id, command);
         match self.print_line(&answer, into) {
             Ok(()) => Ok(()),

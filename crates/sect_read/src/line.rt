@@ -3,7 +3,7 @@
 ghost use Rattle.std.specs.Prelude.{◌≡◌, IfOk, Ok, Err, true};
 ghost use Rattle.std.specs.Option.{option_map};
 ghost use Rattle.sect_words.specs.Parts.{pieces};
-ghost use Rattle.sect_words.specs.Reading.{Means, Reads, whole};
+ghost use Rattle.sect_words.specs.Reading.{Reads};
 ghost use Rattle.sect_read.specs.ReadingCommands.{arguments_at};
 ghost use Rattle.sect_read.specs.ReadingLines.{at_of, line_day_at, front_at, line_at, line_of, command_in, Fronts, Says};
 ghost use Rattle.sect_read.specs.Lines.{IsCommand, IsLine, HasUnknownVerb};
@@ -81,15 +81,11 @@ pub fn read_line_front(alloc: Global, words: &mut Parts) -> Result<LineFront, Wi
     Ok(LineFront { day, id, verb })
 }
 
-/// The command of a line whose verb was read: all words that are left say it. It takes memory.
+/// The command of a line whose verb was read. What is left behind it has to be nothing. It takes memory.
 pub fn read_line_command(alloc: Global, verb: Verb, words: &mut Parts) -> Result<Command, Fault>
-    ensures { Means result (whole (arguments_at true verb words.old)) }
+    ensures { Reads result words.new (arguments_at true verb words.old) }
 {
-    let read = read_arguments(alloc, true, verb, words);
-    if read.is_ok() {
-        words.end()?;
-    }
-    read
+    read_arguments(alloc, true, verb, words)
 }
 
 /// What the line asks.
@@ -99,6 +95,7 @@ fn read_ask(alloc: Global, line: &[u8]) -> Result<LineAsk, WireFault>
     let mut words = Parts::new(line, b' ');
     let LineFront { day, id, verb } = read_line_front(alloc, &mut words)?;
     let command = read_line_command(alloc, verb, &mut words)?;
+    words.end()?;
     Ok(LineAsk { day, id, command })
 }
 
