@@ -35,15 +35,6 @@ is_told stepped is_row rows faults d n id day command answers.LogFull h room qui
 is_told stepped is_row rows faults d n id day command answers.KeeperFault h room quiet = quiet h.rose
 is_told stepped is_row rows faults d n id day command answers.Memory h room quiet = tt
 
--- the entry of an answer has its reply
-pub has_reply : {O K : Type 0} (stepped : O → ℕ → Caller → Command → O × Reply) (is_row : Entry Command Reply → List ℕ → Type 0) (rows : K → Option (List (List ℕ))) (faults : K → ℕ)
-    (d n : Standing O Command Reply K) (id : Id) (day : ℕ) (command : Command) (answer : Answer Reply) → AnswersAsk stepped is_row rows faults id day command d n answer → HasReply n.log answer
-has_reply stepped is_row rows faults d n id day command (answers.Done place reply) h = (h.0.entry, h.0.at, h.0.reply_is)
-has_reply stepped is_row rows faults d n id day command (answers.NumberReused place) h = tt
-has_reply stepped is_row rows faults d n id day command answers.LogFull h = tt
-has_reply stepped is_row rows faults d n id day command answers.KeeperFault h = tt
-has_reply stepped is_row rows faults d n id day command answers.Memory h = tt
-
 -- the line of an answer has the text that tells the reply of its entry
 pub told_line : (is_told : Reply → List ℕ → Type 0) → TellsTexts is_told → (log : List (Note Command Reply)) (answer : Answer Reply) (place : ℕ) (reply : Reply) (text : List ℕ)
     → HasReply log answer → answer ≡ answers.Done place reply → TellsReply is_told (history log) place text

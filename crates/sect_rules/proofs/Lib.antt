@@ -12,4 +12,6 @@ pub mod ClearLemmas
 pub mod RisingLemmas
 pub mod GroundLemmas
 pub mod PathLemmas
-pub mod PickedLemmas
+pub mod FoundLemmas
+pub mod AtLemmas
+pub mod DueLemmas

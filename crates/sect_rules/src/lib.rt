@@ -2,30 +2,34 @@
 #![tactic(auto)]
 
 mod config;
+mod configured;
 mod course;
+mod due;
 mod ground;
 mod held;
+mod joined;
 pub mod laws;
 mod lent;
-mod lent_path;
 mod moment;
 mod nth;
+mod on_course;
 mod options;
 mod overlap;
 mod parted;
 mod path;
-mod picked;
 mod place;
 mod reservation;
 mod reserved;
 mod rows;
-mod rules;
 mod section;
-mod stage;
+mod wanted;
 
+pub use configured::Configured;
+pub use due::{Due, Step, broken, step_at};
+pub use joined::Joined;
 pub use lent::{LentMove, LentWant};
+pub use on_course::OnCourse;
 pub use options::option;
 pub use path::{Path, PathOf};
-pub use picked::{Picked, pick_of};
 pub use sect_model::Pick;
-pub use stage::Stage;
+pub use wanted::Wanted;

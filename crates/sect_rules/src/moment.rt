@@ -18,13 +18,13 @@ ghost use Rattle.sect_model.specs.Allowed.{
 ghost use Rattle.sect_model.specs.Space.{places_at};
 ghost use Rattle.sect_model.specs.Stands.{MoveStands};
 ghost use Rattle.sect_model.specs.Rules.{world_at};
+ghost use Rattle.sect_rules.specs.Completed.{opened};
 
 use crate::held::{
     counts_given, counts_made, credits_made, credits_staying, given_by, holds_kept, holds_made,
     made_by, max_credits,
 };
 use crate::lent::LentMove;
-use crate::lent_path::LentPath;
 use crate::overlap::{is_clear, lesser_of};
 use crate::rows::subparts_in;
 use sect_base::{
@@ -62,18 +62,18 @@ impl<'a> Model for Moment<'a> {
 }
 
 impl<'a> Moment<'a> {
-    /// The world at the path of the move.
-    pub fn new(world: &'a World, mv: &LentMove<'a>, path: &LentPath<'a>) -> Moment<'a>
+    /// The world of the move behind these choices.
+    pub fn new(world: &'a World, mv: &LentMove<'a>, done: &'a [Choice]) -> Moment<'a>
         requires stands { MoveStands world.now.world mv.now }
-        requires limit { length path.now.done ≤ 20 }
-        ensures { result ≡ record { at = world_at world.now.world mv.now path.now; student = mv.now.student } }
+        requires limit { length done.now ≤ 20 }
+        ensures { result ≡ record { at = world_at world.now.world mv.now (opened done.now); student = mv.now.student } }
     {
         world.recall_kept();
         Moment {
             world,
             student: mv.student(),
             give: mv.give(),
-            done: path.done(),
+            done,
         }
     }
 

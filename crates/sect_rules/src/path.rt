@@ -13,7 +13,6 @@ ghost use Rattle.sect_rules.specs.Added.{with_section};
 ghost use Rattle.sect_rules.specs.Completed.{opened};
 
 use crate::ground::ground_of;
-use crate::lent_path::LentPath;
 use crate::rows::subparts_at;
 use sect_base::{Choice, ConfigId, CourseId, Move, ReservationId, SectionId, Sections};
 use sect_model::Pick;
@@ -117,20 +116,6 @@ impl<const N: usize> PathOf<N> {
     {
         let _ = &self.cells;
         self.decisions.sections
-    }
-
-    /// The same path, with its choices where they are.
-    pub fn lent(&self) -> LentPath<'_>
-        ensures { result ≡ self.now }
-    {
-        let _ = &self.cells;
-        LentPath::new(
-            self.done(),
-            self.decisions.course,
-            self.decisions.reservation,
-            self.decisions.config,
-            self.decisions.sections,
-        )
     }
 
     /// The path of these choices, with no decision for the next want.

@@ -10,7 +10,7 @@ ghost use Rattle.sect_model.specs.Choice.{config_in, subparts_of};
 ghost use Rattle.sect_model.specs.Path.{next_subpart};
 ghost use Rattle.sect_rules.specs.Decided.{subparts_at};
 ghost use Rattle.sect_rules.specs.Ground.{IsGroundOf};
-ghost use Rattle.sect_rules.specs.Picked.{IsConfig, IsSection};
+ghost use Rattle.sect_rules.specs.Found.{IsConfig, IsSection};
 
 use crate::ground::Ground;
 use crate::place::config_of_offering;

@@ -13,7 +13,7 @@ ghost use Rattle.sect_model.specs.Rules.{first_broken, least, section_rules, is_
 ghost use Rattle.sect_base.specs.declared.limit.Level.TheVariants.{Section};
 ghost use Rattle.sect_base.specs.Pattern.{lists_overlap};
 ghost use Rattle.sect_rules.specs.Ground.{IsGround};
-ghost use Rattle.sect_rules.specs.Picked.{IsSection};
+ghost use Rattle.sect_rules.specs.Found.{IsSection};
 ghost use Rattle.sect_rules.specs.Reserved.{are_own};
 ghost use Rattle.sect_rules.specs.Standing.{own_section};
 ghost use Rattle.sect_rules.specs.Tables.{standing_rules, space_rules, time_rules};

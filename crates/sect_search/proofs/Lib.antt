@@ -1,3 +1,4 @@
+pub mod OpenLemmas
 pub mod WalkLemmas
 pub mod CoverLemmas
 pub mod NodeLemmas

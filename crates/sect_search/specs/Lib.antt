@@ -1,3 +1,4 @@
+pub mod Covered
 pub mod Told
 pub mod Refutes
 pub mod Nodes

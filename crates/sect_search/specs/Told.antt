@@ -1,6 +1,12 @@
 -- What the parts of a search tell, with what is left of the budget.
-use Rattle.std.specs.Prelude.{ℕ, List, [], ◌∷◌}
-use Rattle.sect_model.specs.Search.{Searched, found, refuted, spent, behind_tree}
+use Rattle.std.specs.Prelude.{ℕ, List, [], ◌∷◌, None}
+use Rattle.sect_model.specs.Data.{Move}
+use Rattle.sect_model.specs.declared.pick.Pick.{Pick}
+use Rattle.sect_model.specs.Path.{Path, extend, is_complete}
+use Rattle.sect_model.specs.Rules.{leaf_of}
+use Rattle.sect_model.specs.Search.{Searched, found, refuted, spent, behind_tree, or_later, search_pick, search_from}
+use Rattle.sect_model.specs.World.{World}
+use Rattle.sect_rules.specs.Place.{Place}
 use Rattle.sect_base.specs.Tree.{Tree, trees_of}
 use Rattle.sect_model.specs.declared.pick.Outcome.{Outcome}
 use Rattle.sect_model.specs.declared.pick.Outcome.TheVariants.{Found as found_move, Blocked, Spent as spent_budget}
@@ -21,6 +27,24 @@ abbrev pub seen : Visited → ℕ → Searched
 seen (found_at choices) left = found choices left
 seen (refuted_at tree) left = refuted (tree ∷ []) left
 seen spent_at left = spent
+
+-- what the search below a path finds, with its trees in one
+abbrev pub as_one : World → Move → Path → ℕ → ℕ → Searched
+as_one w mv p n left = or_later (λ left. refuted [] left) (search_from w mv n p left)
+
+-- what follows a path, with at most so many decisions more
+abbrev pub go_from : World → Move → Path → ℕ → ℕ → Searched
+go_from w mv p n left = search_pick None (is_complete mv p) p.done (search_from w mv n p) (λ left. refuted [] left) left
+
+-- what follows an option that breaks no rule
+abbrev pub behind : Place → Pick → ℕ → ℕ → Searched
+behind at pick n left = go_from at.world at.mv (extend at.world at.path pick) n left
+
+-- a look at an option, with at most so many decisions behind it
+abbrev pub look : Place → Pick → ℕ → ℕ → Searched
+look at pick n left =
+    search_pick (leaf_of at.world at.mv at.path pick) (is_complete at.mv (extend at.world at.path pick)) (extend at.world at.path pick).done
+    (search_from at.world at.mv n (extend at.world at.path pick)) (λ left. refuted [] left) left
 
 -- with the trees of the options in front
 abbrev pub with_trees : List Tree → Searched → Searched

@@ -13,7 +13,7 @@ use crate::walk::below;
 use crate::walked::Walked;
 use sect_base::{Block, Budget, Items, Memory, Move, Steps};
 use sect_model::Outcome;
-use sect_rules::{LentMove, Stage};
+use sect_rules::{Due, LentMove, Wanted};
 use sect_space::World;
 use std::alloc::Global;
 use std::sync::ledger::Ledger;
@@ -88,16 +88,22 @@ fn find<const N: usize>(
     ensures numbers { IfOk result OutcomeNumbers }
     ensures found { IfOk result (λ outcome. outcome ≡ searched_outcome budget (search_of world.now.world mv.now budget)) }
 {
-    let stage = Stage::start(world, mv, &[]);
-    if stage.is_complete() {
-        return Ok(Outcome::Found(Items::from_vec(Vec::new(alloc)), 0));
+    match mv.want(0) {
+        None => Ok(Outcome::Found(Items::from_vec(Vec::new(alloc)), 0)),
+        Some(want) => {
+            let wanted = Wanted::new(world, mv, &[], want);
+            let mut left = budget.get();
+            let walked = below::<N>(alloc, Due::Course(&wanted), decisions(mv), &mut left)?;
+            Ok(match walked {
+                Walked::Found(choices) => Outcome::Found(choices, budget.get() - left),
+                Walked::Refuted(trees) => Outcome::Blocked(
+                    Block::split(trees),
+                    budget.get() - left,
+                ),
+                Walked::Spent => Outcome::Spent(budget.get()),
+            })
+        }
     }
-    let mut left = budget.get();
-    Ok(match below::<N>(alloc, &stage, decisions(mv), &mut left)? {
-        Walked::Found(choices) => Outcome::Found(choices, budget.get() - left),
-        Walked::Refuted(trees) => Outcome::Blocked(Block::split(trees), budget.get() - left),
-        Walked::Spent => Outcome::Spent(budget.get()),
-    })
 }
 
 /// The most decisions of a path: nine for each want.

@@ -1,18 +1,21 @@
 // Whether a tree refutes every choice.
 
-ghost use Rattle.std.specs.Prelude.{◌≡◌, ◌<◌, ◌≤◌, ◌&&◌, ◌++◌, ◌∷◌, [], not, length, IfSome, Contains, IsTrue, slice_get, option_copied};
+ghost use Rattle.std.specs.Prelude.{◌≡◌, ◌<◌, ◌≤◌, ◌++◌, ◌∷◌, [], length, IfSome, Contains, IsTrue, slice_get, option_copied};
 ghost use Rattle.sect_base.specs.TreeOf.{tree_of};
 ghost use Rattle.sect_base.specs.Tree.{split, trees_of, size_of, sizes_of};
 ghost use Rattle.sect_model.specs.Covers.{covers, covers_with, cover_each, is_leaf};
-ghost use Rattle.sect_model.specs.Path.{is_complete, options_at};
+ghost use Rattle.sect_model.specs.Path.{options_at};
 ghost use Rattle.sect_model.specs.Premises.{MoveFits};
 ghost use Rattle.sect_model.specs.Stands.{MoveStands};
 ghost use Rattle.sect_rules.specs.Completed.{opened};
-ghost use Rattle.sect_rules.specs.Picked.{pick_of, IsPicked};
+ghost use Rattle.sect_rules.specs.Due.{place_of, place_at, pick_at, IsStep};
+ghost use Rattle.sect_search.specs.Covered.{covered, covered_behind};
 ghost use Rattle.sect_search.specs.Refutes.{NoMove};
 
 use sect_base::{Block, Choice, Move, Node, Rule};
-use sect_rules::{LentMove, PathOf, Picked, Stage};
+use sect_rules::{
+    Configured, Due, Joined, LentMove, OnCourse, PathOf, Step, Wanted, broken, step_at,
+};
 use sect_space::World;
 
 /// Whether the tree covers the path with no decision: it has one child for each option, a leaf is
@@ -48,7 +51,10 @@ fn covers_all<const N: usize>(world: &World, mv: &LentMove, tree: &Block) -> boo
 {
     match tree.node() {
         Node::Broken(_, _) => false,
-        Node::Split(trees) => covers_behind::<N>(&Stage::start(world, mv, &[]), trees),
+        Node::Split(trees) => match mv.want(0) {
+            None => false,
+            Some(want) => cover::<N>(Due::Course(&Wanted::new(world, mv, &[], want)), trees),
+        },
     }
 }
 
@@ -89,25 +95,52 @@ fn is_same(leaf: Option<(Rule, u32)>, rule: Rule, number: u32) -> bool
 
 /// Whether the tree covers the path with one decision more.
 #[cycle(covering)]
-fn covers_pick<'a, const N: usize>(stage: &Stage<'a>, picked: &Picked<'a>, tree: &Block) -> bool
-    requires stands { MoveStands stage.now.world stage.now.mv }
-    requires room { length stage.now.mv.take ≤ N }
+fn covers_step<const N: usize>(step: Step, tree: &Block) -> bool
+    requires stands { MoveStands (place_at step).world (place_at step).mv }
+    requires room { length (place_at step).mv.take ≤ N }
     requires limit { N ≤ 20 }
-    requires option { Contains (options_at stage.now.world stage.now.mv stage.now.path) (pick_of picked.now) }
-    requires row { IsPicked stage.now.world stage.now.path.course picked.now }
-    ensures { result ≡ covers_with stage.now.world stage.now.mv stage.now.path (pick_of picked.now) tree.now }
+    requires option { Contains (options_at (place_at step).world (place_at step).mv (place_at step).path) (pick_at step) }
+    requires row { IsStep step }
+    ensures { result ≡ covers_with (place_at step.entry).world (place_at step.entry).mv (place_at step.entry).path (pick_at step.entry) tree.now }
 {
-    let leaf = stage.broken(picked);
+    let leaf = broken(step);
     match tree.node() {
         Node::Broken(rule, number) => is_same(leaf, *rule, *number),
-        Node::Split(trees) => {
-            if leaf.is_some() {
-                return false;
-            }
-            let trees = below(tree, trees);
-            match stage.completed(picked) {
-                Some(choice) => covers_ended::<N>(stage, choice, trees),
-                None => covers_behind::<N>(&stage.next(picked), trees),
+        Node::Split(trees) => leaf.is_none() && covers_behind::<N>(step, below(tree, trees)),
+    }
+}
+
+/// Whether the path with one decision more, which breaks no rule, isn't complete, and the trees cover it.
+#[cycle(covering)]
+fn covers_behind<const N: usize>(step: Step, trees: &[Block]) -> bool
+    requires stands { MoveStands (place_at step).world (place_at step).mv }
+    requires room { length (place_at step).mv.take ≤ N }
+    requires limit { N ≤ 20 }
+    requires option { Contains (options_at (place_at step).world (place_at step).mv (place_at step).path) (pick_at step) }
+    requires row { IsStep step }
+    ensures { result ≡ covered_behind (place_at step.entry) (pick_at step.entry) trees.now }
+{
+    match step {
+        Step::Course(wanted, course) => {
+            let on = OnCourse::new(wanted, course);
+            cover::<N>(Due::Reservation(&on), trees)
+        }
+        Step::Reservation(on, id) => {
+            let by = Joined::new(on, id, on.named(id));
+            cover::<N>(Due::Config(&by), trees)
+        }
+        Step::Config(by, row) => {
+            let inside = Configured::new(by, row);
+            cover::<N>(Due::Section(&inside), trees)
+        }
+        Step::Section(inside, row) => {
+            inside.recall_room(row.id);
+            match inside.completed(row.id) {
+                Some(choice) => covers_ended::<N>(inside.by().on().wanted(), choice, trees),
+                None => {
+                    let next = inside.behind(row.id);
+                    cover::<N>(Due::Section(&next), trees)
+                }
             }
         }
     }
@@ -115,47 +148,39 @@ fn covers_pick<'a, const N: usize>(stage: &Stage<'a>, picked: &Picked<'a>, tree:
 
 /// Whether the path with one choice more isn't complete, and the trees cover it.
 #[cycle(covering)]
-fn covers_ended<const N: usize>(stage: &Stage, choice: Choice, trees: &[Block]) -> bool
-    requires stands { MoveStands stage.now.world stage.now.mv }
-    requires room { length stage.now.mv.take ≤ N }
+fn covers_ended<const N: usize>(wanted: &Wanted, choice: Choice, trees: &[Block]) -> bool
+    requires stands { MoveStands wanted.now.world wanted.now.mv }
+    requires room { length wanted.now.mv.take ≤ N }
     requires limit { N ≤ 20 }
-    requires wanted { length stage.now.path.done < length stage.now.mv.take }
-    ensures { result ≡ not (is_complete stage.now.mv (opened (stage.now.path.done ++ choice ∷ [])))
-        && cover_each stage.now.world stage.now.mv (opened (stage.now.path.done ++ choice ∷ []))
-        (options_at stage.now.world stage.now.mv (opened (stage.now.path.done ++ choice ∷ []))) (trees_of trees.now) }
+    ensures { result ≡ covered wanted.now.world wanted.now.mv (opened (wanted.now.done ++ choice ∷ [])) trees.now }
 {
-    let path = PathOf::<N>::made(stage.done(), choice);
-    let next = Stage::start(stage.world(), stage.mv(), path.done());
-    covers_behind::<N>(&next, trees)
-}
-
-/// Whether the path isn't complete, and the trees cover it.
-#[cycle(covering)]
-fn covers_behind<const N: usize>(stage: &Stage, trees: &[Block]) -> bool
-    requires stands { MoveStands stage.now.world stage.now.mv }
-    requires room { length stage.now.mv.take ≤ N }
-    requires limit { N ≤ 20 }
-    ensures { result ≡ not (is_complete stage.now.mv stage.now.path)
-        && cover_each stage.now.world stage.now.mv stage.now.path
-        (options_at stage.now.world stage.now.mv stage.now.path) (trees_of trees.now) }
-{
-    !stage.is_complete() && cover::<N>(stage, trees)
+    wanted.recall_left();
+    let mv = wanted.mv();
+    let done = wanted.done();
+    match mv.want(done.len() + 1) {
+        None => false,
+        Some(want) => {
+            let path = PathOf::<N>::made(done, choice);
+            let next = Wanted::new(wanted.world(), mv, path.done(), want);
+            cover::<N>(Due::Course(&next), trees)
+        }
+    }
 }
 
 /// Whether there are as many trees as options, and each covers its option.
 #[cycle(covering)]
-fn cover<const N: usize>(stage: &Stage, trees: &[Block]) -> bool
-    requires stands { MoveStands stage.now.world stage.now.mv }
-    requires room { length stage.now.mv.take ≤ N }
+fn cover<const N: usize>(due: Due, trees: &[Block]) -> bool
+    requires stands { MoveStands (place_of due).world (place_of due).mv }
+    requires room { length (place_of due).mv.take ≤ N }
     requires limit { N ≤ 20 }
-    ensures { result ≡ cover_each stage.now.world stage.now.mv stage.now.path
-        (options_at stage.now.world stage.now.mv stage.now.path) (trees_of trees.now) }
+    ensures { result ≡ cover_each (place_of due.entry).world (place_of due.entry).mv (place_of due.entry).path
+        (options_at (place_of due.entry).world (place_of due.entry).mv (place_of due.entry).path) (trees_of trees.now) }
 {
     let mut at = 0;
-    'options: while let Some(picked) = stage.option(at) {
+    'options: while let Some(step) = step_at(due, at) {
         match tree_at(trees, at) {
             Some(tree) => {
-                if !covers_pick::<N>(stage, &picked, tree) {
+                if !covers_step::<N>(step, tree) {
                     return false;
                 }
             }

@@ -1,32 +1,31 @@
 // One walk, depth first: each option that is looked at takes one from the budget, and below a
 // decision that breaks a rule nothing is looked at. The tree is made on the way back.
 
-ghost use Rattle.std.specs.Prelude.{◌≡◌, ◌-◌, ◌≤◌, ◌<◌, ◌++◌, ◌∷◌, [], length, Contains, IfOk, None};
-ghost use Rattle.sect_model.specs.Path.{options_at, extend, is_complete};
+ghost use Rattle.std.specs.Prelude.{◌≡◌, ◌-◌, ◌≤◌, ◌<◌, ◌++◌, ◌∷◌, [], length, Contains, IfOk};
+ghost use Rattle.sect_model.specs.Path.{options_at};
 ghost use Rattle.sect_model.specs.Stands.{MoveStands};
-ghost use Rattle.sect_model.specs.Rules.{leaf_of};
-ghost use Rattle.sect_model.specs.Search.{refuted, search_pick, search_from};
+ghost use Rattle.sect_model.specs.Search.{search_from};
 ghost use Rattle.sect_rules.specs.Completed.{opened};
-ghost use Rattle.sect_rules.specs.Picked.{pick_of, IsPicked};
-ghost use Rattle.sect_search.specs.Told.{told, seen, WalkedNumbers, SeenNumbers};
+ghost use Rattle.sect_rules.specs.Due.{place_of, place_at, pick_at, IsStep};
+ghost use Rattle.sect_search.specs.Told.{told, seen, look, behind, as_one, go_from, WalkedNumbers, SeenNumbers};
 
 use crate::walked::{Visited, Walked};
 use sect_base::{Block, Choice, Items, Memory};
-use sect_rules::{PathOf, Picked, Stage};
+use sect_rules::{Configured, Due, Joined, OnCourse, PathOf, Step, Wanted, broken, step_at};
 use std::alloc::Global;
 
-/// The search below a path, of at most so many decisions, with what is left of the budget.
+/// The search below a node, of at most so many decisions, with what is left of the budget.
 #[cycle(walking)]
 pub fn below<const N: usize>(
     alloc: Global,
-    stage: &Stage,
+    due: Due,
     decisions: u32,
     left: &mut u32,
 ) -> Result<Walked, Memory>
-    requires stands { MoveStands stage.now.world stage.now.mv }
-    requires room { length stage.now.mv.take ≤ N }
+    requires stands { MoveStands (place_of due).world (place_of due).mv }
+    requires room { length (place_of due).mv.take ≤ N }
     requires limit { N ≤ 20 }
-    ensures found { IfOk result (λ r. told r left.new ≡ search_from stage.now.world stage.now.mv decisions stage.now.path left.old) }
+    ensures found { IfOk result (λ r. told r left.new ≡ search_from (place_of due.entry).world (place_of due.entry).mv decisions (place_of due.entry).path left.old) }
     ensures numbers { IfOk result WalkedNumbers }
     ensures less { left.new ≤ left.old }
 {
@@ -36,12 +35,12 @@ pub fn below<const N: usize>(
         return Ok(Walked::Refuted(trees));
     }
     let mut at = 0;
-    'options: while let Some(picked) = stage.option(at) {
+    'options: while let Some(step) = step_at(due, at) {
         if *left == 0 {
             return Ok(Walked::Spent);
         }
         *left -= 1;
-        match visit::<N>(alloc, stage, &picked, decisions, left)? {
+        match visit::<N>(alloc, step, decisions - 1, left)? {
             Visited::Found(choices) => return Ok(Walked::Found(choices)),
             Visited::Refuted(tree) => trees.push(tree)?,
             Visited::Spent => return Ok(Walked::Spent),
@@ -51,36 +50,71 @@ pub fn below<const N: usize>(
     Ok(Walked::Refuted(trees))
 }
 
-/// A look at one option: it breaks a rule, or the search goes on behind it.
+/// A look at one option: it breaks a rule, or the search goes on behind it, with at most so many decisions more.
 #[cycle(walking)]
-fn visit<'a, const N: usize>(
+fn visit<const N: usize>(
     alloc: Global,
-    stage: &Stage<'a>,
-    picked: &Picked<'a>,
+    step: Step,
     decisions: u32,
     left: &mut u32,
 ) -> Result<Visited, Memory>
-    requires stands { MoveStands stage.now.world stage.now.mv }
-    requires room { length stage.now.mv.take ≤ N }
+    requires stands { MoveStands (place_at step).world (place_at step).mv }
+    requires room { length (place_at step).mv.take ≤ N }
     requires limit { N ≤ 20 }
-    requires option { Contains (options_at stage.now.world stage.now.mv stage.now.path) (pick_of picked.now) }
-    requires row { IsPicked stage.now.world stage.now.path.course picked.now }
-    requires some { 0 < decisions }
-    ensures found { IfOk result (λ r. seen r left.new
-        ≡ search_pick (leaf_of stage.now.world stage.now.mv stage.now.path (pick_of picked.now))
-        (is_complete stage.now.mv (extend stage.now.world stage.now.path (pick_of picked.now)))
-        (extend stage.now.world stage.now.path (pick_of picked.now)).done
-        (search_from stage.now.world stage.now.mv (decisions - 1) (extend stage.now.world stage.now.path (pick_of picked.now)))
-        (λ left. refuted [] left) left.old) }
+    requires option { Contains (options_at (place_at step).world (place_at step).mv (place_at step).path) (pick_at step) }
+    requires row { IsStep step }
+    ensures found { IfOk result (λ r. seen r left.new ≡ look (place_at step.entry) (pick_at step.entry) decisions left.old) }
     ensures numbers { IfOk result SeenNumbers }
     ensures less { left.new ≤ left.old }
 {
-    if let Some((rule, number)) = stage.broken(picked) {
-        return Ok(Visited::Refuted(Block::broken(rule, number)));
+    match broken(step) {
+        Some((rule, number)) => Ok(Visited::Refuted(Block::broken(rule, number))),
+        None => go_behind::<N>(alloc, step, decisions, left),
     }
-    match stage.completed(picked) {
-        Some(choice) => ended::<N>(alloc, stage, choice, decisions - 1, left),
-        None => go_on::<N>(alloc, &stage.next(picked), decisions - 1, left),
+}
+
+/// What follows an option that breaks no rule.
+#[cycle(walking)]
+fn go_behind<const N: usize>(
+    alloc: Global,
+    step: Step,
+    decisions: u32,
+    left: &mut u32,
+) -> Result<Visited, Memory>
+    requires stands { MoveStands (place_at step).world (place_at step).mv }
+    requires room { length (place_at step).mv.take ≤ N }
+    requires limit { N ≤ 20 }
+    requires option { Contains (options_at (place_at step).world (place_at step).mv (place_at step).path) (pick_at step) }
+    requires row { IsStep step }
+    ensures found { IfOk result (λ r. seen r left.new ≡ behind (place_at step.entry) (pick_at step.entry) decisions left.old) }
+    ensures numbers { IfOk result SeenNumbers }
+    ensures less { left.new ≤ left.old }
+{
+    match step {
+        Step::Course(wanted, course) => {
+            let on = OnCourse::new(wanted, course);
+            go_on::<N>(alloc, Due::Reservation(&on), decisions, left)
+        }
+        Step::Reservation(on, id) => {
+            let by = Joined::new(on, id, on.named(id));
+            go_on::<N>(alloc, Due::Config(&by), decisions, left)
+        }
+        Step::Config(by, row) => {
+            let inside = Configured::new(by, row);
+            go_on::<N>(alloc, Due::Section(&inside), decisions, left)
+        }
+        Step::Section(inside, row) => {
+            inside.recall_room(row.id);
+            match inside.completed(row.id) {
+                Some(choice) => {
+                    ended::<N>(alloc, inside.by().on().wanted(), choice, decisions, left)
+                }
+                None => {
+                    let next = inside.behind(row.id);
+                    go_on::<N>(alloc, Due::Section(&next), decisions, left)
+                }
+            }
+        }
     }
 }
 
@@ -88,61 +122,54 @@ fn visit<'a, const N: usize>(
 #[cycle(walking)]
 fn ended<const N: usize>(
     alloc: Global,
-    stage: &Stage,
+    wanted: &Wanted,
     choice: Choice,
     decisions: u32,
     left: &mut u32,
 ) -> Result<Visited, Memory>
-    requires stands { MoveStands stage.now.world stage.now.mv }
-    requires room { length stage.now.mv.take ≤ N }
+    requires stands { MoveStands wanted.now.world wanted.now.mv }
+    requires room { length wanted.now.mv.take ≤ N }
     requires limit { N ≤ 20 }
-    requires wanted { length stage.now.path.done < length stage.now.mv.take }
-    ensures found { IfOk result (λ r. seen r left.new
-        ≡ search_pick None (is_complete stage.now.mv (opened (stage.now.path.done ++ choice ∷ []))) (stage.now.path.done ++ choice ∷ [])
-        (search_from stage.now.world stage.now.mv decisions (opened (stage.now.path.done ++ choice ∷ []))) (λ left. refuted [] left) left.old) }
+    ensures found { IfOk result (λ r. seen r left.new ≡ go_from wanted.now.world wanted.now.mv (opened (wanted.now.done ++ choice ∷ [])) decisions left.old) }
     ensures numbers { IfOk result SeenNumbers }
     ensures less { left.new ≤ left.old }
 {
-    if stage.mv().len() == stage.done().len() + 1 {
-        return Ok(Visited::Found(with_choice(alloc, stage.done(), choice)?));
+    wanted.recall_left();
+    let mv = wanted.mv();
+    let done = wanted.done();
+    match mv.want(done.len() + 1) {
+        None => {
+            let choices = with_choice(alloc, done, choice)?;
+            Ok(Visited::Found(choices))
+        }
+        Some(want) => {
+            let path = PathOf::<N>::made(done, choice);
+            let next = Wanted::new(wanted.world(), mv, path.done(), want);
+            go_on::<N>(alloc, Due::Course(&next), decisions, left)
+        }
     }
-    let path = PathOf::<N>::made(stage.done(), choice);
-    let next = Stage::start(stage.world(), stage.mv(), path.done());
-    go_on::<N>(alloc, &next, decisions, left)
 }
 
-/// What follows a path: it is complete, or the search goes on below it.
+/// The search below a node, with its trees in one.
 #[cycle(walking)]
 fn go_on<const N: usize>(
     alloc: Global,
-    stage: &Stage,
+    due: Due,
     decisions: u32,
     left: &mut u32,
 ) -> Result<Visited, Memory>
-    requires stands { MoveStands stage.now.world stage.now.mv }
-    requires room { length stage.now.mv.take ≤ N }
+    requires stands { MoveStands (place_of due).world (place_of due).mv }
+    requires room { length (place_of due).mv.take ≤ N }
     requires limit { N ≤ 20 }
-    ensures found { IfOk result (λ r. seen r left.new
-        ≡ search_pick None (is_complete stage.now.mv stage.now.path) stage.now.path.done
-        (search_from stage.now.world stage.now.mv decisions stage.now.path) (λ left. refuted [] left) left.old) }
+    ensures found { IfOk result (λ r. seen r left.new ≡ as_one (place_of due.entry).world (place_of due.entry).mv (place_of due.entry).path decisions left.old) }
     ensures numbers { IfOk result SeenNumbers }
     ensures less { left.new ≤ left.old }
 {
-    if stage.is_complete() {
-        return Ok(Visited::Found(choices(alloc, stage.done())?));
-    }
-    match below::<N>(alloc, stage, decisions, left)? {
+    match below::<N>(alloc, due, decisions, left)? {
         Walked::Found(choices) => Ok(Visited::Found(choices)),
         Walked::Refuted(trees) => Ok(Visited::Refuted(Block::split(trees))),
         Walked::Spent => Ok(Visited::Spent),
     }
-}
-
-/// The choices, as a list of their own.
-fn choices(alloc: Global, done: &[Choice]) -> Result<Items<Choice>, Memory>
-    ensures { IfOk result (λ choices. choices ≡ done.now) }
-{
-    Ok(Items::from_vec(Vec::from_slice(alloc, done)?))
 }
 
 /// The choices with one more, as a list of their own.

@@ -4,8 +4,8 @@ use Rattle.std.specs.Prelude.{map, Some, refl}
 use Rattle.std.specs.List.{All}
 use Rattle.std.specs.Option.{option_map_or}
 use Rattle.sect_people.specs.Order.{all_differ}
-use Rattle.sect_rules.specs.Picked.{IsConfig}
-use Rattle.sect_rules.proofs.PickedLemmas.{configs-found}
+use Rattle.sect_rules.specs.Found.{IsConfig}
+use Rattle.sect_rules.proofs.FoundLemmas.{configs-found}
 use Rattle.sect_rules.proofs.IdLemmas.{offering-configs}
 use Rattle.sect_rules.proofs.GroundLemmas.{its-offering, no-offering}
 use Rattle.sect_rules.proofs.rows.configs.Goals as goal

@@ -4,8 +4,8 @@ use Rattle.std.specs.Prelude.{map}
 use Rattle.std.specs.List.{All}
 use Rattle.sect_people.specs.Order.{all_differ}
 use Rattle.sect_model.specs.Choice.{subparts_of}
-use Rattle.sect_rules.specs.Picked.{IsSection}
-use Rattle.sect_rules.proofs.PickedLemmas.{sections-found}
+use Rattle.sect_rules.specs.Found.{IsSection}
+use Rattle.sect_rules.proofs.FoundLemmas.{sections-found}
 use Rattle.sect_rules.proofs.NthLemmas.{member-got}
 use Rattle.sect_rules.proofs.IdLemmas.{subpart-sections}
 use Rattle.sect_rules.proofs.rows.next_sections.Goals as goal

@@ -3,30 +3,37 @@ use Rattle.std.proofs.Common.{◌≡◌, ◌+◌, ◌-◌, ◌*◌, ◌≤◌, d
 use Rattle.sect_model.specs.Path.{options_at}
 use Rattle.sect_model.specs.Search.{search_options, search_from}
 use Rattle.sect_base.specs.Tree.{trees_of}
+use Rattle.sect_rules.specs.Due.{place_of}
 use Rattle.sect_search.specs.Texts.{HaveNumbers}
 use Rattle.sect_search.specs.Told.{with_trees}
 use Rattle.sect_search.proofs.walk.+walking.Given as goal
 
 abbrev pub decreases-below : goal.decreases-below
-decreases-below g l = 4 * l.decisions + 1
+decreases-below g l = 6 * l.decisions + 1
 
 abbrev pub decreases-visit : goal.decreases-visit
-decreases-visit g l = 4 * l.decisions
+decreases-visit g l = 6 * l.decisions + 5
+
+abbrev pub decreases-go_behind : goal.decreases-go_behind
+decreases-go_behind g l = 6 * l.decisions + 4
 
 abbrev pub decreases-ended : goal.decreases-ended
-decreases-ended g l = 4 * l.decisions + 3
+decreases-ended g l = 6 * l.decisions + 3
 
 abbrev pub decreases-go_on : goal.decreases-go_on
-decreases-go_on g l = 4 * l.decisions + 2
+decreases-go_on g l = 6 * l.decisions + 2
 
 abbrev pub invariant-below-options : goal.invariant-below-options
-invariant-below-options g l = record {
-  same : search_options l.stage.world l.stage.mv (search_from l.stage.world l.stage.mv (l.decisions - 1)) l.stage.path (options_at l.stage.world l.stage.mv l.stage.path) l.initial.left
-      ≡ with_trees l.trees.items (search_options l.stage.world l.stage.mv (search_from l.stage.world l.stage.mv (l.decisions - 1)) l.stage.path (drop l.at (options_at l.stage.world l.stage.mv l.stage.path)) l.left);
-  less : l.at + l.left ≤ l.budget;
-  whole : l.budget ≡ l.initial.left;
-  numbers : HaveNumbers (trees_of l.trees.items);
-}
+invariant-below-options g l =
+    let w = (place_of l.due).world in
+    let mv = (place_of l.due).mv in
+    let p = (place_of l.due).path in record {
+      same : search_options w mv (search_from w mv (l.decisions - 1)) p (options_at w mv p) l.initial.left
+          ≡ with_trees l.trees.items (search_options w mv (search_from w mv (l.decisions - 1)) p (drop l.at (options_at w mv p)) l.left);
+      less : l.at + l.left ≤ l.budget;
+      whole : l.budget ≡ l.initial.left;
+      numbers : HaveNumbers (trees_of l.trees.items);
+    }
 
 abbrev pub decreases-below-options : goal.decreases-below-options
 decreases-below-options g l = l.left

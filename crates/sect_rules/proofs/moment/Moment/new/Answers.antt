@@ -1,5 +1,6 @@
 -- only the roster differs
 use Rattle.std.proofs.Common.{sym, ◌∙◌}
+use Rattle.sect_rules.specs.Completed.{opened}
 use Rattle.sect_rules.specs.Moment.{moved}
 use Rattle.sect_rules.proofs.MomentLemmas.{world-moved}
 use Rattle.sect_rules.proofs.moment.Moment.new.Goals as goal
@@ -8,4 +9,4 @@ pub returns : goal.returns
 returns c =
     let w = c.args.world.now.world in
     let mv = c.args.mv.now in
-    λ i. record { at = ((λ j. moved w (c.student.ensures j) (c.give.ensures j) (c.done.ensures j)) ∙ sym (world-moved w mv c.args.path.now)) i; student = c.student.ensures i }
+    λ i. record { at = ((λ j. moved w (c.student.ensures j) (c.give.ensures j) c.args.done.now) ∙ sym (world-moved w mv (opened c.args.done.now))) i; student = c.student.ensures i }

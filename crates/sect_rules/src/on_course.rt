@@ -1,0 +1,129 @@
+// A course that was decided on: its reservation, or that there is to be none, is decided next.
+
+ghost use Rattle.std.specs.Prelude.{◌≡◌, map, slice_get, Some, IsTrue, option_copied};
+ghost use Rattle.std.specs.List.{All};
+ghost use Rattle.std.specs.Option.{option_map, option_and_then};
+ghost use Rattle.sect_people.specs.Order.{all_differ};
+ghost use Rattle.sect_model.specs.declared.pick.Pick.TheVariants.{Reservation as picks_reservation};
+ghost use Rattle.sect_model.specs.World.{reservation_of};
+ghost use Rattle.sect_model.specs.Path.{options_at};
+ghost use Rattle.sect_model.specs.Rules.{leaf_of};
+ghost use Rattle.sect_rules.specs.Ground.{IsGroundOf};
+ghost use Rattle.sect_rules.specs.Found.{IsConfig};
+ghost use Rattle.sect_rules.specs.Wanted.{course_path, configs_on, met};
+
+use crate::ground::{Ground, ground_of};
+use crate::parted::Parted;
+use crate::rows::{configs, reservations};
+use crate::wanted::Wanted;
+use sect_base::{CourseId, ReservationId, Rule};
+use sect_catalog::ConfigRow;
+use sect_reserve::Reservation;
+use std::marker::Model;
+
+/// A course decided on for a want, of which contracts see both, with its offering and the reservations of that.
+#[derive(Drop)]
+pub struct OnCourse<'a> {
+    wanted: &'a Wanted<'a>,
+    course: CourseId,
+    ground: Option<Ground<'a>>,
+    rows: Parted<'a>,
+}
+
+impl<'a> Model for OnCourse<'a> {
+    ghost use Rattle.std.specs.Prelude.{◌≡◌, Some};
+    ghost use Rattle.sect_rules.specs.Ground.{IsGroundOf};
+    ghost use Rattle.sect_rules.specs.Wanted.{OnCourse as Value_of, reservations_on};
+
+    ghost Value = { Value_of };
+
+    ghost view = { λ s. record { wanted = s.wanted.now; course = s.course } };
+
+    ghost invariant = { λ s. IsGroundOf s.wanted.now.world (Some s.course) s.ground × (s.rows ≡ reservations_on s.wanted.now.world s.course) };
+}
+
+impl<'a> OnCourse<'a> {
+    /// What is behind the choice of the course.
+    pub fn new(wanted: &'a Wanted<'a>, course: CourseId) -> OnCourse<'a>
+        ensures { result ≡ record { wanted = wanted.now; course = course } }
+    {
+        let world = wanted.world();
+        let ground = ground_of(world, Some(course));
+        let rows = Parted::new(reservations(world, course, ground));
+        OnCourse {
+            wanted,
+            course,
+            ground,
+            rows,
+        }
+    }
+
+    /// The want.
+    #[inline(always)]
+    pub fn wanted(&self) -> &'a Wanted<'a>
+        ensures { result.now ≡ self.now.wanted }
+    {
+        self.wanted
+    }
+
+    /// The course.
+    #[inline(always)]
+    pub fn course(&self) -> CourseId
+        ensures { result ≡ self.now.course }
+    {
+        self.course
+    }
+
+    /// The offering of the course, with what stands beside it, as the student meets it.
+    #[inline(always)]
+    pub fn ground(&self) -> Option<Ground<'a>>
+        ensures { IsGroundOf (met self.now.wanted) (Some self.now.course) result }
+    {
+        self.ground
+    }
+
+    /// The configurations of the course's offering, no two of one id.
+    pub fn configs(&self) -> &'a [ConfigRow]
+        ensures value { result.now ≡ configs_on self.now.wanted.world self.now.course }
+        ensures differ { IsTrue (all_differ (map (λ g. g.id.0) result.now)) }
+        ensures found { All (IsConfig self.now.wanted.world (Some self.now.course)) result.now }
+    {
+        configs(self.wanted.world(), self.course, self.ground)
+    }
+
+    /// The reservation at a place: obligatory ones first and each part by id, and behind them none. None exactly past the last.
+    #[inline(always)]
+    pub fn reservation(&self, i: usize) -> Option<Option<ReservationId>>
+        ensures { option_map picks_reservation result ≡ slice_get (options_at self.now.wanted.world self.now.wanted.mv (course_path self.now)) i }
+    {
+        self.wanted.recall_want();
+        self.rows.get(i)
+    }
+
+    /// The reservation of an id, if there is an id.
+    #[inline(always)]
+    pub fn named(&self, id: Option<ReservationId>) -> Option<&'a Reservation>
+        ensures { option_copied result ≡ option_and_then (reservation_of self.now.wanted.world) id }
+    {
+        let world = self.wanted.world();
+        world.reservation(id?)
+    }
+
+    /// The first rule that the choice of the reservation of this row, or of none, breaks, with its number. It takes no memory.
+    pub fn broken(
+        &self,
+        id: Option<ReservationId>,
+        row: Option<&Reservation>,
+    ) -> Option<(Rule, u32)>
+        requires { option_copied row ≡ option_and_then (reservation_of self.now.wanted.world) id }
+        ensures { result ≡ leaf_of self.now.wanted.world self.now.wanted.mv (course_path self.now) (picks_reservation id) }
+    {
+        let _ = id;
+        self.wanted.recall_want();
+        let moment = self.wanted.moment();
+        match self.ground {
+            Some(ground) => moment.reservation_rule(&ground, self.course, row),
+            None => None,
+        }
+    }
+}
