@@ -9,9 +9,9 @@ ghost use Rattle.sect_model.specs.Visits.{most_decisions};
 ghost use Rattle.sect_search.specs.Texts.{IsTold, IsToldIn};
 ghost use Rattle.sect_search.specs.Told.{OutcomeNumbers};
 
+use crate::searched::Searched;
 use crate::walk::below;
-use crate::walked::Walked;
-use sect_base::{Block, Budget, Items, Memory, Move, Steps};
+use sect_base::{Budget, Items, Memory, Move, Steps};
 use sect_model::Outcome;
 use sect_rules::{Due, LentMove, Wanted};
 use sect_space::World;
@@ -93,14 +93,11 @@ fn find<const N: usize>(
         Some(want) => {
             let wanted = Wanted::new(world, mv, &[], want);
             let mut left = budget.get();
-            let walked = below::<N>(alloc, Due::Course(&wanted), decisions(mv), &mut left)?;
-            Ok(match walked {
-                Walked::Found(choices) => Outcome::Found(choices, budget.get() - left),
-                Walked::Refuted(trees) => Outcome::Blocked(
-                    Block::split(trees),
-                    budget.get() - left,
-                ),
-                Walked::Spent => Outcome::Spent(budget.get()),
+            let searched = below::<N>(alloc, Due::Course(&wanted), decisions(mv), &mut left)?;
+            Ok(match searched {
+                Searched::Found(choices) => Outcome::Found(choices, budget.get() - left),
+                Searched::Refuted(tree) => Outcome::Blocked(tree, budget.get() - left),
+                Searched::Spent => Outcome::Spent(budget.get()),
             })
         }
     }

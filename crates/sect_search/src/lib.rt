@@ -4,9 +4,9 @@
 mod budget;
 mod finding;
 pub mod laws;
+mod searched;
 mod verifying;
 mod walk;
-mod walked;
 mod wants;
 
 pub use budget::usual_budget;

@@ -4,50 +4,49 @@
 ghost use Rattle.std.specs.Prelude.{◌≡◌, ◌-◌, ◌≤◌, ◌<◌, ◌++◌, ◌∷◌, [], length, Contains, IfOk};
 ghost use Rattle.sect_model.specs.Path.{options_at};
 ghost use Rattle.sect_model.specs.Stands.{MoveStands};
-ghost use Rattle.sect_model.specs.Search.{search_from};
 ghost use Rattle.sect_rules.specs.Completed.{opened};
 ghost use Rattle.sect_rules.specs.Due.{place_of, place_at, pick_at, IsStep};
-ghost use Rattle.sect_search.specs.Told.{told, seen, look, behind, as_one, go_from, WalkedNumbers, SeenNumbers};
+ghost use Rattle.sect_search.specs.Told.{told, look, behind, as_one, go_from, ToldNumbers};
 
-use crate::walked::{Visited, Walked};
+use crate::searched::Searched;
 use sect_base::{Block, Choice, Items, Memory};
 use sect_rules::{Configured, Due, Joined, OnCourse, PathOf, Step, Wanted, broken, step_at};
 use std::alloc::Global;
 
-/// The search below a node, of at most so many decisions, with what is left of the budget.
+/// The search below a node, of at most so many decisions, with its trees in one and with what is left of the budget.
 #[cycle(walking)]
 pub fn below<const N: usize>(
     alloc: Global,
     due: Due,
     decisions: u32,
     left: &mut u32,
-) -> Result<Walked, Memory>
+) -> Result<Searched, Memory>
     requires stands { MoveStands (place_of due).world (place_of due).mv }
     requires room { length (place_of due).mv.take ≤ N }
     requires limit { N ≤ 20 }
-    ensures found { IfOk result (λ r. told r left.new ≡ search_from (place_of due.entry).world (place_of due.entry).mv decisions (place_of due.entry).path left.old) }
-    ensures numbers { IfOk result WalkedNumbers }
+    ensures found { IfOk result (λ r. told r left.new ≡ as_one (place_of due.entry).world (place_of due.entry).mv (place_of due.entry).path decisions left.old) }
+    ensures numbers { IfOk result ToldNumbers }
     ensures less { left.new ≤ left.old }
 {
     let budget = *left;
     let mut trees = Vec::new(alloc);
     if decisions == 0 {
-        return Ok(Walked::Refuted(trees));
+        return Ok(Searched::Refuted(Block::split(trees)));
     }
     let mut at = 0;
     'options: while let Some(step) = step_at(due, at) {
         if *left == 0 {
-            return Ok(Walked::Spent);
+            return Ok(Searched::Spent);
         }
         *left -= 1;
         match visit::<N>(alloc, step, decisions - 1, left)? {
-            Visited::Found(choices) => return Ok(Walked::Found(choices)),
-            Visited::Refuted(tree) => trees.push(tree)?,
-            Visited::Spent => return Ok(Walked::Spent),
+            Searched::Found(choices) => return Ok(Searched::Found(choices)),
+            Searched::Refuted(tree) => trees.push(tree)?,
+            Searched::Spent => return Ok(Searched::Spent),
         }
         at += 1;
     }
-    Ok(Walked::Refuted(trees))
+    Ok(Searched::Refuted(Block::split(trees)))
 }
 
 /// A look at one option: it breaks a rule, or the search goes on behind it, with at most so many decisions more.
@@ -57,18 +56,18 @@ fn visit<const N: usize>(
     step: Step,
     decisions: u32,
     left: &mut u32,
-) -> Result<Visited, Memory>
+) -> Result<Searched, Memory>
     requires stands { MoveStands (place_at step).world (place_at step).mv }
     requires room { length (place_at step).mv.take ≤ N }
     requires limit { N ≤ 20 }
     requires option { Contains (options_at (place_at step).world (place_at step).mv (place_at step).path) (pick_at step) }
     requires row { IsStep step }
-    ensures found { IfOk result (λ r. seen r left.new ≡ look (place_at step.entry) (pick_at step.entry) decisions left.old) }
-    ensures numbers { IfOk result SeenNumbers }
+    ensures found { IfOk result (λ r. told r left.new ≡ look (place_at step.entry) (pick_at step.entry) decisions left.old) }
+    ensures numbers { IfOk result ToldNumbers }
     ensures less { left.new ≤ left.old }
 {
     match broken(step) {
-        Some((rule, number)) => Ok(Visited::Refuted(Block::broken(rule, number))),
+        Some((rule, number)) => Ok(Searched::Refuted(Block::broken(rule, number))),
         None => go_behind::<N>(alloc, step, decisions, left),
     }
 }
@@ -80,28 +79,28 @@ fn go_behind<const N: usize>(
     step: Step,
     decisions: u32,
     left: &mut u32,
-) -> Result<Visited, Memory>
+) -> Result<Searched, Memory>
     requires stands { MoveStands (place_at step).world (place_at step).mv }
     requires room { length (place_at step).mv.take ≤ N }
     requires limit { N ≤ 20 }
     requires option { Contains (options_at (place_at step).world (place_at step).mv (place_at step).path) (pick_at step) }
     requires row { IsStep step }
-    ensures found { IfOk result (λ r. seen r left.new ≡ behind (place_at step.entry) (pick_at step.entry) decisions left.old) }
-    ensures numbers { IfOk result SeenNumbers }
+    ensures found { IfOk result (λ r. told r left.new ≡ behind (place_at step.entry) (pick_at step.entry) decisions left.old) }
+    ensures numbers { IfOk result ToldNumbers }
     ensures less { left.new ≤ left.old }
 {
     match step {
         Step::Course(wanted, course) => {
             let on = OnCourse::new(wanted, course);
-            go_on::<N>(alloc, Due::Reservation(&on), decisions, left)
+            below::<N>(alloc, Due::Reservation(&on), decisions, left)
         }
         Step::Reservation(on, id) => {
             let by = Joined::new(on, id, on.named(id));
-            go_on::<N>(alloc, Due::Config(&by), decisions, left)
+            below::<N>(alloc, Due::Config(&by), decisions, left)
         }
         Step::Config(by, row) => {
             let inside = Configured::new(by, row);
-            go_on::<N>(alloc, Due::Section(&inside), decisions, left)
+            below::<N>(alloc, Due::Section(&inside), decisions, left)
         }
         Step::Section(inside, row) => {
             inside.recall_room(row.id);
@@ -111,7 +110,7 @@ fn go_behind<const N: usize>(
                 }
                 None => {
                     let next = inside.behind(row.id);
-                    go_on::<N>(alloc, Due::Section(&next), decisions, left)
+                    below::<N>(alloc, Due::Section(&next), decisions, left)
                 }
             }
         }
@@ -126,12 +125,12 @@ fn ended<const N: usize>(
     choice: Choice,
     decisions: u32,
     left: &mut u32,
-) -> Result<Visited, Memory>
+) -> Result<Searched, Memory>
     requires stands { MoveStands wanted.now.world wanted.now.mv }
     requires room { length wanted.now.mv.take ≤ N }
     requires limit { N ≤ 20 }
-    ensures found { IfOk result (λ r. seen r left.new ≡ go_from wanted.now.world wanted.now.mv (opened (wanted.now.done ++ choice ∷ [])) decisions left.old) }
-    ensures numbers { IfOk result SeenNumbers }
+    ensures found { IfOk result (λ r. told r left.new ≡ go_from wanted.now.world wanted.now.mv (opened (wanted.now.done ++ choice ∷ [])) decisions left.old) }
+    ensures numbers { IfOk result ToldNumbers }
     ensures less { left.new ≤ left.old }
 {
     wanted.recall_left();
@@ -140,35 +139,13 @@ fn ended<const N: usize>(
     match mv.want(done.len() + 1) {
         None => {
             let choices = with_choice(alloc, done, choice)?;
-            Ok(Visited::Found(choices))
+            Ok(Searched::Found(choices))
         }
         Some(want) => {
             let path = PathOf::<N>::made(done, choice);
             let next = Wanted::new(wanted.world(), mv, path.done(), want);
-            go_on::<N>(alloc, Due::Course(&next), decisions, left)
+            below::<N>(alloc, Due::Course(&next), decisions, left)
         }
-    }
-}
-
-/// The search below a node, with its trees in one.
-#[cycle(walking)]
-fn go_on<const N: usize>(
-    alloc: Global,
-    due: Due,
-    decisions: u32,
-    left: &mut u32,
-) -> Result<Visited, Memory>
-    requires stands { MoveStands (place_of due).world (place_of due).mv }
-    requires room { length (place_of due).mv.take ≤ N }
-    requires limit { N ≤ 20 }
-    ensures found { IfOk result (λ r. seen r left.new ≡ as_one (place_of due.entry).world (place_of due.entry).mv (place_of due.entry).path decisions left.old) }
-    ensures numbers { IfOk result SeenNumbers }
-    ensures less { left.new ≤ left.old }
-{
-    match below::<N>(alloc, due, decisions, left)? {
-        Walked::Found(choices) => Ok(Visited::Found(choices)),
-        Walked::Refuted(trees) => Ok(Visited::Refuted(Block::split(trees))),
-        Walked::Spent => Ok(Visited::Spent),
     }
 }
 

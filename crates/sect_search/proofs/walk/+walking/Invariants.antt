@@ -9,19 +9,16 @@ use Rattle.sect_search.specs.Told.{with_trees}
 use Rattle.sect_search.proofs.walk.+walking.Given as goal
 
 abbrev pub decreases-below : goal.decreases-below
-decreases-below g l = 6 * l.decisions + 1
+decreases-below g l = 4 * l.decisions
 
 abbrev pub decreases-visit : goal.decreases-visit
-decreases-visit g l = 6 * l.decisions + 5
+decreases-visit g l = 4 * l.decisions + 3
 
 abbrev pub decreases-go_behind : goal.decreases-go_behind
-decreases-go_behind g l = 6 * l.decisions + 4
+decreases-go_behind g l = 4 * l.decisions + 2
 
 abbrev pub decreases-ended : goal.decreases-ended
-decreases-ended g l = 6 * l.decisions + 3
-
-abbrev pub decreases-go_on : goal.decreases-go_on
-decreases-go_on g l = 6 * l.decisions + 2
+decreases-ended g l = 4 * l.decisions + 1
 
 abbrev pub invariant-below-options : goal.invariant-below-options
 invariant-below-options g l =
