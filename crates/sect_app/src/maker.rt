@@ -141,7 +141,7 @@ fn ask_all(
 {
     for place in 0..count_of(stage, offerings) {
         let command = command_at(alloc, stage, offerings, place)?;
-        ask(maker, day, &command)?;
+        ask(maker, day, command)?;
     }
     Ok(())
 }
@@ -175,10 +175,11 @@ fn command_at(alloc: Global, stage: Stage, offerings: u32, place: u32) -> Result
 }
 
 /// Asks the command as registrar 1 on the day, and counts the lines of the reply.
-fn ask(maker: &mut Maker, day: Day, command: &Command) -> Result<(), Memory>
-    ensures { OnOk result (tally_in maker.new ≡ tallied day (tally_in maker.old) command.now) }
+fn ask(maker: &mut Maker, day: Day, command: Command) -> Result<(), Memory>
+    ensures { OnOk result (tally_in maker.new ≡ tallied day (tally_in maker.old) command) }
 {
-    let (reply, _undo) = maker.machine.step(day, Caller::Registrar(1), command)?;
+    let mut command = command;
+    let (reply, _undo) = maker.machine.step(day, Caller::Registrar(1), &mut command)?;
     count(maker, lines_of(&reply))
 }
 

@@ -88,14 +88,17 @@ impl<O: TextObject, K: Keeper, C: Clock> Asker<O, K, C> {
         ensures { (day : ℕ) × IsAskedOn ask.day self.old.days self.new.days day
             × AnswersAsk O.stepped O.is_row K.rows K.faults ask.id day ask.command self.old.desk self.new.desk result }
     {
-        self.ask_lent(ask.day, ask.id, &ask.command)
+        let LineAsk { day, id, command } = ask;
+        let mut command = command;
+        self.ask_lent(day, id, &mut command)
     }
 
-    /// Asks a command with a text, which the caller keeps, on the day that was named, or where none was on the clock's.
-    fn ask_lent(&mut self, named: Option<Day>, id: Id, command: &Command) -> Answer<Reply>
-        requires { FitsId id × FitsCommand command.now }
+    /// Asks a command with a text, which the caller lends, on the day that was named, or where none was on the clock's. What is
+    /// left of the command isn't told.
+    fn ask_lent(&mut self, named: Option<Day>, id: Id, command: &mut Command) -> Answer<Reply>
+        requires { FitsId id × FitsCommand command.old }
         ensures { (day : ℕ) × IsAskedOn named self.old.days self.new.days day
-            × AnswersAsk O.stepped O.is_row K.rows K.faults id day command.now self.old.desk self.new.desk result }
+            × AnswersAsk O.stepped O.is_row K.rows K.faults id day command.old self.old.desk self.new.desk result }
     {
         let day = asked_on(named, &mut self.clock);
         self.desk.ask_lent(id, day, command)
@@ -129,8 +132,8 @@ impl<O: TextObject, K: Keeper, C: Clock> Asker<O, K, C> {
             Ok(front) => front,
             Err(fault) => return Err(line_fault(fault)),
         };
-        let read = read_line_command(alloc, front.verb, &mut words);
-        let command = match &read {
+        let mut read = read_line_command(alloc, front.verb, &mut words);
+        let command = match &mut read {
             Ok(command) => command,
             Err(fault) => return Err(line_fault(WireFault::from(*fault))),
         };

@@ -8,7 +8,7 @@ ghost use Rattle.sect_once.specs.History.{history};
 
 use crate::lines::print_entry;
 use crate::naming::{names_section, names_student};
-use sect_base::{Memory, SectionId, StudentId};
+use sect_base::{Duplicate, Memory, SectionId, StudentId};
 use sect_command::{Command, Reply};
 use sect_edge::Keeper;
 use sect_machine::Machine;
@@ -54,13 +54,14 @@ fn print_log<K: Keeper>(
     let mut machine = Machine::empty(alloc);
     for place in 0..desk.acted() {
         let entry = desk.entry(place)?;
-        print_next(&mut machine, log, place, &entry, into)?;
+        print_next(alloc, &mut machine, log, place, &entry, into)?;
     }
     Ok(())
 }
 
 /// Acts the entry's command, and appends the lines of the entry where it is told.
 fn print_next(
+    alloc: Global,
     machine: &mut Machine,
     log: Log,
     place: u32,
@@ -70,7 +71,8 @@ fn print_next(
     ensures state { OnOk result (state_in machine.new ≡ (stepped (state_in machine.old) entry.now.day entry.now.id.caller entry.now.command).0) }
     ensures text { OnOk result (into.new.items ≡ into.old.items ++ told_text log (logged_at (state_in machine.old) place entry.now)) }
 {
-    let step = machine.step_told(entry.day, entry.id.caller, &entry.command)?;
+    let mut command = entry.command.copy(alloc)?;
+    let step = machine.step_told(entry.day, entry.id.caller, &mut command)?;
     print_told(log, place, entry, step.placed.as_slice(), into)?;
     Ok(())
 }

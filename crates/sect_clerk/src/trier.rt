@@ -85,11 +85,11 @@ impl<O: Object, K: Keeper, C: Clock> Trier<O, K, C> {
 
 impl<O: TextObject, K: Keeper, C: Clock> Trier<O, K, C> {
     /// What a request would be answered on a day.
-    pub fn would_answer(&mut self, id: &Id, day: Day, command: &Command) -> Answer<Reply>
-        ensures answer { WouldAnswer O.stepped O.is_row id.now day command.now self.old.desk result }
+    pub fn would_answer(&mut self, id: &Id, day: Day, command: Command) -> Answer<Reply>
+        ensures answer { WouldAnswer O.stepped O.is_row id.now day command self.old.desk result }
         ensures same { self.new ≡ self.old }
     {
-        let Ok(seen) = self.desk.find(id, command) else {
+        let Ok(seen) = self.desk.find(id, &command) else {
             return Answer::Memory;
         };
         match seen {
@@ -120,14 +120,15 @@ impl<O: TextObject, K: Keeper, C: Clock> Trier<O, K, C> {
     }
 
     /// The reply that a new request would have. The object acts, and takes it back.
-    fn act(&mut self, id: &Id, day: Day, command: &Command) -> Answer<Reply>
+    fn act(&mut self, id: &Id, day: Day, command: Command) -> Answer<Reply>
         requires new { IsNew id.now (history self.old.desk.log) }
         requires room { IsFull O.is_row self.old.desk.log → ⊥ }
-        ensures answer { WouldAnswer O.stepped O.is_row id.now day command.now self.old.desk result }
+        ensures answer { WouldAnswer O.stepped O.is_row id.now day command self.old.desk result }
         ensures same { self.new ≡ self.old }
     {
         let place = self.desk.acted();
-        match self.object.step(day, id.caller, command) {
+        let mut command = command;
+        match self.object.step(day, id.caller, &mut command) {
             Ok((reply, undo)) => {
                 self.object.undo(undo);
                 Answer::Done { place, reply }
@@ -137,12 +138,13 @@ impl<O: TextObject, K: Keeper, C: Clock> Trier<O, K, C> {
     }
 
     /// What a request with a text would be answered on its day, or where it names none on the clock's.
-    pub fn try_ask(&mut self, ask: &LineAsk) -> Answer<Reply>
-        ensures { (day : ℕ) × IsAskedOn ask.now.day self.old.days self.new.days day
-            × WouldAnswer O.stepped O.is_row ask.now.id day ask.now.command self.old.desk result × (self.new.desk ≡ self.old.desk) }
+    pub fn try_ask(&mut self, ask: LineAsk) -> Answer<Reply>
+        ensures { (day : ℕ) × IsAskedOn ask.day self.old.days self.new.days day
+            × WouldAnswer O.stepped O.is_row ask.id day ask.command self.old.desk result × (self.new.desk ≡ self.old.desk) }
     {
-        let day = asked_on(ask.day, &mut self.clock);
-        self.would_answer(&ask.id, day, &ask.command)
+        let LineAsk { day, id, command } = ask;
+        let day = asked_on(day, &mut self.clock);
+        self.would_answer(&id, day, command)
     }
 
     /// Puts the answer to a line that isn't passed over behind what `into` holds, which is nothing.
@@ -155,7 +157,7 @@ impl<O: TextObject, K: Keeper, C: Clock> Trier<O, K, C> {
         ensures memory { IsErrOf result faults.Memory → MayAnswer (TriesLine O.stepped O.is_row) self.old line.now self.new }
     {
         let ask = read_request(*into.allocator(), line)?;
-        let answer = self.try_ask(&ask);
+        let answer = self.try_ask(ask);
         match print_answer(&answer, into) {
             Ok(()) => Ok(()),
             Err(Memory) => Err(LineFault::Memory),

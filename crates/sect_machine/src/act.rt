@@ -5,7 +5,7 @@ ghost use Rattle.sect_model.specs.Accepted.{CommandFits};
 ghost use Rattle.sect_model.specs.Step.{act as act_of};
 ghost use Rattle.sect_space.specs.Undo.{Undoable};
 ghost use Rattle.sect_wait.specs.Queued.{state_of};
-ghost use Rattle.sect_machine.specs.Acting.{amended_or};
+ghost use Rattle.sect_machine.specs.Acting.{amended_or, IsLeft};
 ghost use Rattle.sect_machine.specs.Opening.{RecordsLimit};
 ghost use Rattle.sect_machine.specs.Tracked.{Tracked};
 ghost use Rattle.sect_wait.specs.Undo.{Undoable as QueueUndoable};
@@ -18,22 +18,24 @@ use sect_wait::{Queue, QueueUndo};
 use std::alloc::Global;
 use std::sync::ledger::Ledger;
 
-/// Acts a command that fits. Where memory runs out, some of it is done.
+/// Acts a command that fits, of which the world takes over the row of an offering, of a student, or the requests. Where memory
+/// runs out, some of it is done.
 pub fn act<L: Ledger>(
     alloc: Global,
     world: &mut World,
     queue: &mut Queue,
-    command: &Command,
+    command: &mut Command,
     undo: &mut Undo,
     queue_undo: &mut QueueUndo,
     steps: &mut Steps<L>,
 ) -> Result<Reply, Memory>
-    requires fits { CommandFits world.old.world command.now }
+    requires fits { CommandFits world.old.world command.old }
     requires undoable { Undoable world.old undo.old.backs }
     requires queue_undoable { QueueUndoable queue.old queue_undo.old }
-    ensures acted { IfOk result (λ reply. act_of (state_of world.old.world queue.old.queue) command.now
+    ensures acted { IfOk result (λ reply. act_of (state_of world.old.world queue.old.queue) command.old
         ≡ record { state = state_of world.new.world queue.new.queue; reply = reply }) }
-    ensures recorded { OnOk result (RecordsLimit world.old.world command.now undo.old.backs undo.new.backs) }
+    ensures left { OnOk result (IsLeft command.old command.new) }
+    ensures recorded { OnOk result (RecordsLimit world.old.world command.old undo.old.backs undo.new.backs) }
     ensures tracked { Tracked world.old undo.old.backs queue.old queue_undo.old world.new undo.new.backs queue.new queue_undo.new }
 {
     match command {

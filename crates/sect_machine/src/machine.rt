@@ -60,15 +60,15 @@ fn counted<L: Ledger>(
     machine: &mut Machine,
     day: Day,
     caller: Caller,
-    command: &Command,
+    command: &mut Command,
     blank: Blank,
 ) -> Result<ToldStep, Memory>
     requires name { blank.name ≡ L.name }
     requires parts { blank.parts ≡ L.parts }
     requires some { 0 < blank.parts }
-    ensures state { IfOk result (λ r. state_in machine.new ≡ (step_of (state_in machine.old) day caller command.now).state) }
-    ensures reply { IfOk result (λ r. r.reply ≡ (step_of (state_in machine.old) day caller command.now).reply) }
-    ensures placed { IfOk result (λ r. r.placed ≡ placements (state_in machine.old) day caller command.now) }
+    ensures state { IfOk result (λ r. state_in machine.new ≡ (step_of (state_in machine.old) day caller command.old).state) }
+    ensures reply { IfOk result (λ r. r.reply ≡ (step_of (state_in machine.old) day caller command.old).reply) }
+    ensures placed { IfOk result (λ r. r.placed ≡ placements (state_in machine.old) day caller command.old) }
     ensures undo { IfOk result (λ r. Restores r.undo machine.new (state_in machine.old)) }
     ensures err { OnErr result (state_in machine.new ≡ state_in machine.old) }
 {
@@ -99,11 +99,11 @@ impl Machine {
         &mut self,
         day: Day,
         caller: Caller,
-        command: &Command,
+        command: &mut Command,
     ) -> Result<ToldStep, Memory>
-        ensures state { IfOk result (λ r. state_in self.new ≡ (step_of (state_in self.old) day caller command.now).state) }
-        ensures reply { IfOk result (λ r. r.reply ≡ (step_of (state_in self.old) day caller command.now).reply) }
-        ensures placed { IfOk result (λ r. r.placed ≡ placements (state_in self.old) day caller command.now) }
+        ensures state { IfOk result (λ r. state_in self.new ≡ (step_of (state_in self.old) day caller command.old).state) }
+        ensures reply { IfOk result (λ r. r.reply ≡ (step_of (state_in self.old) day caller command.old).reply) }
+        ensures placed { IfOk result (λ r. r.placed ≡ placements (state_in self.old) day caller command.old) }
         ensures undo { IfOk result (λ r. Restores r.undo self.new (state_in self.old)) }
         ensures err { OnErr result (state_in self.new ≡ state_in self.old) }
     {
@@ -115,12 +115,12 @@ impl Machine {
         &mut self,
         day: Day,
         caller: Caller,
-        command: &Command,
+        command: &mut Command,
         steps: &mut Steps<L>,
     ) -> Result<ToldStep, Memory>
-        ensures state { IfOk result (λ r. state_in self.new ≡ (step_of (state_in self.old) day caller command.now).state) }
-        ensures reply { IfOk result (λ r. r.reply ≡ (step_of (state_in self.old) day caller command.now).reply) }
-        ensures placed { IfOk result (λ r. r.placed ≡ placements (state_in self.old) day caller command.now) }
+        ensures state { IfOk result (λ r. state_in self.new ≡ (step_of (state_in self.old) day caller command.old).state) }
+        ensures reply { IfOk result (λ r. r.reply ≡ (step_of (state_in self.old) day caller command.old).reply) }
+        ensures placed { IfOk result (λ r. r.placed ≡ placements (state_in self.old) day caller command.old) }
         ensures undo { IfOk result (λ r. Restores r.undo self.new (state_in self.old)) }
         ensures err { OnErr result (state_in self.new ≡ state_in self.old) }
     {
@@ -142,10 +142,10 @@ impl Machine {
         &mut self,
         day: Day,
         caller: Caller,
-        command: &Command,
+        command: &mut Command,
     ) -> Result<(Reply, MachineUndo), Memory>
-        ensures state { IfOk result (λ r. state_in self.new ≡ (step_of (state_in self.old) day caller command.now).state) }
-        ensures reply { IfOk result (λ r. r.0 ≡ (step_of (state_in self.old) day caller command.now).reply) }
+        ensures state { IfOk result (λ r. state_in self.new ≡ (step_of (state_in self.old) day caller command.old).state) }
+        ensures reply { IfOk result (λ r. r.0 ≡ (step_of (state_in self.old) day caller command.old).reply) }
         ensures undo { IfOk result (λ r. Restores r.1 self.new (state_in self.old)) }
         ensures err { OnErr result (state_in self.new ≡ state_in self.old) }
     {

@@ -6,7 +6,7 @@ ghost use Rattle.sect_model.specs.Look.{look as looked_at};
 ghost use Rattle.sect_model.specs.Step.{step as step_of};
 ghost use Rattle.sect_rows.specs.Laws.{MayAsk};
 ghost use Rattle.sect_read.specs.ReadingLines.{row_of};
-ghost use Rattle.sect_wire.specs.ToldRows.{IsReplyText};
+ghost use Rattle.sect_wire.specs.ToldRows.{IsReplyText, IsRequestText};
 ghost use Rattle.sect_wire.specs.Laws.{IsRow};
 ghost use Rattle.sect_machine.specs.Standing.{state_in, Restores};
 
@@ -18,7 +18,7 @@ use sect_command::{Command, Query, Reply, View};
 use sect_once::{Entry, Object};
 use sect_space::World;
 use sect_wait::{Marks, Queue};
-use sect_wire::{TextObject, print_told_row, read_row};
+use sect_wire::{TextObject, print_request, print_told_reply, read_row};
 use std::alloc::Global;
 
 impl TextObject for Machine {
@@ -50,6 +50,8 @@ impl Object for Machine {
 
     ghost looked = { looked_at };
 
+    ghost is_request = { IsRequestText };
+
     ghost is_row = { IsRow };
 
     ghost is_told = { IsReplyText };
@@ -71,7 +73,7 @@ impl Object for Machine {
         &mut self,
         day: Day,
         caller: Caller,
-        command: &Command,
+        command: &mut Command,
     ) -> Result<(Reply, MachineUndo), Memory> {
         self.act(day, caller, command)
     }
@@ -92,14 +94,18 @@ impl Object for Machine {
         a.same(b)
     }
 
-    fn print_entry(
+    fn print_request(
         id: Id,
         day: Day,
         command: &Command,
-        reply: &Reply,
         into: &mut Vec<u8>,
-    ) -> Result<usize, Memory> {
-        print_told_row(id, day, command, reply, into)
+    ) -> Result<(), Memory> {
+        into.clear();
+        print_request(id, day, command, into)
+    }
+
+    fn print_reply(reply: &Reply, into: &mut Vec<u8>) -> Result<usize, Memory> {
+        print_told_reply(reply, into)
     }
 
     fn read_entry(alloc: Global, row: &[u8]) -> Result<Option<Entry<Command, Reply>>, Memory> {

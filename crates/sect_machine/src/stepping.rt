@@ -41,14 +41,14 @@ pub fn step<L: Ledger>(
     marks: &mut Marks,
     day: Day,
     caller: Caller,
-    command: &Command,
+    command: &mut Command,
     steps: &mut Steps<L>,
 ) -> Result<ToldStep, Memory>
     requires resting { IsResting (state_of world.old.world queue.old.queue) }
     requires others { OthersNeedNoSearch world.old.world queue.old.queue.entries marks.old }
-    ensures acted { IfOk result (λ r. step_of (state_of world.old.world queue.old.queue) day caller command.now
+    ensures acted { IfOk result (λ r. step_of (state_of world.old.world queue.old.queue) day caller command.old
         ≡ record { state = state_of world.new.world queue.new.queue; reply = r.reply }) }
-    ensures placed { IfOk result (λ r. r.placed ≡ placements (state_of world.old.world queue.old.queue) day caller command.now) }
+    ensures placed { IfOk result (λ r. r.placed ≡ placements (state_of world.old.world queue.old.queue) day caller command.old) }
     ensures undo { IfOk result (λ r. Restores r.undo (record { world = world.new; queue = queue.new }) (state_of world.old.world queue.old.queue)) }
     ensures world_err { OnErr result (world.new.world ≡ world.old.world) }
     ensures queue_err { OnErr result (queue.new.queue ≡ queue.old.queue) }
@@ -96,7 +96,7 @@ fn settled<L: Ledger>(
     marks: &mut Marks,
     day: Day,
     caller: Caller,
-    command: &Command,
+    command: &mut Command,
     undo: &mut Undo,
     queue_undo: &mut QueueUndo,
     steps: &mut Steps<L>,
@@ -105,9 +105,9 @@ fn settled<L: Ledger>(
     requires others { OthersNeedNoSearch world.old.world queue.old.queue.entries marks.old }
     requires undoable { Undoable world.old undo.old.backs }
     requires queue_undoable { QueueUndoable queue.old queue_undo.old }
-    ensures acted { IfOk result (λ told. step_of (state_of world.old.world queue.old.queue) day caller command.now
+    ensures acted { IfOk result (λ told. step_of (state_of world.old.world queue.old.queue) day caller command.old
         ≡ record { state = state_of world.new.world queue.new.queue; reply = told.0 }) }
-    ensures placed { IfOk result (λ told. told.1 ≡ placements (state_of world.old.world queue.old.queue) day caller command.now) }
+    ensures placed { IfOk result (λ told. told.1 ≡ placements (state_of world.old.world queue.old.queue) day caller command.old) }
     ensures tracked { Tracked world.old undo.old.backs queue.old queue_undo.old world.new undo.new.backs queue.new queue_undo.new }
     ensures others { OnOk result (OthersNeedNoSearch world.new.world queue.new.queue.entries marks.new) }
 {
@@ -177,7 +177,7 @@ fn answer<L: Ledger>(
     marks: &mut Marks,
     opened: &mut Opened,
     caller: Caller,
-    command: &Command,
+    command: &mut Command,
     undo: &mut Undo,
     queue_undo: &mut QueueUndo,
     steps: &mut Steps<L>,
@@ -186,7 +186,7 @@ fn answer<L: Ledger>(
     requires others { OthersNeedNoSearch world.old.world queue.old.queue.entries marks.old }
     requires undoable { Undoable world.old undo.old.backs }
     requires queue_undoable { QueueUndoable queue.old queue_undo.old }
-    ensures acted { IfOk result (λ reply. answered (state_of world.old.world queue.old.queue) caller command.now
+    ensures acted { IfOk result (λ reply. answered (state_of world.old.world queue.old.queue) caller command.old
         ≡ record { state = state_of world.new.world queue.new.queue; reply = reply }) }
     ensures tracked { Tracked world.old undo.old.backs queue.old queue_undo.old world.new undo.new.backs queue.new queue_undo.new }
     ensures others { OnOk result (OthersBut world.new.world queue.new.queue.entries marks.new opened.new) }
@@ -207,17 +207,17 @@ fn marked_act<L: Ledger>(
     queue: &mut Queue,
     marks: &mut Marks,
     opened: &mut Opened,
-    command: &Command,
+    command: &mut Command,
     undo: &mut Undo,
     queue_undo: &mut QueueUndo,
     steps: &mut Steps<L>,
 ) -> Result<Reply, Memory>
     requires kept { KeptState (state_of world.old.world queue.old.queue) }
-    requires fits { CommandFits world.old.world command.now }
+    requires fits { CommandFits world.old.world command.old }
     requires others { OthersNeedNoSearch world.old.world queue.old.queue.entries marks.old }
     requires undoable { Undoable world.old undo.old.backs }
     requires queue_undoable { QueueUndoable queue.old queue_undo.old }
-    ensures acted { IfOk result (λ reply. act_of (state_of world.old.world queue.old.queue) command.now
+    ensures acted { IfOk result (λ reply. act_of (state_of world.old.world queue.old.queue) command.old
         ≡ record { state = state_of world.new.world queue.new.queue; reply = reply }) }
     ensures tracked { Tracked world.old undo.old.backs queue.old queue_undo.old world.new undo.new.backs queue.new queue_undo.new }
     ensures others { OnOk result (OthersBut world.new.world queue.new.queue.entries marks.new opened.new) }
@@ -261,17 +261,17 @@ fn all_marked_act<L: Ledger>(
     world: &mut World,
     queue: &mut Queue,
     marks: &mut Marks,
-    command: &Command,
+    command: &mut Command,
     undo: &mut Undo,
     queue_undo: &mut QueueUndo,
     steps: &mut Steps<L>,
 ) -> Result<Reply, Memory>
     requires kept { KeptState (state_of world.old.world queue.old.queue) }
-    requires fits { CommandFits world.old.world command.now }
+    requires fits { CommandFits world.old.world command.old }
     requires others { OthersNeedNoSearch world.old.world queue.old.queue.entries marks.old }
     requires undoable { Undoable world.old undo.old.backs }
     requires queue_undoable { QueueUndoable queue.old queue_undo.old }
-    ensures acted { IfOk result (λ reply. act_of (state_of world.old.world queue.old.queue) command.now
+    ensures acted { IfOk result (λ reply. act_of (state_of world.old.world queue.old.queue) command.old
         ≡ record { state = state_of world.new.world queue.new.queue; reply = reply }) }
     ensures tracked { Tracked world.old undo.old.backs queue.old queue_undo.old world.new undo.new.backs queue.new queue_undo.new }
     ensures others { OnOk result (OthersNeedNoSearch world.new.world queue.new.queue.entries marks.new) }

@@ -1,11 +1,11 @@
 -- A row of 26 bytes in its parts.
-use Rattle.std.proofs.Common.{◌≡◌, ℕ, zero, suc, ◌+◌, ◌-◌, List, [], ◌∷◌, ◌++◌, length, take, drop, get_or, refl, sym, ap, ◌∙◌, arith}
+use Rattle.std.proofs.Common.{◌≡◌, ℕ, zero, suc, ◌+◌, List, [], ◌∷◌, ◌++◌, length, take, drop, get_or, refl, sym, ap, ◌∙◌, arith}
 use Rattle.std.specs.Int.{to_be_bytes, w32, w64}
-use Rattle.std.proofs.Math.Seq.{drop-append-add, drop-cons}
-use Rattle.std.proofs.lemmas.List.{length-append, length-drop, take-append-drop, take_all}
+use Rattle.std.proofs.Math.Seq.{drop-cons}
+use Rattle.std.proofs.lemmas.List.{length-drop, take-append-drop, take_all}
+use Rattle.sect_base.specs.declared.limit.Id.{Id}
 use Rattle.sect_once.specs.declared.entry.Entry.{Entry}
-use Rattle.sect_once.specs.Tallies.{IsSumText, IsTallyRow, caller_number, caller_tag, tally_row}
-use Rattle.sect_once.specs.Told.{TellsFrom}
+use Rattle.sect_once.specs.Tallies.{caller_number, caller_tag, tally_request, tally_row}
 
 drop-none : (n : ℕ) → ◌≡◌ {A = List ℕ} (drop n []) []
 drop-none zero = refl
@@ -40,26 +40,14 @@ row_read row e day number long a day_is b c number_is d command f =
     let number' : to_be_bytes w32 (caller_number e.id.caller) ≡ take 4 (drop 5 row) = ap (to_be_bytes w32) number_is ∙ c in
     parts_of row long ∙ (λ i. sym day' i ++ sym b i ∷ (sym number' i ++ (sym d i ++ sym command i ∷ sym f i)))
 
--- the bytes of four numbers, with a letter and a byte between
-abbrev cells : List ℕ → ℕ → List ℕ → List ℕ → ℕ → List ℕ → List ℕ
-cells a tag b n command r = get_or a 0 0 ∷ get_or a 1 0 ∷ get_or a 2 0 ∷ get_or a 3 0 ∷ tag ∷ get_or b 0 0 ∷ get_or b 1 0 ∷ get_or b 2 0 ∷ get_or b 3 0
-    ∷ get_or n 0 0 ∷ get_or n 1 0 ∷ get_or n 2 0 ∷ get_or n 3 0 ∷ get_or n 4 0 ∷ get_or n 5 0 ∷ get_or n 6 0 ∷ get_or n 7 0 ∷ command
-    ∷ get_or r 0 0 ∷ get_or r 1 0 ∷ get_or r 2 0 ∷ get_or r 3 0 ∷ get_or r 4 0 ∷ get_or r 5 0 ∷ get_or r 6 0 ∷ get_or r 7 0 ∷ []
+-- the bytes of three numbers, with a letter between and a byte behind
+abbrev cells : List ℕ → ℕ → List ℕ → List ℕ → ℕ → List ℕ
+cells a tag b n command = get_or a 0 0 ∷ get_or a 1 0 ∷ get_or a 2 0 ∷ get_or a 3 0 ∷ tag ∷ get_or b 0 0 ∷ get_or b 1 0 ∷ get_or b 2 0 ∷ get_or b 3 0
+    ∷ get_or n 0 0 ∷ get_or n 1 0 ∷ get_or n 2 0 ∷ get_or n 3 0 ∷ get_or n 4 0 ∷ get_or n 5 0 ∷ get_or n 6 0 ∷ get_or n 7 0 ∷ command ∷ []
 
-pub row_made : (e : Entry ℕ ℕ) (day tag caller : ℕ) (a b n r : List ℕ) → a ≡ to_be_bytes w32 day → day ≡ e.day → tag ≡ caller_tag e.id.caller → b ≡ to_be_bytes w32 caller → caller ≡ caller_number e.id.caller
-    → n ≡ to_be_bytes w64 e.id.number → r ≡ to_be_bytes w64 e.reply → cells a tag b n e.command r ≡ tally_row e
-row_made e day tag caller a b n r a_is day_is tag_is b_is caller_is n_is r_is =
-    let a' : a ≡ to_be_bytes w32 e.day = a_is ∙ ap (to_be_bytes w32) day_is in
-    let b' : b ≡ to_be_bytes w32 (caller_number e.id.caller) = b_is ∙ ap (to_be_bytes w32) caller_is in
-    λ i. cells (a' i) (tag_is i) (b' i) (n_is i) e.command (r_is i)
-
--- a row ends in the eight bytes of the reply
-pub row_tells : (old new row : List ℕ) (e : Entry ℕ ℕ) (count : ℕ) → IsTallyRow e row → new ≡ old ++ row → count ≡ length new → TellsFrom IsSumText (count - 8) new e.reply
-row_tells old new row e count written is many =
-    let long : length row ≡ 26 = ap length written.is in
-    let all : length new ≡ length old + length row = ap length is ∙ length-append old row in
-    let at : count - 8 ≡ length old + 18 = omega (arith, long, all, many) in
-    let last : drop 18 (tally_row e) ≡ to_be_bytes w64 e.reply = refl in record {
-      within = omega (arith, at, all, long);
-      told = ap (λ (n : ℕ). drop n new) at ∙ ap (drop (length old + 18)) is ∙ drop-append-add old row 18 ∙ ap (drop 18) written.is ∙ last;
-    }
+pub request_made : (id : Id) (of command day tag caller : ℕ) (a b n : List ℕ) → a ≡ to_be_bytes w32 day → day ≡ of → tag ≡ caller_tag id.caller → b ≡ to_be_bytes w32 caller → caller ≡ caller_number id.caller
+    → n ≡ to_be_bytes w64 id.number → cells a tag b n command ≡ tally_request id of command
+request_made id of command day tag caller a b n a_is day_is tag_is b_is caller_is n_is =
+    let a' : a ≡ to_be_bytes w32 of = a_is ∙ ap (to_be_bytes w32) day_is in
+    let b' : b ≡ to_be_bytes w32 (caller_number id.caller) = b_is ∙ ap (to_be_bytes w32) caller_is in
+    λ i. cells (a' i) (tag_is i) (b' i) (n_is i) command

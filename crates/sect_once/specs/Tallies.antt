@@ -1,5 +1,5 @@
 -- The row of a tally's entry: 26 bytes.
-use Rattle.std.specs.Prelude.{◌≡◌, ℕ, ◌+◌, ◌-◌, ◌<◌, ◌≤◌, ◌^◌, ◌==◌, Bool, true, false, min, List, ◌∷◌, ◌++◌, Option, Some, drop, get_or, take}
+use Rattle.std.specs.Prelude.{◌≡◌, ℕ, ◌+◌, ◌-◌, ◌<◌, ◌≤◌, ◌^◌, ◌==◌, Bool, true, false, min, List, [], ◌∷◌, ◌++◌, Option, Some, drop, get_or, take}
 use Rattle.std.specs.Int.{from_be_bytes, to_be_bytes, w32, w64}
 use Rattle.sect_base.specs.declared.limit.Caller.{Caller}
 use Rattle.sect_base.specs.declared.limit.Id.{Id}
@@ -19,6 +19,14 @@ caller_number (Student s) = s.0
 -- the day, the caller's letter and number, the request's number, the command and the reply, each number with its highest byte first
 abbrev pub tally_row : Entry ℕ ℕ → List ℕ
 tally_row e = to_be_bytes w32 e.day ++ caller_tag e.id.caller ∷ (to_be_bytes w32 (caller_number e.id.caller) ++ (to_be_bytes w64 e.id.number ++ e.command ∷ to_be_bytes w64 e.reply))
+
+-- a request's part of a row: the day, the caller's letter and number, the request's number and the command
+abbrev pub tally_request : Id → ℕ → ℕ → List ℕ
+tally_request id day command = to_be_bytes w32 day ++ caller_tag id.caller ∷ (to_be_bytes w32 (caller_number id.caller) ++ (to_be_bytes w64 id.number ++ command ∷ []))
+
+-- the text is that of the request
+abbrev pub IsTallyRequest : Id → ℕ → ℕ → List ℕ → Type 0
+IsTallyRequest id day command text = text ≡ tally_request id day command
 
 -- the caller with a letter and a number
 abbrev pub tagged : Bool → ℕ → Caller

@@ -16,31 +16,16 @@ use sect_base::{Caller, Day, Id, Memory};
 use sect_edge::{KeepFault, Keeper};
 use std::collections::HashMap;
 
-/// Prints the row of an entry into the buffer, where it stands alone, and gives the place of the reply's text.
-fn written<O: Object>(
-    id: Id,
-    day: Day,
-    command: &O::Command,
-    reply: &O::Reply,
-    row: &mut Vec<u8>,
-) -> Result<usize, Memory>
-    requires { HasRow O.is_row (record { id = id; day = day; command = command.now; reply = reply.now }) }
-    ensures row { OnOk result (O.is_row (record { id = id; day = day; command = command.now; reply = reply.now }) row.new.items) }
-    ensures told { IfOk result (λ at. TellsFrom O.is_told at row.new.items reply.now) }
-{
-    row.clear();
-    O::print_entry(id, day, command, reply, row)
-}
-
-/// Acts a command on the object in its place. After want of memory the state is as before.
+/// Acts a command on the object in its place, which may take over what it keeps of it. After want of memory the state is as
+/// before.
 pub(crate) fn step_in<O: Object>(
     object: &mut Box<O>,
     day: Day,
     caller: Caller,
-    command: &O::Command,
+    command: &mut O::Command,
 ) -> Result<(O::Reply, O::Undo), Memory>
-    ensures state { IfOk result (λ r. O.state object.new.value ≡ (O.stepped (O.state object.old.value) day caller command.now).0) }
-    ensures reply { IfOk result (λ r. r.0 ≡ (O.stepped (O.state object.old.value) day caller command.now).1) }
+    ensures state { IfOk result (λ r. O.state object.new.value ≡ (O.stepped (O.state object.old.value) day caller command.old).0) }
+    ensures reply { IfOk result (λ r. r.0 ≡ (O.stepped (O.state object.old.value) day caller command.old).1) }
     ensures undo { IfOk result (λ r. O.restores r.1 object.new.value (O.state object.old.value)) }
     ensures err { OnErr result (O.state object.new.value ≡ O.state object.old.value) }
 {
@@ -86,31 +71,35 @@ fn keep<K: Keeper>(
 }
 
 impl<O: Object> Past<O> {
-    /// A new request acts, and its row, which is printed into the buffer, is appended. The place of the reply's text comes with
-    /// the reply. On a fault the past and the keeper's rows are as before.
+    /// A new request acts, and its row, which is printed into the buffer, is appended. The request is printed before it acts, since
+    /// the object may take over what it keeps of the command. The place of the reply's text comes with the reply. On a fault the
+    /// past and the keeper's rows are as before.
     pub(crate) fn act<K: Keeper>(
         &mut self,
         keeper: &mut K,
         row: &mut Vec<u8>,
         id: Id,
         day: Day,
-        command: &O::Command,
+        command: &mut O::Command,
     ) -> Result<(O::Reply, usize), KeepFault>
-        requires askable { O.may_ask id day command.now }
+        requires askable { O.may_ask id day command.old }
         requires new { IsNew id self.old.entries }
         requires notes { length self.old.entries < 2 ^ 20 }
         ensures ok { IfOk result (λ r. Adds O.stepped O.is_row
-            (record { id = id; day = day; command = command.now; reply = r.0 }) self.old self.new (K.rows keeper.old)
+            (record { id = id; day = day; command = command.old; reply = r.0 }) self.old self.new (K.rows keeper.old)
             (K.rows keeper.new)) }
         ensures told { IfOk result (λ r. TellsFrom O.is_told r.1 row.new.items r.0) }
         ensures same { OnErr result (self.new ≡ self.old) }
         ensures rows { OnErr result (KeepsRows (K.rows keeper.old) (K.rows keeper.new)) }
         ensures cause { HasCauseFor KeepFault.Failed (K.faults keeper.old) (K.faults keeper.new) result }
     {
+        let Ok(()) = O::print_request(id, day, command, row) else {
+            return Err(KeepFault::Memory);
+        };
         let Ok((reply, undo)) = step_in(&mut self.object, day, id.caller, command) else {
             return Err(KeepFault::Memory);
         };
-        let Ok(at) = written::<O>(id, day, command, &reply, row) else {
+        let Ok(at) = O::print_reply(&reply, row) else {
             take_back(&mut self.object, undo);
             return Err(KeepFault::Memory);
         };

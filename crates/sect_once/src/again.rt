@@ -22,15 +22,16 @@ where
     let mut object = O::empty(alloc);
     for place in 0..count {
         let entry = desk.entry(place)?;
-        act(&mut object, &entry)?;
+        act(&mut object, entry)?;
     }
     Ok(object)
 }
 
 /// Acts the entry's command.
-fn act<O: Object>(object: &mut O, entry: &Entry<O::Command, O::Reply>) -> Result<(), Memory>
-    ensures { OnOk result (O.state object.new ≡ (O.stepped (O.state object.old) entry.now.day entry.now.id.caller entry.now.command).0) }
+fn act<O: Object>(object: &mut O, entry: Entry<O::Command, O::Reply>) -> Result<(), Memory>
+    ensures { OnOk result (O.state object.new ≡ (O.stepped (O.state object.old) entry.day entry.id.caller entry.command).0) }
 {
-    let (_reply, _undo) = object.step(entry.day, entry.id.caller, &entry.command)?;
+    let mut entry = entry;
+    let (_reply, _undo) = object.step(entry.day, entry.id.caller, &mut entry.command)?;
     Ok(())
 }

@@ -54,12 +54,12 @@ impl<O: Object, K: Keeper> Desk<O, K> {
     }
 
     /// A new request acts.
-    fn act(&mut self, id: Id, day: Day, command: &O::Command) -> Answer<O::Reply>
-        requires askable { O.may_ask id day command.now }
+    fn act(&mut self, id: Id, day: Day, command: &mut O::Command) -> Answer<O::Reply>
+        requires askable { O.may_ask id day command.old }
         requires new { IsNew id (history self.old.log) }
         requires room { IsFull O.is_row self.old.log → ⊥ }
         ensures sound { IsSound O.stepped O.is_row K.rows K.faults O.start self.new }
-        ensures answer { Answers O.stepped O.is_row K.rows K.faults id day command.now self.old self.new result }
+        ensures answer { Answers O.stepped O.is_row K.rows K.faults id day command.old self.old self.new result }
     {
         if self.unkept.reserve(1).is_err() {
             self.recall_sound();
@@ -104,13 +104,14 @@ impl<O: Object, K: Keeper> Desk<O, K> {
         ensures answer { Answers O.stepped O.is_row K.rows K.faults id day command self.old self.new result }
         ensures sound { IsSound O.stepped O.is_row K.rows K.faults O.start self.new }
     {
-        self.ask_lent(id, day, &command)
+        let mut command = command;
+        self.ask_lent(id, day, &mut command)
     }
 
-    /// Asks the same of a command that the caller keeps.
-    pub fn ask_lent(&mut self, id: Id, day: Day, command: &O::Command) -> Answer<O::Reply>
-        requires { O.may_ask id day command.now }
-        ensures answer { Answers O.stepped O.is_row K.rows K.faults id day command.now self.old self.new result }
+    /// Asks the same of a command that the caller lends. The object may take over what it keeps of it: what is left isn't told.
+    pub fn ask_lent(&mut self, id: Id, day: Day, command: &mut O::Command) -> Answer<O::Reply>
+        requires { O.may_ask id day command.old }
+        ensures answer { Answers O.stepped O.is_row K.rows K.faults id day command.old self.old self.new result }
         ensures sound { IsSound O.stepped O.is_row K.rows K.faults O.start self.new }
     {
         self.recall_sound();

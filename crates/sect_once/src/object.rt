@@ -41,6 +41,9 @@ pub trait Object: Sized {
     /// What a query is answered in a state.
     ghost looked: { Self.State → Self.Query → Self.View };
 
+    /// The text is that of the request, as it stands in front of a reply's in a row.
+    ghost is_request: { Id → ℕ → Self.Command → List ℕ → Type 0 };
+
     /// The row is the text of the entry.
     ghost is_row: { Entry Self.Command Self.Reply → List ℕ → Type 0 };
 
@@ -57,15 +60,16 @@ pub trait Object: Sized {
     fn empty(alloc: Global) -> Self
         ensures { state result ≡ start };
 
-    /// Acts a command. After want of memory the state is as before.
+    /// Acts a command, of which it may take over what it keeps: what is left of the command isn't told. After want of memory the
+    /// state is as before.
     fn step(
         &mut self,
         day: Day,
         caller: Caller,
-        command: &Self::Command,
+        command: &mut Self::Command,
     ) -> Result<(Self::Reply, Self::Undo), Memory>
-        ensures state { IfOk result (λ r. state self.new ≡ (stepped (state self.old) day caller command.now).0) }
-        ensures reply { IfOk result (λ r. r.0 ≡ (stepped (state self.old) day caller command.now).1) }
+        ensures state { IfOk result (λ r. state self.new ≡ (stepped (state self.old) day caller command.old).0) }
+        ensures reply { IfOk result (λ r. r.0 ≡ (stepped (state self.old) day caller command.old).1) }
         ensures undo { IfOk result (λ r. restores r.1 self.new (state self.old)) }
         ensures err { OnErr result (state self.new ≡ state self.old) };
 
@@ -84,17 +88,21 @@ pub trait Object: Sized {
     fn same_reply(a: &Self::Reply, b: &Self::Reply) -> bool
         ensures { IsTrue result ↔ (a.now ≡ b.now) };
 
-    /// Writes the row of an entry that has one behind what is there. It ends in the text of the reply, whose place is given.
-    fn print_entry(
+    /// Writes the request, as it stands in a row, in place of what is there.
+    fn print_request(
         id: Id,
         day: Day,
         command: &Self::Command,
-        reply: &Self::Reply,
         into: &mut Vec<u8>,
-    ) -> Result<usize, Memory>
-        requires { HasRow is_row (record { id = id; day = day; command = command.now; reply = reply.now }) }
-        ensures row { OnOk result ((row : List ℕ) × is_row (record { id = id; day = day; command = command.now; reply = reply.now }) row
-            × (into.new.items ≡ into.old.items ++ row)) }
+    ) -> Result<(), Memory>
+        ensures { OnOk result (is_request id day command.now into.new.items) };
+
+    /// Writes the text of the reply behind a request, which completes the row of each entry with this request and this reply that
+    /// has one, and gives the place of the text.
+    fn print_reply(reply: &Self::Reply, into: &mut Vec<u8>) -> Result<usize, Memory>
+        ensures row { OnOk result ((id : Id) (day : ℕ) (command : Self.Command) → is_request id day command into.old.items
+            → HasRow is_row (record { id = id; day = day; command = command; reply = reply.now })
+            → is_row (record { id = id; day = day; command = command; reply = reply.now }) into.new.items) }
         ensures told { IfOk result (λ at. TellsFrom is_told at into.new.items reply.now) };
 
     /// The entry of which this is the row, where there is one.

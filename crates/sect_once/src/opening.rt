@@ -24,14 +24,20 @@ impl<O: Object> Past<O> {
     }
 
     /// Acts the entry, and takes its row, where its reply is the object's. Else, and after want of memory, all is as before.
-    fn resume(&mut self, entry: &Entry<O::Command, O::Reply>, row: &[u8]) -> Result<bool, Memory>
+    fn resume(&mut self, entry: Entry<O::Command, O::Reply>, row: &[u8]) -> Result<bool, Memory>
         requires room { IsFull O.is_row (acted_log self.old.entries) → ⊥ }
-        requires written { O.is_row entry.now row.now }
-        requires new { IsNew entry.now.id self.old.entries }
-        ensures resumed { IfOk result (Resumes O.start O.stepped O.is_row self.old self.new entry.now) }
+        requires written { O.is_row entry row.now }
+        requires new { IsNew entry.id self.old.entries }
+        ensures resumed { IfOk result (Resumes O.start O.stepped O.is_row self.old self.new entry) }
         ensures err { OnErr result (self.new ≡ self.old) }
     {
-        let (reply, undo) = step_in(&mut self.object, entry.day, entry.id.caller, &entry.command)?;
+        let mut entry = entry;
+        let (reply, undo) = step_in(
+            &mut self.object,
+            entry.day,
+            entry.id.caller,
+            &mut entry.command,
+        )?;
         if !O::same_reply(&reply, &entry.reply) {
             take_back(&mut self.object, undo);
             return Ok(false);
@@ -59,7 +65,7 @@ impl<O: Object> Past<O> {
         if self.has(&entry.id) {
             return Ok(false);
         }
-        self.resume(&entry, row)
+        self.resume(entry, row)
     }
 
     /// Takes the keeper's row with the number of the entries.

@@ -3,7 +3,7 @@ ghost use Rattle.std.specs.Prelude.{◌≡◌, ℕ, ◌<◌, ◌≤◌, ◌+◌,
 ghost use Rattle.std.specs.Int.{from_be_bytes, to_be_bytes, w32, w64};
 ghost use Rattle.sect_base.specs.declared.limit.Caller.{Caller};
 ghost use Rattle.sect_once.specs.declared.entry.Entry.{Entry};
-ghost use Rattle.sect_once.specs.Tallies.{IsSumText, IsTallyRow, MayAsk, caller_number, caller_tag, tallied, tally_entry};
+ghost use Rattle.sect_once.specs.Tallies.{IsSumText, IsTallyRequest, IsTallyRow, MayAsk, caller_number, caller_tag, tallied, tally_entry};
 
 use crate::entry::Entry;
 use crate::object::Object;
@@ -39,6 +39,8 @@ impl Object for Tally {
 
     ghost looked = { λ sum q. sum };
 
+    ghost is_request = { IsTallyRequest };
+
     ghost is_row = { IsTallyRow };
 
     ghost is_told = { IsSumText };
@@ -51,7 +53,7 @@ impl Object for Tally {
         Tally { sum: 0 }
     }
 
-    fn step(&mut self, _day: Day, _caller: Caller, command: &u8) -> Result<(u64, u64), Memory> {
+    fn step(&mut self, _day: Day, _caller: Caller, command: &mut u8) -> Result<(u64, u64), Memory> {
         let before = self.sum;
         self.sum = before.saturating_add(u64::from(*command));
         Ok((self.sum, before))
@@ -73,15 +75,16 @@ impl Object for Tally {
         a == b
     }
 
-    fn print_entry(
-        id: Id,
-        day: Day,
-        command: &u8,
-        reply: &u64,
-        into: &mut Vec<u8>,
-    ) -> Result<usize, Memory> {
-        into.extend_from_slice(&row_of(day, id.caller, id.number, *command, *reply))?;
-        Ok(into.len() - 8)
+    fn print_request(id: Id, day: Day, command: &u8, into: &mut Vec<u8>) -> Result<(), Memory> {
+        into.clear();
+        into.extend_from_slice(&request_of(day, id.caller, id.number, *command))?;
+        Ok(())
+    }
+
+    fn print_reply(reply: &u64, into: &mut Vec<u8>) -> Result<usize, Memory> {
+        let at = into.len();
+        into.extend_from_slice(&reply.to_be_bytes())?;
+        Ok(at)
     }
 
     fn read_entry(_alloc: Global, row: &[u8]) -> Result<Option<Entry<u8, u64>>, Memory> {
@@ -131,17 +134,16 @@ fn day_number(day: Day) -> u32
     day.get() as u32
 }
 
-/// The row of an entry with these parts.
-fn row_of(day: Day, caller: Caller, number: u64, command: u8, sum: u64) -> [u8; 26]
-    ensures { IsTallyRow (record { id = record { caller = caller; number = number }; day = day; command = command; reply = sum }) result }
+/// A request's part of a row.
+fn request_of(day: Day, caller: Caller, number: u64, command: u8) -> [u8; 18]
+    ensures { IsTallyRequest (record { caller = caller; number = number }) day command result }
 {
     let [a, b, c, d] = day_number(day).to_be_bytes();
     let tag = tag_of(caller);
     let [e, f, g, h] = number_of(caller).to_be_bytes();
     let [i, j, k, l, m, n, o, p] = number.to_be_bytes();
-    let [q, r, s, t, u, v, w, x] = sum.to_be_bytes();
     [
-        a, b, c, d, tag, e, f, g, h, i, j, k, l, m, n, o, p, command, q, r, s, t, u, v, w, x,
+        a, b, c, d, tag, e, f, g, h, i, j, k, l, m, n, o, p, command,
     ]
 }
 

@@ -95,7 +95,7 @@ fn audit_on<K: Keeper>(machine: &mut Machine, desk: &Desk<Machine, K>) -> Result
         let entry = desk.entry(place)?;
         blocked = plus(blocked, is_blocked(&entry.reply));
         verified = plus(verified, is_verified(machine, &entry)?);
-        act(machine, &entry)?;
+        act(machine, entry)?;
     }
     Ok(Found {
         blocked,
@@ -134,10 +134,11 @@ fn is_verified(machine: &mut Machine, entry: &Entry<Command, Reply>) -> Result<b
 }
 
 /// Acts the entry's command.
-fn act(machine: &mut Machine, entry: &Entry<Command, Reply>) -> Result<(), Memory>
-    ensures { OnOk result (state_in machine.new ≡ (stepped (state_in machine.old) entry.now.day entry.now.id.caller entry.now.command).0) }
+fn act(machine: &mut Machine, entry: Entry<Command, Reply>) -> Result<(), Memory>
+    ensures { OnOk result (state_in machine.new ≡ (stepped (state_in machine.old) entry.day entry.id.caller entry.command).0) }
 {
-    let (_reply, _undo) = machine.step(entry.day, entry.id.caller, &entry.command)?;
+    let mut entry = entry;
+    let (_reply, _undo) = machine.step(entry.day, entry.id.caller, &mut entry.command)?;
     Ok(())
 }
 

@@ -9,7 +9,7 @@ use Rattle.sect_once.specs.declared.entry.Entry.{Entry}
 use Rattle.sect_words.specs.Parts.{sentence}
 use Rattle.sect_words.specs.Days.{day_text}
 use Rattle.sect_words.specs.Words.{caller_text}
-use Rattle.sect_text.specs.Commands.{command_words}
+use Rattle.sect_text.specs.Commands.{command_text, command_words}
 use Rattle.sect_text.specs.Replies.{reply_words}
 
 -- the command has a first day, or a class other than 5
@@ -31,6 +31,10 @@ behind_mark false bytes = bytes
 -- the caller and the number
 abbrev pub id_words : Id → List (List ℕ)
 id_words id = caller_text id.caller ∷ decimal id.number ∷ []
+
+-- a request in a row: the mark, the day, the id, the command and `=`, each behind the one before it, and a space
+abbrev pub request_text : Id → ℕ → Command → List ℕ
+request_text id day command = (sentence (row_front (is_marked command) day ++ id_words id) ++ 32 ∷ []) ++ (command_text command ++ 32 ∷ 61 ∷ 32 ∷ [])
 
 -- the id, the command, `=` and the reply
 abbrev pub row_rest : Entry Command Reply → List (List ℕ)

@@ -1,7 +1,14 @@
--- What tells a reply.
+-- What tells a request and a reply.
 use Rattle.std.specs.Prelude.{◌≡◌, ℕ, List}
+use Rattle.sect_base.specs.declared.limit.Id.{Id}
+use Rattle.sect_command.specs.declared.command.Command.{Command}
 use Rattle.sect_command.specs.declared.reply.Reply.{Reply}
 use Rattle.sect_text.specs.Replies.{reply_text}
+use Rattle.sect_text.specs.Rows.{request_text}
+
+-- the text is that of the request, as it stands in a row
+abbrev pub IsRequestText : Id → ℕ → Command → List ℕ → Type 0
+IsRequestText id day command text = text ≡ request_text id day command
 
 -- the text is that of the reply
 abbrev pub IsReplyText : Reply → List ℕ → Type 0

@@ -11,4 +11,4 @@ mod told_row;
 pub use command_text::print_command;
 pub use reply_text::print_reply;
 pub use row_text::{is_marked, print_row};
-pub use told_row::print_told_row;
+pub use told_row::{print_request, print_told_reply};

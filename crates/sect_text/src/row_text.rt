@@ -4,7 +4,8 @@ ghost use Rattle.std.specs.Prelude.{◌≡◌, ◌≤◌, ◌+◌, ◌++◌, ◌
 ghost use Rattle.sect_words.specs.Parts.{sentence};
 ghost use Rattle.sect_text.specs.Rows.{is_marked as has_mark, behind_mark, row_front, id_words, row_text};
 
-use crate::told_row::print_told_row;
+use crate::reply_text::print_answer_words;
+use crate::told_row::print_request;
 use sect_base::{Day, Id, Memory};
 use sect_command::{Command, Reply};
 use sect_once::Entry;
@@ -79,11 +80,20 @@ pub fn print_row(entry: &Entry<Command, Reply>, into: &mut Vec<u8>) -> Result<()
     ensures memory { OnErr result (into.new.items ≡ into.old.items) }
 {
     let before = into.len();
-    match print_told_row(entry.id, entry.day, &entry.command, &entry.reply, into) {
-        Ok(_) => Ok(()),
+    match print_parts(entry, into) {
+        Ok(()) => Ok(()),
         Err(memory) => {
             into.truncate(before);
             Err(memory)
         }
     }
+}
+
+/// Appends the row of an entry: the request, and the reply behind it. After `Memory` a part of it may stand at the end.
+fn print_parts(entry: &Entry<Command, Reply>, into: &mut Vec<u8>) -> Result<(), Memory>
+    ensures text { OnOk result (into.new.items ≡ into.old.items ++ row_text entry.now) }
+    ensures front { take (length into.old.items) into.new.items ≡ into.old.items }
+{
+    print_request(entry.id, entry.day, &entry.command, into)?;
+    print_answer_words(&entry.reply, into)
 }

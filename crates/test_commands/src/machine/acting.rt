@@ -34,16 +34,18 @@ pub fn answer(
 /// Acts a line on its day, and gives its reply. None where it is no request.
 fn reply_to(alloc: Global, machine: &mut Machine, line: &[u8]) -> Result<Option<Reply>, Memory> {
     match read_line(alloc, line) {
-        Ok(ask) => acted(machine, &ask),
+        Ok(ask) => acted(machine, ask),
         Err(_) => Ok(None),
     }
 }
 
 /// Acts a request on its day.
-fn acted(machine: &mut Machine, ask: &LineAsk) -> Result<Option<Reply>, Memory> {
-    let Some(day) = day_of(ask) else {
+fn acted(machine: &mut Machine, ask: LineAsk) -> Result<Option<Reply>, Memory> {
+    let Some(day) = day_of(&ask) else {
         return Ok(None);
     };
-    let (reply, _) = machine.step(day, ask.id.caller, &ask.command)?;
+    let LineAsk { id, command, .. } = ask;
+    let mut command = command;
+    let (reply, _) = machine.step(day, id.caller, &mut command)?;
     Ok(Some(reply))
 }

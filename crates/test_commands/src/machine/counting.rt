@@ -18,7 +18,7 @@ fn counted<L: Ledger>(
     machine: &mut Machine,
     day: Day,
     caller: Caller,
-    command: &Command,
+    command: Command,
     blank: Blank,
 ) -> Result<(Reply, u64), Memory>
     requires name { blank.name ≡ L.name }
@@ -26,7 +26,8 @@ fn counted<L: Ledger>(
     requires some { 0 < blank.parts }
 {
     let mut steps: Steps<L> = Steps::new(blank);
-    let ToldStep { reply, .. } = machine.step_counted(day, caller, command, &mut steps)?;
+    let mut command = command;
+    let ToldStep { reply, .. } = machine.step_counted(day, caller, &mut command, &mut steps)?;
     Ok((reply, steps.counted()))
 }
 
@@ -39,15 +40,16 @@ fn print_counted(reply: &Reply, searches: u64, into: &mut Vec<u8>) -> Result<(),
 }
 
 /// Acts a request, and appends its reply and how many searches it took.
-fn count_ask(machine: &mut Machine, ask: &LineAsk, into: &mut Vec<u8>) -> Result<(), Memory> {
-    let Some(day) = day_of(ask) else {
+fn count_ask(machine: &mut Machine, ask: LineAsk, into: &mut Vec<u8>) -> Result<(), Memory> {
+    let Some(day) = day_of(&ask) else {
         return Ok(());
     };
+    let LineAsk { id, command, .. } = ask;
     let (reply, searches) = counted::<Brand>(
         machine,
         day,
-        ask.id.caller,
-        &ask.command,
+        id.caller,
+        command,
         Blank::new(1),
     )?;
     print_counted(&reply, searches, into)
@@ -61,7 +63,7 @@ pub fn count(
     into: &mut Vec<u8>,
 ) -> Result<(), Memory> {
     match read_line(alloc, line.as_bytes()) {
-        Ok(ask) => count_ask(machine, &ask, into),
+        Ok(ask) => count_ask(machine, ask, into),
         Err(_) => print_text("no request\n", into),
     }
 }

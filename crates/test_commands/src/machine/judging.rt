@@ -5,7 +5,7 @@ ghost use Rattle.sect_model.specs.Step.{step as step_of};
 ghost use Rattle.sect_machine.specs.Standing.{state_in};
 
 use crate::machine::acting::day_of;
-use sect_base::{Block, Caller, Day, Memory};
+use sect_base::{Block, Caller, Day, Duplicate, Memory};
 use sect_command::{Command, Reply, read_block};
 use sect_machine::Machine;
 use sect_machine::laws::blocked_commands_are_taken;
@@ -51,7 +51,7 @@ fn judged_ask(
         return Ok(b"no request");
     };
     match read_block(alloc, tree.as_bytes())? {
-        Some(tree) => Ok(word_of(refutes(machine, day, ask, &tree)?)),
+        Some(tree) => Ok(word_of(refutes(alloc, machine, day, ask, &tree)?)),
         None => Ok(b"no tree"),
     }
 }
@@ -66,6 +66,7 @@ fn word_of(refuted: Option<bool>) -> &'static [u8] {
 
 /// Whether a tree refutes a request that the machine would block. None where it wouldn't block it. The machine is as before.
 fn refutes(
+    alloc: Global,
     machine: &mut Machine,
     day: Day,
     ask: &LineAsk,
@@ -73,7 +74,8 @@ fn refutes(
 ) -> Result<Option<bool>, Memory>
     ensures { state_in machine.new ≡ state_in machine.old }
 {
-    let (reply, undo) = machine.step(day, ask.id.caller, &ask.command)?;
+    let mut command = ask.command.copy(alloc)?;
+    let (reply, undo) = machine.step(day, ask.id.caller, &mut command)?;
     machine.undo(undo);
     checked(machine, day, ask.id.caller, &ask.command, &reply, tree)
 }
