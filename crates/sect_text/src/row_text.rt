@@ -95,5 +95,6 @@ fn print_parts(entry: &Entry<Command, Reply>, into: &mut Vec<u8>) -> Result<(), 
     ensures front { take (length into.old.items) into.new.items ≡ into.old.items }
 {
     print_request(entry.id, entry.day, &entry.command, into)?;
-    print_answer_words(&entry.reply, into)
+    print_answer_words(&entry.reply, into)?;
+    Ok(())
 }
