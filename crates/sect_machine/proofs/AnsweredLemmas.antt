@@ -1,8 +1,8 @@
 -- Each line of a batch answers the request at its position, and lines join one after another.
-use Rattle.std.specs.Prelude.{◌≡◌, ℕ, zero, suc, ◌+◌, ◌-◌, ◌<◌, ◌≤◌, List, [], ◌∷◌, ◌++◌, length, map, slice_get, slice_set, take, drop, Option, Some, None, Result, Ok, Err, IfOk, refl}
+use Rattle.std.specs.Prelude.{◌≡◌, ℕ, zero, suc, ◌+◌, ◌-◌, ◌<◌, ◌≤◌, List, [], ◌∷◌, ◌++◌, length, map, slice_get, slice_set, take, drop, Option, Some, Result, Ok, Err, IfOk, refl}
 use Rattle.std.specs.List.{enumerate_from}
 use Rattle.std.specs.Option.{option_map_or}
-use Rattle.std.proofs.Common.{sym, ◌∙◌, ap, subst, arith, get_or}
+use Rattle.std.proofs.Common.{sym, ◌∙◌, ap, arith, get_or}
 use Rattle.std.proofs.lemmas.List.{map-append}
 use Rattle.sect_people.specs.Student.{Student, find_student}
 use Rattle.sect_people.specs.declared.row.Ask.TheVariants.{Course as asks_course, Free}
@@ -11,11 +11,11 @@ use Rattle.sect_command.specs.declared.reply.LineResult.{LineResult}
 use Rattle.sect_command.specs.declared.reply.LineResult.TheVariants.{Met, Held, Blocked, Spent, Waiting, Skipped}
 use Rattle.sect_command.specs.declared.reply.Reply.TheVariants.{Batched as batched_reply}
 use Rattle.sect_model.specs.Data.{StudentId, Ask, CourseAsk}
-use Rattle.sect_model.specs.World.{World, State}
+use Rattle.sect_model.specs.World.{World}
 use Rattle.sect_model.specs.Batch.{Answered, Batched, Joined, batch_of, batch_asks, batch_students, add_line, answer_to, world_after, asks_of, join_line, join_lines}
 use Rattle.sect_model.specs.Step.{batched}
 use Rattle.sect_wait.specs.Queued.{Queued, state_of}
-use Rattle.sect_machine.specs.Answering.{no_ask, course_ask, ask_of, answered_of, waiting_line}
+use Rattle.sect_machine.specs.Answering.{no_ask, course_ask, answered_of, waiting_line}
 
 -- the lines of these answers
 abbrev lines_of : List Answered → List Line

@@ -8,7 +8,7 @@ use Rattle.sect_base.specs.declared.limit.Cap.TheVariants.{Course as cap_course,
 use Rattle.sect_catalog.specs.Catalogue.{find_offering, has_course, has_section as section_is_in}
 use Rattle.sect_catalog.specs.Limits.{capped_course, with_limit}
 use Rattle.sect_catalog.proofs.SearchLemmas.{any-parts}
-use Rattle.sect_model.specs.Data.{Cap, Limit, CourseId, ConfigId, SectionId, OfferingId, OfferingRow}
+use Rattle.sect_model.specs.Data.{Cap, Limit, CourseId, SectionId, OfferingId, OfferingRow}
 use Rattle.sect_model.specs.declared.held.Waiting.{Waiting}
 use Rattle.sect_model.specs.declared.change.Change.TheVariants.{Cap as new_cap}
 use Rattle.sect_model.specs.World.{World, offering_of}

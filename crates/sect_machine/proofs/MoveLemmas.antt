@@ -1,5 +1,5 @@
 -- Giving up course by course, and taking choice by choice.
-use Rattle.std.specs.Prelude.{◌≡◌, ℕ, ◌+◌, Bool, true, false, not, ◌&&◌, ◌==◌, List, [], ◌∷◌, map, filter, Option, Some, refl, IsTrue}
+use Rattle.std.specs.Prelude.{◌≡◌, Bool, true, false, not, ◌&&◌, ◌==◌, List, [], ◌∷◌, map, filter, refl}
 use Rattle.std.specs.List.{list_all, list_any}
 use Rattle.std.specs.Option.{is_some}
 use Rattle.std.proofs.Common.{sym, ◌∙◌, ap, subst}
@@ -13,7 +13,7 @@ use Rattle.sect_model.specs.World.{World, enrol, enrol_all, leave, leave_all, ho
 use Rattle.sect_model.specs.Allowed.{is_allowed}
 use Rattle.sect_model.specs.Move.{are_allowed}
 use Rattle.sect_model.specs.Fits.{Fits}
-use Rattle.sect_model.proofs.Members.{Member, all-at, all-of, any-at, any-of, none-at, both-left, both-right, not_true, not_both, member-of_map, member-of_filter}
+use Rattle.sect_model.proofs.Members.{all-at, all-of, any-at, any-of, none-at, both-left, both-right, not_true, not_both, member-of_map, member-of_filter}
 
 -- the courses that are left are held and differ, and giving them up leads where giving up all does
 pub record LeavesOn (w v : World) (student : StudentId) (all rest : List CourseId) : Type 0 where

@@ -47,6 +47,7 @@ use Rattle.sect_wait.specs.Indexed.{MarksTold}
 use Rattle.sect_wait.proofs.MarkLemmas.{changed-others, among-append, more-test, on-ok, others-without}
 use Rattle.sect_wait.proofs.NeedLemmas.{both-kept, neither, plain-marks, plain-need, same-notes}
 use Rattle.sect_wait.proofs.ToldLemmas.{nobody-marked, told-marks}
+use Rattle.sect_machine.specs.Acting.{IsLeft}
 use Rattle.sect_machine.specs.Opening.{RecordsLimit, batch_opens, enrolled_opens, flip_opens, flip_opens_of, last_offering, opened, opens, reserved_in, restricted_in, sectioned_in, swap_opens}
 use Rattle.sect_machine.proofs.LimitLemmas.{cancel-closed, limit-closed}
 use Rattle.sect_machine.proofs.OpenedLemmas.{Stays, batch-stays, swap-stays}
@@ -87,6 +88,34 @@ restricted : (w : World) (e : Waiting) (o : Option Restriction) → KeptWorld w 
     → option_map_or (λ r. wants w e.want r.offering) o false ≡ false
 restricted w e None k h = refl
 restricted w e (Some r) k h = wanted w r.offering e k h
+
+-- what is left of a command opens what the command opens
+opened-left : (w : World) (noted : List ℕ) (backs : List Back) (command left : Command) (reply : Reply) (e : Waiting) → IsLeft command left
+    → opened w noted backs command reply e ≡ opened w noted backs left reply e
+opened-left w noted backs (Offering row) left reply e h = ap (λ c. opened w noted backs c reply e) (sym h.1)
+opened-left w noted backs (student_row row) left reply e h = ap (λ c. opened w noted backs c reply e) (sym h.1)
+opened-left w noted backs (Requests student asks) left reply e h = ap (λ c. opened w noted backs c reply e) (sym h.1)
+opened-left w noted backs (Reserve row) left reply e h = ap (λ c. opened w noted backs c reply e) (sym h)
+opened-left w noted backs (Unreserve id) left reply e h = ap (λ c. opened w noted backs c reply e) (sym h)
+opened-left w noted backs (Expire id expiry) left reply e h = ap (λ c. opened w noted backs c reply e) (sym h)
+opened-left w noted backs (Restrict row) left reply e h = ap (λ c. opened w noted backs c reply e) (sym h)
+opened-left w noted backs (Unrestrict id) left reply e h = ap (λ c. opened w noted backs c reply e) (sym h)
+opened-left w noted backs (SetLimit level limit) left reply e h = ap (λ c. opened w noted backs c reply e) (sym h)
+opened-left w noted backs (Cancel id) left reply e h = ap (λ c. opened w noted backs c reply e) (sym h)
+opened-left w noted backs (Enrol student want budget) left reply e h = ap (λ c. opened w noted backs c reply e) (sym h)
+opened-left w noted backs (Drop student course) left reply e h = ap (λ c. opened w noted backs c reply e) (sym h)
+opened-left w noted backs (Swap student give take budget) left reply e h = ap (λ c. opened w noted backs c reply e) (sym h)
+opened-left w noted backs (Wait student want give class) left reply e h = ap (λ c. opened w noted backs c reply e) (sym h)
+opened-left w noted backs (Unwait student ticket) left reply e h = ap (λ c. opened w noted backs c reply e) (sym h)
+opened-left w noted backs (Batch students) left reply e h = ap (λ c. opened w noted backs c reply e) (sym h)
+
+-- what is marked by what is left of a command is marked by the command
+pub marks-left : (w : World) (noted : List ℕ) (backs : List Back) (command left : Command) (reply : Reply) (entries : List Waiting) (m n : Marked) → IsLeft command left
+    → MarksMore (opened w noted backs left reply) entries m n → MarksMore (opened w noted backs command reply) entries m n
+marks-left w noted backs command left reply entries m n rest more = record {
+  kept = more.kept;
+  added = λ e a h. opened-left w noted backs command left reply e rest ∙ more.added e a h;
+}
 
 -- ---- a command
 

@@ -1,22 +1,19 @@
 -- The place of a listed section is found in the offering alone.
-use Rattle.std.specs.Prelude.{◌≡◌, ℕ, Bool, true, false, not, ◌&&◌, ◌==◌, List, [], ◌∷◌, ◌++◌, map, flat_map, find, cond, Option, Some, None, refl}
-use Rattle.std.specs.List.{list_any, list_all}
+use Rattle.std.specs.Prelude.{◌≡◌, Bool, true, false, ◌==◌, List, [], ◌∷◌, ◌++◌, flat_map, find, cond, Option, Some, None, refl}
+use Rattle.std.specs.List.{list_all}
 use Rattle.std.specs.Option.{option_map, option_map_or, option_and_then, option_to_list, option_or, is_some}
-use Rattle.std.proofs.Common.{sym, ◌∙◌, ap, subst, inl, inr, append_assoc}
-use Rattle.std.proofs.lemmas.Bool.{eqb-true, eq-eqb}
+use Rattle.std.proofs.Common.{sym, ◌∙◌, ap, subst, append_assoc}
 use Rattle.sect_reserve.specs.declared.row.Place.{Place}
-use Rattle.sect_catalog.specs.Catalogue.{all_configs, all_subparts, sections_in, subpart_of_section, find_offering}
+use Rattle.sect_catalog.specs.Catalogue.{all_configs, all_subparts, subpart_of_section, find_offering}
 use Rattle.sect_catalog.specs.Fault.{are_checked}
-use Rattle.sect_model.specs.Data.{SectionRow, SectionId, OfferingId, ConfigId, OfferingRow, ConfigRow, SubpartRow, SubpartId}
+use Rattle.sect_model.specs.Data.{SectionId, OfferingId, OfferingRow, ConfigRow, SubpartRow, SubpartId}
 use Rattle.sect_model.specs.World.{World}
 use Rattle.sect_model.specs.Change.{place_of}
 use Rattle.sect_model.specs.Kept.{has_place_in, is_place}
 use Rattle.sect_model.proofs.Members
 use Rattle.sect_model.proofs.Members.{Member, all-at, both, both-left, both-right, not_both, not_true}
-use Rattle.sect_model.proofs.DifferLemmas.{keys_differ, differ-right, differ-across}
-use Rattle.sect_model.proofs.CheckedLemmas.{sections-differ}
 use Rattle.sect_machine.specs.Placed.{has_section, subparts_of, subpart_in, place_in, own_places}
-use Rattle.sect_model.proofs.PlaceLemmas.{found-subpart, one-piece, same-id}
+use Rattle.sect_model.proofs.PlaceLemmas.{found-subpart}
 
 -- a subpart of the offering is one of the catalogue
 in-all : (rows : List OfferingRow) (o : OfferingRow) → Member rows o → (p : SubpartRow) → Member (subparts_of o) p → Member (all_subparts rows) p

@@ -1,14 +1,14 @@
 -- What is tracked: from part to part, and taken back.
-use Rattle.std.specs.Prelude.{◌≡◌, ℕ, List, [], length, drop, refl}
-use Rattle.std.proofs.Common.{sym, ◌∙◌, ap, subst}
-use Rattle.sect_model.specs.World.{World, State}
+use Rattle.std.specs.Prelude.{◌≡◌, List, [], length, drop, refl}
+use Rattle.std.proofs.Common.{sym, ◌∙◌, ap}
+use Rattle.sect_model.specs.World.{World}
 use Rattle.sect_model.specs.Kept.{KeptWorld}
 use Rattle.sect_space.specs.declared.back.Back.{Back}
 use Rattle.sect_space.specs.Roomed.{Roomed}
 use Rattle.sect_space.specs.Undo.{Since, Undoable, undone}
 use Rattle.sect_space.proofs.Steps.{since-none, since-both, since-undone}
 use Rattle.sect_wait.specs.declared.back.QueueBack.{QueueBack}
-use Rattle.sect_wait.specs.Queued.{Queued, RoomedQueue, state_of}
+use Rattle.sect_wait.specs.Queued.{RoomedQueue, state_of}
 use Rattle.sect_wait.specs.Undo.{Since as QueueSince, Undoable as QueueUndoable, undone as queue_undone}
 use Rattle.sect_wait.proofs.UndoLemmas.{since-none as queue-since-none, since-joins, since-undone as queue-since-undone}
 use Rattle.sect_machine.specs.Tracked.{Tracked}

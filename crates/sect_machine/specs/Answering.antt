@@ -1,5 +1,5 @@
 -- Lines with the requests that they answer, and lines that wait.
-use Rattle.std.specs.Prelude.{ℕ, ◌-◌, false, List, [], slice_get, Option, Some, None}
+use Rattle.std.specs.Prelude.{ℕ, ◌-◌, false, [], slice_get, Option, Some, None}
 use Rattle.std.specs.Option.{option_map_or}
 use Rattle.sect_people.specs.declared.row.Ask.TheVariants.{Course as asks_course, Free}
 use Rattle.sect_command.specs.declared.reply.Line.{Line}

@@ -105,7 +105,8 @@ impl Object for Machine {
     }
 
     fn print_reply(reply: &Reply, into: &mut Vec<u8>) -> Result<usize, Memory> {
-        print_told_reply(reply, into)
+        let at = print_told_reply(reply, into)?;
+        Ok(at)
     }
 
     fn read_entry(alloc: Global, row: &[u8]) -> Result<Option<Entry<Command, Reply>>, Memory> {

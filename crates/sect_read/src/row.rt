@@ -36,7 +36,7 @@ fn agree(a: bool, b: bool) -> bool
     if a { b } else { !b }
 }
 
-/// The entry of a row: its day, its id, its command and its reply.
+/// The entry of a row: its day, its id, its command, whose mark it has, and its reply.
 #[tactic(auto, unfolding(crate::specs::ReadingLines::row_at))]
 fn read_entry(alloc: Global, words: &mut Parts) -> Result<Entry<Command, Reply>, Fault>
     ensures { Reads result words.new (row_at words.old) }
@@ -47,43 +47,29 @@ fn read_entry(alloc: Global, words: &mut Parts) -> Result<Entry<Command, Reply>,
     let command = read_command_words(alloc, false, words)?;
     words.key(b"=")?;
     let reply = read_reply_words(alloc, words)?;
-    let entry = Entry {
+    if !agree(marked, is_marked(&command)) {
+        return Err(Fault::Bad);
+    }
+    Ok(Entry {
         id,
         day,
         command,
         reply,
-    };
-    let entry = checked(marked, entry)?;
-    Ok(entry)
-}
-
-/// The entry, where it has the mark that its command has.
-fn checked(marked: bool, entry: Entry<Command, Reply>) -> Result<Entry<Command, Reply>, Fault>
-    ensures { Means result (entry_if (agrees marked (has_mark entry.command)) entry) }
-{
-    if agree(marked, is_marked(&entry.command)) {
-        Ok(entry)
-    } else {
-        Err(Fault::Bad)
-    }
-}
-
-/// The entry of a row.
-fn read_whole_row(alloc: Global, row: &[u8]) -> Result<Entry<Command, Reply>, Fault>
-    ensures { Means result (row_of row.now) }
-{
-    let mut words = Parts::new(row, b' ');
-    let entry = read_entry(alloc, &mut words)?;
-    words.end()?;
-    Ok(entry)
+    })
 }
 
 /// The entry of a row, where it has one.
 fn find_entry(alloc: Global, row: &[u8]) -> Result<Option<Entry<Command, Reply>>, Memory>
     ensures { Finds result (row_of row.now) }
 {
-    match read_whole_row(alloc, row) {
-        Ok(entry) => Ok(Some(entry)),
+    let mut words = Parts::new(row, b' ');
+    let read = read_entry(alloc, &mut words);
+    match read {
+        Ok(entry) => match words.end() {
+            Ok(()) => Ok(Some(entry)),
+            Err(Fault::Bad) => Ok(None),
+            Err(Fault::Memory) => Err(Memory),
+        },
         Err(Fault::Bad) => Ok(None),
         Err(Fault::Memory) => Err(Memory),
     }

@@ -1,15 +1,19 @@
 -- After a history of requests with texts, the entry of one more has a row.
-use Rattle.std.specs.Prelude.{ℕ, ◌+◌, ◌*◌, ◌≤◌, List, [], ◌∷◌, length, refl}
+use Rattle.std.specs.Prelude.{◌≡◌, ℕ, ◌++◌, ◌+◌, ◌*◌, ◌≤◌, List, [], ◌∷◌, length, refl}
 use Rattle.std.specs.List.{AllZip}
-use Rattle.std.proofs.Common.{subst, arith}
+use Rattle.std.proofs.Common.{subst, arith, ap, ◌∙◌}
+use Rattle.sect_base.specs.declared.limit.Id.{Id}
 use Rattle.sect_command.specs.declared.command.Command.{Command}
 use Rattle.sect_command.specs.declared.reply.Reply.{Reply}
 use Rattle.sect_model.specs.World.{State, empty_state}
 use Rattle.sect_model.specs.Kept.{KeptState}
 use Rattle.sect_model.proofs.StepLemmas.{step-keeps, history-keeps}
 use Rattle.sect_once.specs.declared.entry.Entry.{Entry}
-use Rattle.sect_once.specs.History.{state_after}
+use Rattle.sect_once.specs.History.{HasRow, state_after}
+use Rattle.sect_text.specs.Replies.{reply_text}
 use Rattle.sect_text.specs.Rows.{row_text}
+use Rattle.sect_text.specs.ToldRows.{IsRequestText}
+use Rattle.sect_text.proofs.Sentences.{parts_row}
 use Rattle.sect_wire.specs.Fits.{FitsList, FitsReply}
 use Rattle.sect_wire.specs.Laws.{IsRow}
 use Rattle.sect_rows.specs.States.{FitsState}
@@ -46,3 +50,9 @@ written (e ∷ es) (row ∷ rows) h = (h.0.0.2, written es rows h.1)
 
 pub entry-has-row : EntryHasRow
 entry-has-row es rows e h few asked replied = history-has-row es e (written es rows h) few asked replied
+
+-- the text of a request in a row, with the text of a reply behind it, is the row of their entry, if that has one
+pub completed-row : (id : Id) (day : ℕ) (command : Command) (reply : Reply) (old new : List ℕ) → IsRequestText id day command old → HasRow IsRow (record { id = id; day = day; command = command; reply = reply })
+    → new ≡ old ++ reply_text reply → IsRow (record { id = id; day = day; command = command; reply = reply }) new
+completed-row id day command reply old new begun has told =
+    (has.1.0, told ∙ ap (λ bytes. bytes ++ reply_text reply) begun ∙ parts_row (record { id = id; day = day; command = command; reply = reply }))

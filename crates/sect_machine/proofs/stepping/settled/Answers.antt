@@ -1,5 +1,5 @@
 -- The day, the answer, and settling, one after the other.
-use Rattle.std.proofs.Common.{◌≡◌, ◌∙◌, ap, subst, sym}
+use Rattle.std.proofs.Common.{◌≡◌, ap, subst, sym}
 use Rattle.sect_model.specs.World.{State}
 use Rattle.sect_model.specs.Step.{on_day}
 use Rattle.sect_wait.specs.Queued.{state_of}
