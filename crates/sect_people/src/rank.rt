@@ -79,8 +79,29 @@ fn searched(ids: &[StudentId], id: StudentId) -> usize
     low
 }
 
-/// Whether the course is among those known.
+/// Whether the course is among those known. It takes no search where each course between the first and this one is known.
 pub fn is_known(known: &[CourseId], id: CourseId) -> bool
+    requires { IsNonDecreasingBy (λ c. c.0) known.now }
+    ensures { result ≡ list_any (λ c. c.0 == id.0) known.now }
+{
+    is_guessed(known, id) || is_found(known, id)
+}
+
+/// Whether the course stands where it does if each between the first and this one is known.
+fn is_guessed(known: &[CourseId], id: CourseId) -> bool
+    ensures { IsTrue result → IsTrue (list_any (λ c. c.0 == id.0) known.now) }
+{
+    let [first, ..] = known else {
+        return false;
+    };
+    match known.get(id.0.saturating_sub(first.0) as usize) {
+        Some(own) => *own == id,
+        None => false,
+    }
+}
+
+/// Whether the course is found by halves.
+fn is_found(known: &[CourseId], id: CourseId) -> bool
     requires { IsNonDecreasingBy (λ c. c.0) known.now }
     ensures { result ≡ list_any (λ c. c.0 == id.0) known.now }
 {

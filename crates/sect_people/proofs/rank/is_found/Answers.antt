@@ -1,7 +1,7 @@
 -- A binary search finds what is there.
 use Rattle.std.proofs.Common.{◌∙◌}
 use Rattle.sect_people.proofs.RankLemmas.{search-any}
-use Rattle.sect_people.proofs.rank.is_known.Goals as goal
+use Rattle.sect_people.proofs.rank.is_found.Goals as goal
 
 pub returns : goal.returns
 returns c =
