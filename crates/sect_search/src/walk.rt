@@ -104,8 +104,8 @@ fn go_behind<const N: usize>(
             let on = OnCourse::new(wanted, course);
             below::<N>(alloc, Due::Reservation(&on), decisions, left, trees)
         }
-        Step::Reservation(on, id) => {
-            let by = Joined::new(on, id, on.named(id));
+        Step::Reservation(on, row) => {
+            let by = Joined::new(on, row);
             below::<N>(alloc, Due::Config(&by), decisions, left, trees)
         }
         Step::Config(by, row) => {

@@ -7,6 +7,7 @@ use Rattle.sect_model.specs.Search.{found, refuted, or_later, search_from}
 use Rattle.sect_base.specs.Tree.{split, trees_of}
 use Rattle.sect_rules.specs.Completed.{opened}
 use Rattle.sect_rules.specs.Due.{place_of, place_at, pick_at}
+use Rattle.sect_rules.specs.Found.{id_of}
 use Rattle.sect_rules.specs.Wanted.{OnCourse, Joined, Configured, course_path, joined_path, config_path}
 use Rattle.sect_search.specs.Texts.{HaveNumbers}
 use Rattle.sect_search.specs.Told.{told, look, behind, as_one, go_from, ToldNumbers, LeavesTrees}
@@ -102,7 +103,7 @@ go_behind-returns-in-Reservation-clause-found g t c =
     let at = place_at c.args.step in
     let n = c.args.decisions in
     let left = c.args.left.now in
-    let v : Joined = record { on = c.in-Reservation.on.now; id = c.in-Reservation.id } in
+    let v : Joined = record { on = c.in-Reservation.on.now; id = id_of c.in-Reservation.row } in
     let going = subst (λ q. is_complete q.mv q.path ≡ false) (ap place_at c.in-Reservation.is) (open-option at.world at.mv at.path (pick_at c.args.step) c.requires.option) in
     subst (λ x. IfOk c.below-in-Reservation.result (λ r. told r c.below-in-Reservation.new.left ≡ x))
     (ap (λ v. as_one v.on.wanted.world v.on.wanted.mv (joined_path v) n left) c.new-by.ensures

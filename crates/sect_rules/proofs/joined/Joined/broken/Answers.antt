@@ -6,7 +6,7 @@ use Rattle.sect_model.specs.World.{offering_of}
 use Rattle.sect_model.specs.Path.{want_at}
 use Rattle.sect_model.specs.Rules.{leaf_of, first_broken, config_rules}
 use Rattle.sect_rules.specs.Completed.{opened}
-use Rattle.sect_rules.specs.Found.{IsConfig}
+use Rattle.sect_rules.specs.Found.{IsConfig, id_of}
 use Rattle.sect_rules.specs.Ground.{IsGround}
 use Rattle.sect_rules.specs.Wanted.{joined_path, met}
 use Rattle.sect_rules.proofs.AtLemmas.{config-at, reservation-at}
@@ -46,12 +46,12 @@ returns-in-Some c =
     subst (λ v. c.config_rule.result ≡ leaf_of v.on.wanted.world v.on.wanted.mv (joined_path v) (Config c.args.row.now.id)) c.self.view_is
     (c.config_rule.ensures
     ∙ (λ i. first_broken (config_rules (m i).at (m i).student c.in-Some.ground.offering.now (c.course.ensures i) (option_copied s.row) c.args.row.now.id))
-    ∙ config-leaf on known c.ground.result c.ground.ensures s.id c.args.row.now.id (option_copied s.row) c.in-Some.ground
-    (c.self.invariant.0 ∙ reservation-at v.world v.mv (opened v.done) s.id) c.in-Some.is)
+    ∙ config-leaf on known c.ground.result c.ground.ensures (id_of s.row) c.args.row.now.id (option_copied s.row) c.in-Some.ground
+    (c.self.invariant.0 ∙ reservation-at v.world v.mv (opened v.done) (id_of s.row)) c.in-Some.is)
 
 pub returns-in-None : goal.returns-in-None
 returns-in-None c =
     let s = c.self.inside in
     let known = subst (λ q. want_at q.mv (opened q.done) ≡ Some q.want) c.wanted-wanted.ensures c.recall_want.ensures in
     subst (λ v. None ≡ leaf_of v.on.wanted.world v.on.wanted.mv (joined_path v) (Config c.args.row.now.id)) c.self.view_is
-    (config-none s.on.now known c.ground.result c.ground.ensures s.id c.args.row.now.id c.in-None.is)
+    (config-none s.on.now known c.ground.result c.ground.ensures (id_of s.row) c.args.row.now.id c.in-None.is)
