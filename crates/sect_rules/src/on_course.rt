@@ -78,14 +78,14 @@ impl<'a> OnCourse<'a> {
 
     /// The offering of the course, with what stands beside it, as the student meets it.
     #[inline(always)]
-    pub fn ground(&self) -> Option<Ground<'a>>
+    pub(crate) fn ground(&self) -> Option<Ground<'a>>
         ensures { IsGroundOf (met self.now.wanted) (Some self.now.course) result }
     {
         self.ground
     }
 
     /// The configurations of the course's offering, no two of one id.
-    pub fn configs(&self) -> &'a [ConfigRow]
+    pub(crate) fn configs(&self) -> &'a [ConfigRow]
         ensures value { result.now ≡ configs_on self.now.wanted.world self.now.course }
         ensures differ { IsTrue (all_differ (map (λ g. g.id.0) result.now)) }
         ensures found { All (IsConfig self.now.wanted.world (Some self.now.course)) result.now }
