@@ -99,7 +99,7 @@ impl<'a> Joined<'a> {
             Some(ground) => {
                 wanted
                     .moment()
-                    .config_rule(&ground, self.on.course(), self.row, row)
+                    .config_rule(ground, self.on.course(), self.row, row)
             }
             None => None,
         }

@@ -1,6 +1,6 @@
 // A course that was decided on: its reservation, or that there is to be none, is decided next.
 
-ghost use Rattle.std.specs.Prelude.{◌≡◌, map, slice_get, Some, IfSome, IsTrue};
+ghost use Rattle.std.specs.Prelude.{◌≡◌, map, slice_get, Some, IfSome, IsTrue, option_copied};
 ghost use Rattle.std.specs.List.{All};
 ghost use Rattle.std.specs.Option.{option_map};
 ghost use Rattle.sect_people.specs.Order.{all_differ};
@@ -78,10 +78,10 @@ impl<'a> OnCourse<'a> {
 
     /// The offering of the course, with what stands beside it, as the student meets it.
     #[inline(always)]
-    pub(crate) fn ground(&self) -> Option<Ground<'a>>
-        ensures { IsGroundOf (met self.now.wanted) (Some self.now.course) result }
+    pub(crate) fn ground(&self) -> Option<&Ground<'a>>
+        ensures { IsGroundOf (met self.now.wanted) (Some self.now.course) (option_copied result) }
     {
-        self.ground
+        self.ground.as_ref()
     }
 
     /// The configurations of the course's offering, no two of one id.
@@ -110,8 +110,8 @@ impl<'a> OnCourse<'a> {
     {
         self.wanted.recall_want();
         let moment = self.wanted.moment();
-        match self.ground {
-            Some(ground) => moment.reservation_rule(&ground, self.course, row),
+        match self.ground() {
+            Some(ground) => moment.reservation_rule(ground, self.course, row),
             None => None,
         }
     }
