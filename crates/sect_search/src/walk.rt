@@ -46,7 +46,7 @@ pub fn below<const N: usize>(
         *left -= 1;
         match visit::<N>(alloc, step, decisions - 1, left, trees)? {
             Searched::Found(choices) => return Ok(Searched::Found(choices)),
-            Searched::Refuted(tree) => trees.push(tree)?,
+            Searched::Refuted(tree) => on_stack(trees, tree)?,
             Searched::Spent => return Ok(Searched::Spent),
         }
         at += 1;
@@ -168,7 +168,18 @@ fn ended<const N: usize>(
     }
 }
 
+/// The tree, put on the stack. Room is made first, so that nothing is handed back.
+#[inline(always)]
+fn on_stack(trees: &mut Vec<Block>, tree: Block) -> Result<(), Memory>
+    ensures { OnOk result (trees.new.items ≡ trees.old.items ++ tree ∷ []) }
+{
+    trees.reserve(1)?;
+    trees.push_reserved(tree);
+    Ok(())
+}
+
 /// The trees from a place on, taken off the stack. Where that is all of it, its room goes with them.
+#[inline(always)]
 fn off_stack(alloc: Global, trees: &mut Vec<Block>, base: usize) -> Result<Vec<Block>, Memory>
     requires { base ≤ length trees.old.items }
     ensures own { IfOk result (λ own. own.items ≡ drop base trees.old.items) }

@@ -59,7 +59,7 @@ below-options-preserved g t c =
     let rest = search_from w mv (c.args.decisions - 1) in
     let before = c.options.trees.items in
     let stays : c.visit.new.trees.items ≡ before = subst (LeavesTrees before c.visit.new.trees.items) c.in-Refuted.is c.in_ok-choices.ensures.kept in
-    let pushed = c.in_ok-push-in-Refuted.ensures.items ∙ ap (λ trees. trees ++ c.in-Refuted.tree ∷ []) stays in
+    let pushed = c.in_ok-on_stack-in-Refuted.ensures ∙ ap (λ trees. trees ++ c.in-Refuted.tree ∷ []) stays in
     let own = ap (drop c.len-base.result) pushed ∙ drop-more before c.len-base.result c.in-Refuted.tree c.options.invariant.room in record {
       same = c.options.invariant.same
           ∙ from-next w mv rest p (options_at w mv p) (drop c.len-base.result before) c.options.at (c.options.left - 1) c.options.left c.visit.new.left (pick_at c.in-Some.step) c.in-Refuted.tree
