@@ -1,17 +1,20 @@
 -- Each row that options are read from is the one that its id finds.
-use Rattle.std.specs.Prelude.{◌≡◌, ℕ, zero, suc, true, List, [], ◌∷◌, slice_get, Option, Some, None, Contains, IfSome, option_copied, refl}
+use Rattle.std.specs.Prelude.{◌≡◌, ℕ, zero, suc, Bool, true, ◌==◌, List, [], ◌∷◌, map, filter, slice_get, Option, Some, None, Contains, IfSome, option_copied, refl}
 use Rattle.std.specs.Borrow.{Bor}
 use Rattle.std.specs.List.{All}
 use Rattle.std.specs.Option.{option_and_then}
 use Rattle.std.proofs.Common.{sym, ◌∙◌, ap, subst, arith, inl, inr}
 use Rattle.sect_catalog.specs.Fault.{are_checked}
-use Rattle.sect_people.specs.Order.{sorted_by}
-use Rattle.sect_model.specs.Data.{CourseId, ConfigId, OfferingRow, ConfigRow, SubpartRow}
+use Rattle.sect_people.specs.Order.{all_differ, sorted_by}
+use Rattle.sect_model.specs.Allowed.{reservations_of}
+use Rattle.sect_model.specs.Data.{CourseId, OfferingId, ConfigId, OfferingRow, ConfigRow, SubpartRow, Reservation}
 use Rattle.sect_model.specs.World.{World, offering_of}
 use Rattle.sect_model.specs.Choice.{config_in, subparts_of}
-use Rattle.sect_model.proofs.Members.{Member}
+use Rattle.sect_model.proofs.EnrolLeave.{find-own}
+use Rattle.sect_model.proofs.Members.{Member, member-filter}
 use Rattle.sect_model.proofs.ListLemmas.{contains-more}
-use Rattle.sect_rules.specs.Found.{IsConfig, IsSection}
+use Rattle.sect_rules.specs.Found.{IsChosen, IsConfig, IsReservation, IsSection}
+use Rattle.sect_rules.specs.Part.{is_of_part}
 use Rattle.sect_rules.proofs.IdLemmas.{config-itself, section-itself}
 use Rattle.sect_rules.proofs.NthLemmas.{member-got, member-of_sorted}
 
@@ -45,6 +48,31 @@ module _ (w : World) (checked : are_checked w.catalogue.rows ≡ true) where
   -- the sections of a subpart are found in the catalogue
   pub sections-found : (course : CourseId) (config : ConfigId) (p : SubpartRow) → Member (subparts_of w course config) p → All (IsSection w) p.sections
   sections-found course config p m = all-known (IsSection w) p.sections (λ s n. section-itself w checked course config p m s n)
+
+-- the reservations of an offering are found in the world
+pub reservations-found : (w : World) → all_differ (map (λ r. r.id.0) w.reservations) ≡ true → (offering : OfferingId) → All (IsReservation w) (reservations_of w offering)
+reservations-found w differ offering =
+    all-known (IsReservation w) (reservations_of w offering)
+    (λ r m. find-own (λ r. r.id.0) w.reservations differ r (member-filter (λ r. r.offering.0 == offering.0) w.reservations r m).0 r.id.0 refl)
+
+-- a row among those that are found, or none
+chosen : (w : World) (rows : List Reservation) (row : Option (Bor Reservation)) → All (IsReservation w) rows → IfSome row (λ r. Contains rows r.now) → IsChosen w row
+chosen w rows None h c = refl
+chosen w rows (Some r) h c = sym (all-contained (IsReservation w) rows r.now h c)
+
+pub each-chosen : (w : World) (rows : List Reservation) (o : Option (Option (Bor Reservation))) → All (IsReservation w) rows
+    → IfSome o (λ row. IfSome row (λ r. Contains rows r.now)) → IfSome o (IsChosen w)
+each-chosen w rows None h c = tt
+each-chosen w rows (Some row) h c = chosen w rows row h c
+
+-- what stands at a place of the obligatory ones, or of the others, is one of the reservations
+pub part-among : (must : Bool) (rs : List Reservation) (i : ℕ) (r : Option (Bor Reservation)) → option_copied r ≡ slice_get (sorted_by (λ r. r.id.0) (filter (is_of_part must) rs)) i
+    → IfSome r (λ row. Contains rs row.now)
+part-among must rs i None e = tt
+part-among must rs i (Some row) e =
+    let part = filter (is_of_part must) rs in
+    contains-member rs row.now
+    (member-filter (is_of_part must) rs row.now (member-of_sorted (λ r. r.id.0) part row.now (member-got (sorted_by (λ r. r.id.0) part) i row.now (sym e)))).0
 
 -- a configuration's row is that of the offering
 pub its-config : (w : World) (course : CourseId) (at : Option CourseId) (o : OfferingRow) (row : ConfigRow) → at ≡ Some course → offering_of w course ≡ Some o → IsConfig w at row

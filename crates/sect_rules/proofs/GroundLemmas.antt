@@ -1,5 +1,5 @@
 -- What is found of an offering is what the definitions give.
-use Rattle.std.specs.Prelude.{◌≡◌, List, [], Option, Some, None, refl}
+use Rattle.std.specs.Prelude.{◌≡◌, [], Option, Some, None}
 use Rattle.std.specs.Option.{option_map, option_map_or, option_and_then}
 use Rattle.std.proofs.Common.{sym, ◌∙◌, ap, subst}
 use Rattle.sect_model.specs.Data.{CourseId, ConfigId, OfferingRow}
@@ -30,29 +30,6 @@ module _ (w : World) (course : CourseId) (at : Option CourseId) (ground : Option
     reservations = some-same g.reservations.now (reservations_of w g.offering.now.id) (whole.reservations ∙ ap (option_map (λ o. reservations_of w o.id)) its-offering);
     restrictions = some-same g.restrictions.now (restrictions_of w g.offering.now.id) (whole.restrictions ∙ ap (option_map (λ o. restrictions_of w o.id)) its-offering);
   }
-
--- what is said of a course's offering, where both are there
-pub of-both : {X : Type 0} (f : CourseId → OfferingRow → List X) (w : World) (course : CourseId) (at : Option CourseId) (o : OfferingRow) → at ≡ Some course → offering_of w course ≡ Some o
-    → f course o ≡ option_map_or (λ c. option_map_or (f c) (offering_of w c) []) at []
-of-both f w course at o e h = sym ((λ i. option_map_or (λ c. option_map_or (f c) (offering_of w c) []) (e i) []) ∙ (λ i. option_map_or (f course) (h i) []))
-
-pub of-both_inside : {X Y : Type 0} (f : CourseId → Y → OfferingRow → List X) (w : World) (course : CourseId) (at : Option CourseId) (y : Y) (inside : Option Y) (o : OfferingRow)
-    → at ≡ Some course → inside ≡ Some y → offering_of w course ≡ Some o
-    → f course y o ≡ option_map_or (λ c. option_map_or (λ y. option_map_or (f c y) (offering_of w c) []) inside []) at []
-of-both_inside f w course at y inside o e k h =
-    sym ((λ i. option_map_or (λ c. option_map_or (λ y. option_map_or (f c y) (offering_of w c) []) (k i) []) (e i) []) ∙ (λ i. option_map_or (f course y) (h i) []))
-
--- where there is no offering, nothing is said
-pub of-none : {X : Type 0} (f : CourseId → OfferingRow → List X) (w : World) (at : Option CourseId) → option_and_then (offering_of w) at ≡ None
-    → [] ≡ option_map_or (λ c. option_map_or (f c) (offering_of w c) []) at []
-of-none f w None h = refl
-of-none f w (Some c) h = λ i. option_map_or (f c) (sym h i) []
-
-pub of-none_inside : {X Y : Type 0} (f : CourseId → Y → OfferingRow → List X) (w : World) (inside : Option Y) (at : Option CourseId) → option_and_then (offering_of w) at ≡ None
-    → [] ≡ option_map_or (λ c. option_map_or (λ y. option_map_or (f c y) (offering_of w c) []) inside []) at []
-of-none_inside f w inside None h = refl
-of-none_inside f w None (Some c) h = refl
-of-none_inside f w (Some y) (Some c) h = λ i. option_map_or (f c y) (sym h i) []
 
 -- the subparts of a configuration, by the offering's row
 pub its-subparts : (w : World) (course : CourseId) (config : ConfigId) (o : OfferingRow) → offering_of w course ≡ Some o → option_map_or (λ g. g.subparts) (config_in o config) [] ≡ subparts_of w course config

@@ -1,8 +1,6 @@
--- The choice that a decision completes.
+-- The choice that a section completes.
 use Rattle.std.specs.Prelude.{nat_le, cond, List, [], ◌∷◌, ◌++◌, length, Option, Some, None}
 use Rattle.sect_model.specs.Data.{CourseId, ReservationId, ConfigId, SectionId, Choice}
-use Rattle.sect_model.specs.declared.pick.Pick.{Pick}
-use Rattle.sect_model.specs.declared.pick.Pick.TheVariants.{Course, Reservation, Config, Section}
 use Rattle.sect_model.specs.World.{World}
 use Rattle.sect_model.specs.Path.{Path, sections_due}
 
@@ -20,10 +18,3 @@ abbrev pub completed_by : World → Path → SectionId → Option Choice
 completed_by w p s =
     let ss = p.sections ++ s ∷ [] in
     cond (nat_le (sections_due w p.course p.config) (length ss)) (choice_in p.course p.reservation p.config ss) None
-
--- the choice that a decision completes, if it completes one
-abbrev pub completed : World → Path → Pick → Option Choice
-completed w p (Course c) = None
-completed w p (Reservation r) = None
-completed w p (Config g) = None
-completed w p (Section s) = completed_by w p s

@@ -7,7 +7,7 @@ use Rattle.sect_rules.specs.declared.due.Due.TheVariants.{Course as course_due, 
 use Rattle.sect_rules.specs.declared.due.Step.{Step}
 use Rattle.sect_rules.specs.declared.due.Step.TheVariants.{Course, Reservation, Config, Section}
 use Rattle.sect_rules.specs.Completed.{opened}
-use Rattle.sect_rules.specs.Found.{IsConfig, IsSection}
+use Rattle.sect_rules.specs.Found.{IsChosen, IsConfig, IsSection, id_of}
 use Rattle.sect_rules.specs.Place.{Place}
 use Rattle.sect_rules.specs.Wanted.{Wanted, OnCourse, Joined, Configured, course_path, joined_path, config_path}
 
@@ -34,20 +34,20 @@ place_of (section_due v) = config_place v.now
 -- where an option stands
 abbrev pub place_at : Step → Place
 place_at (Course v id) = wanted_place v.now
-place_at (Reservation v id) = course_place v.now
+place_at (Reservation v row) = course_place v.now
 place_at (Config v row) = joined_place v.now
 place_at (Section v row) = config_place v.now
 
 -- the decision that an option stands for
 abbrev pub pick_at : Step → Pick
 pick_at (Course v id) = picks_course id
-pick_at (Reservation v id) = picks_reservation id
+pick_at (Reservation v row) = picks_reservation (id_of row)
 pick_at (Config v row) = picks_config row.now.id
 pick_at (Section v row) = picks_section row.now.id
 
 -- the option's row is the one that its id finds
 abbrev pub IsStep : Step → Type 0
 IsStep (Course v id) = Unit {0}
-IsStep (Reservation v id) = Unit {0}
+IsStep (Reservation v row) = IsChosen v.now.wanted.world row
 IsStep (Config v row) = IsConfig v.now.on.wanted.world (Some v.now.on.course) row.now
 IsStep (Section v row) = IsSection v.now.by.on.wanted.world row.now

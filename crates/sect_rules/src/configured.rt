@@ -125,11 +125,11 @@ impl<'a> Configured<'a> {
         match on.ground() {
             Some(ground) => wanted.moment().section_rule(
                 wanted.want(),
-                &ground,
+                ground,
                 on.course(),
                 self.by.row(),
                 self.config,
-                self.sections,
+                &self.sections,
                 row,
             ),
             None => None,

@@ -10,8 +10,9 @@ use crate::configured::Configured;
 use crate::joined::Joined;
 use crate::on_course::OnCourse;
 use crate::wanted::Wanted;
-use sect_base::{CourseId, ReservationId, Rule};
+use sect_base::{CourseId, Rule};
 use sect_catalog::{ConfigRow, SectionRow};
+use sect_reserve::Reservation;
 
 /// What is decided next, with what was decided before it.
 #[derive(Clone, Copy)]
@@ -26,11 +27,11 @@ pub enum Due<'a> {
     Section(&'a Configured<'a>),
 }
 
-/// An option, with what was decided before it. A configuration and a section come with their rows.
+/// An option, with what was decided before it. A reservation, a configuration and a section come with their rows.
 #[derive(Clone, Copy)]
 pub enum Step<'a> {
     Course(&'a Wanted<'a>, CourseId),
-    Reservation(&'a OnCourse<'a>, Option<ReservationId>),
+    Reservation(&'a OnCourse<'a>, Option<&'a Reservation>),
     Config(&'a Joined<'a>, &'a ConfigRow),
     Section(&'a Configured<'a>, &'a SectionRow),
 }
@@ -72,7 +73,7 @@ pub fn broken(step: Step) -> Option<(Rule, u32)>
 {
     match step {
         Step::Course(wanted, course) => wanted.broken(course),
-        Step::Reservation(on, id) => on.broken(id, on.named(id)),
+        Step::Reservation(on, row) => on.broken(row),
         Step::Config(by, row) => by.broken(row),
         Step::Section(inside, row) => inside.broken(row),
     }
@@ -96,8 +97,8 @@ fn reservation_step<'a>(on: &'a OnCourse<'a>, i: usize) -> Option<Step<'a>>
     ensures place { IfSome result (λ step. place_at step ≡ course_place on.now) }
     ensures row { IfSome result IsStep }
 {
-    let id = on.reservation(i)?;
-    Some(Step::Reservation(on, id))
+    let row = on.reservation(i)?;
+    Some(Step::Reservation(on, row))
 }
 
 /// The configuration at a place, as an option.

@@ -9,11 +9,12 @@ ghost use Rattle.sect_model.specs.declared.pick.Pick.TheVariants.{Config as pick
 ghost use Rattle.sect_model.specs.World.{World as ValueOfWorld, reservation_of};
 ghost use Rattle.sect_model.specs.Path.{options_at};
 ghost use Rattle.sect_model.specs.Rules.{leaf_of};
-ghost use Rattle.sect_rules.specs.Found.{IsConfig};
+ghost use Rattle.sect_rules.specs.Found.{IsChosen, IsConfig, id_of};
 ghost use Rattle.sect_rules.specs.Wanted.{joined_path, met};
 
 use crate::nth::Ordered;
 use crate::on_course::OnCourse;
+use crate::parted::id_of;
 use sect_base::{ReservationId, Rule};
 use sect_catalog::ConfigRow;
 use sect_reserve::Reservation;
@@ -24,40 +25,33 @@ use std::marker::Model;
 #[derive(Drop)]
 pub struct Joined<'a> {
     on: &'a OnCourse<'a>,
-    id: Option<ReservationId>,
     row: Option<&'a Reservation>,
     rows: Ordered<'a, ConfigRow>,
 }
 
 impl<'a> Model for Joined<'a> {
-    ghost use Rattle.std.specs.Prelude.{◌≡◌, Some, option_copied};
+    ghost use Rattle.std.specs.Prelude.{◌≡◌, Some};
     ghost use Rattle.std.specs.List.{All};
-    ghost use Rattle.std.specs.Option.{option_and_then};
-    ghost use Rattle.sect_model.specs.World.{reservation_of};
-    ghost use Rattle.sect_rules.specs.Found.{IsConfig};
+    ghost use Rattle.sect_rules.specs.Found.{IsChosen, IsConfig, id_of};
     ghost use Rattle.sect_rules.specs.Wanted.{Joined as Value_of, configs_on};
 
     ghost Value = { Value_of };
 
-    ghost view = { λ s. record { on = s.on.now; id = s.id } };
+    ghost view = { λ s. record { on = s.on.now; id = id_of s.row } };
 
-    ghost invariant = { λ s. (option_copied s.row ≡ option_and_then (reservation_of s.on.now.wanted.world) s.id)
+    ghost invariant = { λ s. IsChosen s.on.now.wanted.world s.row
         × (s.rows ≡ configs_on s.on.now.wanted.world s.on.now.course)
         × All (IsConfig s.on.now.wanted.world (Some s.on.now.course)) s.rows };
 }
 
 impl<'a> Joined<'a> {
     /// What is behind the choice of the reservation of this row, or of none.
-    pub fn new(
-        on: &'a OnCourse<'a>,
-        id: Option<ReservationId>,
-        row: Option<&'a Reservation>,
-    ) -> Joined<'a>
-        requires { option_copied row ≡ option_and_then (reservation_of on.now.wanted.world) id }
-        ensures { result ≡ record { on = on.now; id = id } }
+    pub fn new(on: &'a OnCourse<'a>, row: Option<&'a Reservation>) -> Joined<'a>
+        requires { IsChosen on.now.wanted.world row }
+        ensures { result ≡ record { on = on.now; id = id_of row.entry } }
     {
         let rows = Ordered::new(on.configs());
-        Joined { on, id, row, rows }
+        Joined { on, row, rows }
     }
 
     /// The course.
@@ -73,7 +67,7 @@ impl<'a> Joined<'a> {
     pub fn id(&self) -> Option<ReservationId>
         ensures { result ≡ self.now.id }
     {
-        self.id
+        id_of(self.row)
     }
 
     /// The reservation, as the student meets it.
@@ -105,7 +99,7 @@ impl<'a> Joined<'a> {
             Some(ground) => {
                 wanted
                     .moment()
-                    .config_rule(&ground, self.on.course(), self.row, row)
+                    .config_rule(ground, self.on.course(), self.row, row)
             }
             None => None,
         }

@@ -8,7 +8,7 @@ ghost use Rattle.sect_model.specs.Path.{options_at, options_for, reservation_opt
 use crate::ground::ground_of;
 use crate::lent::{LentMove, LentWant};
 use crate::nth::Ordered;
-use crate::parted::Parted;
+use crate::parted::{Parted, id_of};
 use crate::path::PathOf;
 use crate::rows::{configs, next_sections, reservations, subparts_at};
 use sect_base::{ConfigId, CourseId, Move, ReservationId, Sections};
@@ -86,8 +86,8 @@ fn reservation_pick(rows: &[Reservation], i: usize) -> Option<Pick>
     ensures { result ≡ slice_get (reservation_options rows.now) i }
 {
     let rows = Parted::new(rows);
-    let id = rows.get(i)?;
-    Some(Pick::Reservation(id))
+    let row = rows.get(i)?;
+    Some(Pick::Reservation(id_of(row)))
 }
 
 /// The configuration that `i` others precede by id, as a decision.

@@ -1,10 +1,11 @@
 // The reservations of an offering as options, one at a time, with nothing sorted.
 
-ghost use Rattle.std.specs.Prelude.{◌≡◌, ◌&&◌, ◌==◌, nat_lt, map, filter, find, count_by, slice_get, true, Some, option_copied, IsTrue};
+ghost use Rattle.std.specs.Prelude.{◌≡◌, ◌&&◌, ◌==◌, nat_lt, map, filter, find, count_by, slice_get, true, Some, IfSome, Contains, option_copied, IsTrue};
 ghost use Rattle.std.specs.Option.{option_map};
 ghost use Rattle.sect_people.specs.Order.{all_differ, sorted_by};
 ghost use Rattle.sect_model.specs.declared.pick.Pick.TheVariants.{Reservation as by_reservation};
 ghost use Rattle.sect_model.specs.Path.{reservation_options};
+ghost use Rattle.sect_rules.specs.Found.{id_of as its_id};
 ghost use Rattle.sect_rules.specs.Part.{is_of_part as of_part, are_plain};
 
 use crate::nth::rises_from;
@@ -27,6 +28,7 @@ impl<'a> Model for Parted<'a> {
     ghost use Rattle.std.specs.Prelude.{◌≡◌, List, map, count_by, true, IsTrue};
     ghost use Rattle.sect_people.specs.Order.{all_differ};
     ghost use Rattle.sect_reserve.specs.declared.row.Reservation.{Reservation};
+    ghost use Rattle.sect_rules.specs.Found.{id_of as its_id};
     ghost use Rattle.sect_rules.specs.Part.{is_of_part, are_plain};
 
     ghost Value = { List Reservation };
@@ -48,9 +50,10 @@ impl<'a> Parted<'a> {
         Parted { rows, musts, plain }
     }
 
-    /// The option at a place.
-    pub fn get(&self, i: usize) -> Option<Option<ReservationId>>
-        ensures { option_map by_reservation result ≡ slice_get (reservation_options self.now) i }
+    /// The reservation at a place, or none.
+    pub fn get(&self, i: usize) -> Option<Option<&'a Reservation>>
+        ensures value { option_map (λ row. by_reservation (its_id row)) result ≡ slice_get (reservation_options self.now) i }
+        ensures among { IfSome result (λ row. IfSome row (λ r. Contains self.now r.now)) }
     {
         if self.plain {
             plain_option(self.rows, i)
@@ -60,10 +63,20 @@ impl<'a> Parted<'a> {
     }
 }
 
-/// The option at a place, where the reservations are options as they stand.
-fn plain_option(rows: &[Reservation], i: usize) -> Option<Option<ReservationId>>
+/// The id of a reservation, None where there is to be none.
+#[inline(always)]
+pub fn id_of(row: Option<&Reservation>) -> Option<ReservationId>
+    ensures { result ≡ its_id row.entry }
+{
+    let row = row?;
+    Some(row.id)
+}
+
+/// The reservation at a place, where the reservations are options as they stand, or none.
+fn plain_option(rows: &[Reservation], i: usize) -> Option<Option<&Reservation>>
     requires { IsTrue (are_plain rows.now) }
-    ensures { option_map by_reservation result ≡ slice_get (reservation_options rows.now) i }
+    ensures value { option_map (λ row. by_reservation (its_id row)) result ≡ slice_get (reservation_options rows.now) i }
+    ensures among { IfSome result (λ row. IfSome row (λ r. Contains rows.now r.now)) }
 {
     if i < rows.len() {
         row_option(rows, i)
@@ -74,11 +87,12 @@ fn plain_option(rows: &[Reservation], i: usize) -> Option<Option<ReservationId>>
     }
 }
 
-/// The option at a place, where so many reservations are obligatory.
-fn mixed_option(rows: &[Reservation], musts: usize, i: usize) -> Option<Option<ReservationId>>
+/// The reservation at a place, where so many are obligatory, or none.
+fn mixed_option(rows: &[Reservation], musts: usize, i: usize) -> Option<Option<&Reservation>>
     requires differ { IsTrue (all_differ (map (λ r. r.id.0) rows.now)) }
     requires musts { musts ≡ count_by (of_part true) rows.now }
-    ensures { option_map by_reservation result ≡ slice_get (reservation_options rows.now) i }
+    ensures value { option_map (λ row. by_reservation (its_id row)) result ≡ slice_get (reservation_options rows.now) i }
+    ensures among { IfSome result (λ row. IfSome row (λ r. Contains rows.now r.now)) }
 {
     if i < musts {
         part_option(rows, true, i)
@@ -92,26 +106,29 @@ fn mixed_option(rows: &[Reservation], musts: usize, i: usize) -> Option<Option<R
 }
 
 /// The reservation at a place, as an option.
-fn row_option(rows: &[Reservation], i: usize) -> Option<Option<ReservationId>>
-    ensures { option_map by_reservation result ≡ slice_get (map (λ r. by_reservation (Some r.id)) rows.now) i }
+fn row_option(rows: &[Reservation], i: usize) -> Option<Option<&Reservation>>
+    ensures value { option_map (λ row. by_reservation (its_id row)) result ≡ slice_get (map (λ r. by_reservation (Some r.id)) rows.now) i }
+    ensures among { IfSome result (λ row. IfSome row (λ r. Contains rows.now r.now)) }
 {
     let row = rows.get(i)?;
-    Some(Some(row.id))
+    Some(Some(row))
 }
 
-/// The option at a place among the obligatory reservations, or among the others.
-fn part_option(rows: &[Reservation], must: bool, i: usize) -> Option<Option<ReservationId>>
+/// The reservation at a place among the obligatory ones, or among the others, as an option.
+fn part_option(rows: &[Reservation], must: bool, i: usize) -> Option<Option<&Reservation>>
     requires { IsTrue (all_differ (map (λ r. r.id.0) rows.now)) }
-    ensures { option_map by_reservation result ≡ slice_get (map (λ r. by_reservation (Some r.id)) (sorted_by (λ r. r.id.0) (filter (of_part must) rows.now))) i }
+    ensures value { option_map (λ row. by_reservation (its_id row)) result ≡ slice_get (map (λ r. by_reservation (Some r.id)) (sorted_by (λ r. r.id.0) (filter (of_part must) rows.now))) i }
+    ensures among { IfSome result (λ row. IfSome row (λ r. Contains rows.now r.now)) }
 {
     let row = nth_reservation(rows, must, i)?;
-    Some(Some(row.id))
+    Some(Some(row))
 }
 
 /// The reservation that `i` others precede by id, among the obligatory ones or among the others.
 fn nth_reservation(rows: &[Reservation], must: bool, i: usize) -> Option<&Reservation>
     requires { IsTrue (all_differ (map (λ r. r.id.0) rows.now)) }
-    ensures { option_copied result ≡ slice_get (sorted_by (λ r. r.id.0) (filter (of_part must) rows.now)) i }
+    ensures value { option_copied result ≡ slice_get (sorted_by (λ r. r.id.0) (filter (of_part must) rows.now)) i }
+    ensures among { IfSome result (λ row. Contains rows.now row.now) }
 {
     scan_part(rows, must, i)
 }

@@ -1,9 +1,9 @@
 // The rules on a reservation, or on none.
 
 ghost use Rattle.std.specs.Prelude.{◌≡◌, [], map, filter, nat_le, false, option_copied};
-ghost use Rattle.std.specs.Option.{option_map_or, option_and_then};
+ghost use Rattle.std.specs.Option.{option_map_or};
 ghost use Rattle.sect_catalog.specs.Catalogue.{places as limit_places};
-ghost use Rattle.sect_model.specs.World.{offering_of, reservation_of};
+ghost use Rattle.sect_model.specs.World.{offering_of};
 ghost use Rattle.sect_model.specs.Counts.{used_of};
 ghost use Rattle.sect_model.specs.Allowed.{applies_to as has_student, must_use as must_be_used, reservations_of};
 ghost use Rattle.sect_rules.specs.Ground.{IsGround};
@@ -13,7 +13,7 @@ use crate::ground::Ground;
 use crate::moment::Moment;
 use crate::overlap::lesser_of;
 use crate::reserved::{is_over, limited};
-use sect_base::{CourseId, Level, ReservationId, Rule};
+use sect_base::{CourseId, Level, Rule};
 use sect_catalog::OfferingRow;
 use sect_reserve::{Audience, Reservation, active, applies};
 
@@ -33,13 +33,6 @@ impl Moment<'_> {
             ),
             None => false,
         }
-    }
-
-    /// The reservation of an id, if there is an id.
-    pub fn named(&self, id: Option<ReservationId>) -> Option<&Reservation>
-        ensures { option_copied result ≡ option_and_then (reservation_of self.now.at) id }
-    {
-        self.reservation(id?)
     }
 
     /// Whether the reservation is obligatory, active and for the student.

@@ -10,7 +10,7 @@ ghost use Rattle.sect_model.specs.Choice.{config_in, subparts_of};
 ghost use Rattle.sect_model.specs.Path.{next_subpart};
 ghost use Rattle.sect_rules.specs.Decided.{subparts_at};
 ghost use Rattle.sect_rules.specs.Ground.{IsGroundOf};
-ghost use Rattle.sect_rules.specs.Found.{IsConfig, IsSection};
+ghost use Rattle.sect_rules.specs.Found.{IsConfig, IsReservation, IsSection};
 
 use crate::ground::Ground;
 use crate::place::config_of_offering;
@@ -28,6 +28,7 @@ pub fn reservations<'a>(
     requires { IsGroundOf world.now.world (Some course) ground }
     ensures value { result.now ≡ option_map_or (λ o. reservations_of world.now.world o.id) (offering_of world.now.world course) [] }
     ensures differ { IsTrue (all_differ (map (λ r. r.id.0) result.now)) }
+    ensures found { All (IsReservation world.now.world) result.now }
 {
     let _ = course;
     world.recall_kept();

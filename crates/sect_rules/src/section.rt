@@ -71,11 +71,11 @@ fn is_asked(only: &[SectionId], section: SectionId) -> bool
 }
 
 /// The sections with one more.
-fn with(sections: Sections, section: SectionId) -> Sections
-    requires { length sections < 6 }
-    ensures { result ≡ sections ++ section ∷ [] }
+fn with(sections: &Sections, section: SectionId) -> Sections
+    requires { length sections.now < 6 }
+    ensures { result ≡ sections.now ++ section ∷ [] }
 {
-    let mut all = sections;
+    let mut all = *sections;
     all.push(section);
     all
 }
@@ -121,13 +121,13 @@ impl Moment<'_> {
         ground: &Ground,
         course: CourseId,
         config: ConfigId,
-        sections: Sections,
+        sections: &Sections,
         section: SectionId,
     ) -> bool
         requires ground { IsGround self.now.at ground.now }
         requires offering { offering_of self.now.at course ≡ Some ground.now.offering.now }
-        requires bound { length sections < 6 }
-        ensures { result ≡ restricted_by (subparts_of self.now.at course config) config (sections ++ section ∷ [])
+        requires bound { length sections.now < 6 }
+        ensures { result ≡ restricted_by (subparts_of self.now.at course config) config (sections.now ++ section ∷ [])
             (restrictions_for self.now.at self.now.student course ground.now.offering.now.id) }
     {
         if ground.restrictions.is_empty() {
@@ -186,15 +186,15 @@ impl Moment<'_> {
         course: CourseId,
         r: Option<&Reservation>,
         config: ConfigId,
-        sections: Sections,
+        sections: &Sections,
         row: &SectionRow,
     ) -> Option<(Rule, u32)>
         requires ground { IsGround self.now.at ground.now }
         requires offering { offering_of self.now.at course ≡ Some ground.now.offering.now }
-        requires bound { length sections < 6 }
+        requires bound { length sections.now < 6 }
         requires row { IsSection self.now.at row.now }
         ensures { result ≡ first_broken (standing_rules self.now.at self.now.student
-            ground.now.offering.now course (option_copied r.entry) config sections row.now.id) }
+            ground.now.offering.now course (option_copied r.entry) config sections.now row.now.id) }
     {
         let section = row.id;
         let earlier = sections.as_slice();
@@ -275,15 +275,15 @@ impl Moment<'_> {
         course: CourseId,
         r: Option<&Reservation>,
         config: ConfigId,
-        sections: Sections,
+        sections: &Sections,
         row: &SectionRow,
     ) -> Option<(Rule, u32)>
         requires ground { IsGround self.now.at ground.now }
         requires offering { offering_of self.now.at course ≡ Some ground.now.offering.now }
-        requires own { IsTrue (own_section self.now.at course config sections row.now.id) }
+        requires own { IsTrue (own_section self.now.at course config sections.now row.now.id) }
         requires row { IsSection self.now.at row.now }
         ensures { result ≡ first_broken (section_rules self.now.at self.now.student want.now
-            ground.now.offering.now course (option_copied r.entry) config sections row.now.id) }
+            ground.now.offering.now course (option_copied r.entry) config sections.now row.now.id) }
     {
         self.recall_kept();
         if let Some(rule) = self.standing_rule(ground, course, r, config, sections, row) {

@@ -104,7 +104,7 @@ impl<'a> Wanted<'a> {
 
     /// The want.
     #[inline(always)]
-    pub fn want(&self) -> &LentWant<'a>
+    pub(crate) fn want(&self) -> &LentWant<'a>
         ensures { result.now ≡ self.now.want }
     {
         &self.want
@@ -112,7 +112,7 @@ impl<'a> Wanted<'a> {
 
     /// The world at the choices, as the student meets it.
     #[inline(always)]
-    pub fn moment(&self) -> &Moment<'a>
+    pub(crate) fn moment(&self) -> &Moment<'a>
         ensures { result.now ≡ record { at = met self.now; student = self.now.mv.student } }
     {
         &self.moment

@@ -1,6 +1,6 @@
 -- A path is complete exactly where no want is left, and what a section leads to.
 use Rattle.std.specs.Prelude.{◌≡◌, ℕ, zero, suc, ◌+◌, ◌<◌, ◌&&◌, not, Bool, true, false, nat_le, cond, List, [], ◌∷◌, ◌++◌, length, Some, None, slice_get, Contains, refl}
-use Rattle.std.proofs.Common.{arith, ap, sym, ◌∙◌}
+use Rattle.std.proofs.Common.{arith, sym, ◌∙◌}
 use Rattle.std.proofs.lemmas.Bool.Decides.{nat_tests}
 use Rattle.std.proofs.lemmas.Option.{slice_get_within}
 use Rattle.sect_base.specs.Tree.{Tree, trees_of}
@@ -66,7 +66,7 @@ went-on w mv p n left h = λ i. search_pick None (sym h i) p.done (search_from w
 pub covered-open : (w : World) (mv : Move) (p : Path) (trees : List Tree) → is_complete mv p ≡ false → cover_each w mv p (options_at w mv p) (trees_of trees) ≡ covered w mv p trees
 covered-open w mv p trees h = λ i. not (sym h i) && cover_each w mv p (options_at w mv p) (trees_of trees)
 
--- a section that is the last due completes a choice, and any other leads to the next subpart
+-- a section that isn't the last due leads to the next subpart
 module _ (w : World) (v : Configured) (section : SectionId) where
   abbrev done : List Choice
   done = v.by.on.wanted.done
@@ -79,16 +79,6 @@ module _ (w : World) (v : Configured) (section : SectionId) where
 
   abbrev is-last : Bool
   is-last = nat_le (length (subparts_of w v.by.on.course v.config)) (length (v.sections ++ section ∷ []))
-
-  pub ends : (choice : Choice) → completed_by w (config_path v) section ≡ Some choice → extend w (config_path v) (Section section) ≡ opened (done ++ choice ∷ [])
-  ends choice h = by_test is-last h
-    where
-      same : (x y : Choice) → Some x ≡ Some y → x ≡ y
-      same x y e = cc
-
-      by_test : (b : Bool) → cond b (Some made) None ≡ Some choice → cond b (opened (done ++ made ∷ [])) (config_path next) ≡ opened (done ++ choice ∷ [])
-      by_test true e = ap (λ d. opened (done ++ d ∷ [])) (same made choice e)
-      by_test false e = cc
 
   pub goes : completed_by w (config_path v) section ≡ None → extend w (config_path v) (Section section) ≡ config_path next
   goes h = by_test is-last h

@@ -1,6 +1,6 @@
 -- The options of a path taken in turn, with the trees of those in front.
-use Rattle.std.specs.Prelude.{◌≡◌, ℕ, zero, suc, ◌+◌, ◌-◌, ◌<◌, Bool, true, false, List, [], ◌∷◌, ◌++◌, Option, Some, None, slice_get, refl}
-use Rattle.std.proofs.Common.{sym, ◌∙◌, ap, arith, drop}
+use Rattle.std.specs.Prelude.{◌≡◌, ℕ, zero, suc, ◌+◌, ◌-◌, ◌<◌, Bool, true, false, List, [], ◌∷◌, ◌++◌, Option, Some, None, slice_get, length, ◌≤◌, refl}
+use Rattle.std.proofs.Common.{sym, ◌∙◌, ap, arith, take, drop}
 use Rattle.sect_base.specs.Tree.{Tree, trees_of}
 use Rattle.sect_model.specs.Data.{Choice, Move, Rule}
 use Rattle.sect_model.specs.declared.pick.Pick.{Pick}
@@ -63,6 +63,24 @@ drop-none (y ∷ ys) (suc i) h = drop-none ys i h
 pub more-numbers : (ts : List Tree) (t : Tree) → HaveNumbers (trees_of ts) → HasNumbers t → HaveNumbers (trees_of (ts ++ t ∷ []))
 more-numbers [] t h k = (k, tt)
 more-numbers (u ∷ us) t h k = (h.0, more-numbers us t h.1 k)
+
+-- one more on the stack
+pub take-more : {X : Type 0} (xs : List X) (n : ℕ) (x : X) → n ≤ length xs → take n (xs ++ x ∷ []) ≡ take n xs
+take-more [] zero x h = refl
+take-more [] (suc n) x h = absurd (omega (arith, h))
+take-more (y ∷ ys) zero x h = refl
+take-more (y ∷ ys) (suc n) x h = ap (λ zs. y ∷ zs) (take-more ys n x (omega (arith, h)))
+
+pub drop-more : {X : Type 0} (xs : List X) (n : ℕ) (x : X) → n ≤ length xs → drop n (xs ++ x ∷ []) ≡ drop n xs ++ x ∷ []
+drop-more [] zero x h = refl
+drop-more [] (suc n) x h = absurd (omega (arith, h))
+drop-more (y ∷ ys) zero x h = refl
+drop-more (y ∷ ys) (suc n) x h = drop-more ys n x (omega (arith, h))
+
+pub longer-more : {X : Type 0} (xs : List X) (n : ℕ) (x : X) → n ≤ length xs → n ≤ length (xs ++ x ∷ [])
+longer-more [] n x h = omega (arith, h)
+longer-more (y ∷ ys) zero x h = omega arith
+longer-more (y ∷ ys) (suc n) x h = let more = longer-more ys n x (omega (arith, h)) in omega (arith, more)
 
 -- below a path with some decision left
 pub search-some : (w : World) (mv : Move) (n : ℕ) (p : Path) (left : ℕ) → 0 < n → search_from w mv n p left ≡ search_options w mv (search_from w mv (n - 1)) p (options_at w mv p) left

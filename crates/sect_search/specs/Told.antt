@@ -1,5 +1,5 @@
 -- What the parts of a search tell, with what is left of the budget.
-use Rattle.std.specs.Prelude.{ℕ, List, [], ◌∷◌, None}
+use Rattle.std.specs.Prelude.{◌≡◌, ℕ, List, [], ◌∷◌, None}
 use Rattle.sect_model.specs.Data.{Move}
 use Rattle.sect_model.specs.declared.pick.Pick.{Pick}
 use Rattle.sect_model.specs.Path.{Path, extend, is_complete}
@@ -54,6 +54,12 @@ abbrev pub ToldNumbers : Found → Type 0
 ToldNumbers (found_at choices) = Unit {0}
 ToldNumbers (refuted_at tree) = HasNumbers tree
 ToldNumbers spent_at = Unit {0}
+
+-- where all that was looked at is refuted, the trees on the stack are those that lay there before
+abbrev pub LeavesTrees : List Tree → List Tree → Found → Type 0
+LeavesTrees before after (found_at choices) = Unit {0}
+LeavesTrees before after (refuted_at tree) = after ≡ before
+LeavesTrees before after spent_at = Unit {0}
 
 -- each number of the tree has 32 bits, where there is one
 abbrev pub OutcomeNumbers : Outcome → Type 0

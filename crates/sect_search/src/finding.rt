@@ -93,7 +93,14 @@ fn find<const N: usize>(
         Some(want) => {
             let wanted = Wanted::new(world, mv, &[], want);
             let mut left = budget.get();
-            let searched = below::<N>(alloc, Due::Course(&wanted), decisions(mv), &mut left)?;
+            let mut trees = Vec::new(alloc);
+            let searched = below::<N>(
+                alloc,
+                Due::Course(&wanted),
+                decisions(mv),
+                &mut left,
+                &mut trees,
+            )?;
             Ok(match searched {
                 Searched::Found(choices) => Outcome::Found(choices, budget.get() - left),
                 Searched::Refuted(tree) => Outcome::Blocked(tree, budget.get() - left),

@@ -125,8 +125,8 @@ fn covers_behind<const N: usize>(step: Step, trees: &[Block]) -> bool
             let on = OnCourse::new(wanted, course);
             cover::<N>(Due::Reservation(&on), trees)
         }
-        Step::Reservation(on, id) => {
-            let by = Joined::new(on, id, on.named(id));
+        Step::Reservation(on, row) => {
+            let by = Joined::new(on, row);
             cover::<N>(Due::Config(&by), trees)
         }
         Step::Config(by, row) => {

@@ -1,25 +1,29 @@
 // One walk, depth first: each option that is looked at takes one from the budget, and below a
-// decision that breaks a rule nothing is looked at. The tree is made on the way back.
+// decision that breaks a rule nothing is looked at. The tree is made on the way back: the trees of
+// the options refuted so far lie on one stack, and a node that is refuted takes its own off it.
 
-ghost use Rattle.std.specs.Prelude.{◌≡◌, ◌-◌, ◌≤◌, ◌<◌, ◌++◌, ◌∷◌, [], length, Contains, IfOk};
+ghost use Rattle.std.specs.Prelude.{◌≡◌, ◌-◌, ◌≤◌, ◌<◌, ◌++◌, ◌∷◌, [], length, Contains, IfOk, OnOk};
+ghost use Rattle.std.proofs.Common.{take, drop};
 ghost use Rattle.sect_model.specs.Path.{options_at};
 ghost use Rattle.sect_model.specs.Stands.{MoveStands};
 ghost use Rattle.sect_rules.specs.Completed.{opened};
 ghost use Rattle.sect_rules.specs.Due.{place_of, place_at, pick_at, IsStep};
-ghost use Rattle.sect_search.specs.Told.{told, look, behind, as_one, go_from, ToldNumbers};
+ghost use Rattle.sect_search.specs.Told.{told, look, behind, as_one, go_from, ToldNumbers, LeavesTrees};
 
 use crate::searched::Searched;
 use sect_base::{Block, Choice, Items, Memory};
 use sect_rules::{Configured, Due, Joined, OnCourse, PathOf, Step, Wanted, broken, step_at};
 use std::alloc::Global;
 
-/// The search below a node, of at most so many decisions, with its trees in one and with what is left of the budget.
+/// The search below a node, of at most so many decisions, with its trees in one and with what is left of the budget. The trees
+/// of the options refuted so far lie on the stack over those that it had.
 #[cycle(walking)]
 pub fn below<const N: usize>(
     alloc: Global,
     due: Due,
     decisions: u32,
     left: &mut u32,
+    trees: &mut Vec<Block>,
 ) -> Result<Searched, Memory>
     requires stands { MoveStands (place_of due).world (place_of due).mv }
     requires room { length (place_of due).mv.take ≤ N }
@@ -27,26 +31,28 @@ pub fn below<const N: usize>(
     ensures found { IfOk result (λ r. told r left.new ≡ as_one (place_of due.entry).world (place_of due.entry).mv (place_of due.entry).path decisions left.old) }
     ensures numbers { IfOk result ToldNumbers }
     ensures less { left.new ≤ left.old }
+    ensures kept { IfOk result (LeavesTrees trees.old.items trees.new.items) }
 {
-    let budget = *left;
-    let mut trees = Vec::new(alloc);
     if decisions == 0 {
-        return Ok(Searched::Refuted(Block::split(trees)));
+        return Ok(Searched::Refuted(Block::split(Vec::new(alloc))));
     }
+    let budget = *left;
+    let base = trees.len();
     let mut at = 0;
     'options: while let Some(step) = step_at(due, at) {
         if *left == 0 {
             return Ok(Searched::Spent);
         }
         *left -= 1;
-        match visit::<N>(alloc, step, decisions - 1, left)? {
+        match visit::<N>(alloc, step, decisions - 1, left, trees)? {
             Searched::Found(choices) => return Ok(Searched::Found(choices)),
-            Searched::Refuted(tree) => trees.push(tree)?,
+            Searched::Refuted(tree) => on_stack(trees, tree)?,
             Searched::Spent => return Ok(Searched::Spent),
         }
         at += 1;
     }
-    Ok(Searched::Refuted(Block::split(trees)))
+    let own = off_stack(alloc, trees, base)?;
+    Ok(Searched::Refuted(Block::split(own)))
 }
 
 /// A look at one option: it breaks a rule, or the search goes on behind it, with at most so many decisions more.
@@ -56,6 +62,7 @@ fn visit<const N: usize>(
     step: Step,
     decisions: u32,
     left: &mut u32,
+    trees: &mut Vec<Block>,
 ) -> Result<Searched, Memory>
     requires stands { MoveStands (place_at step).world (place_at step).mv }
     requires room { length (place_at step).mv.take ≤ N }
@@ -65,10 +72,11 @@ fn visit<const N: usize>(
     ensures found { IfOk result (λ r. told r left.new ≡ look (place_at step.entry) (pick_at step.entry) decisions left.old) }
     ensures numbers { IfOk result ToldNumbers }
     ensures less { left.new ≤ left.old }
+    ensures kept { IfOk result (LeavesTrees trees.old.items trees.new.items) }
 {
     match broken(step) {
         Some((rule, number)) => Ok(Searched::Refuted(Block::broken(rule, number))),
-        None => go_behind::<N>(alloc, step, decisions, left),
+        None => go_behind::<N>(alloc, step, decisions, left, trees),
     }
 }
 
@@ -79,6 +87,7 @@ fn go_behind<const N: usize>(
     step: Step,
     decisions: u32,
     left: &mut u32,
+    trees: &mut Vec<Block>,
 ) -> Result<Searched, Memory>
     requires stands { MoveStands (place_at step).world (place_at step).mv }
     requires room { length (place_at step).mv.take ≤ N }
@@ -88,29 +97,37 @@ fn go_behind<const N: usize>(
     ensures found { IfOk result (λ r. told r left.new ≡ behind (place_at step.entry) (pick_at step.entry) decisions left.old) }
     ensures numbers { IfOk result ToldNumbers }
     ensures less { left.new ≤ left.old }
+    ensures kept { IfOk result (LeavesTrees trees.old.items trees.new.items) }
 {
     match step {
         Step::Course(wanted, course) => {
             let on = OnCourse::new(wanted, course);
-            below::<N>(alloc, Due::Reservation(&on), decisions, left)
+            below::<N>(alloc, Due::Reservation(&on), decisions, left, trees)
         }
-        Step::Reservation(on, id) => {
-            let by = Joined::new(on, id, on.named(id));
-            below::<N>(alloc, Due::Config(&by), decisions, left)
+        Step::Reservation(on, row) => {
+            let by = Joined::new(on, row);
+            below::<N>(alloc, Due::Config(&by), decisions, left, trees)
         }
         Step::Config(by, row) => {
             let inside = Configured::new(by, row);
-            below::<N>(alloc, Due::Section(&inside), decisions, left)
+            below::<N>(alloc, Due::Section(&inside), decisions, left, trees)
         }
         Step::Section(inside, row) => {
             inside.recall_room(row.id);
             match inside.completed(row.id) {
                 Some(choice) => {
-                    ended::<N>(alloc, inside.by().on().wanted(), choice, decisions, left)
+                    ended::<N>(
+                        alloc,
+                        inside.by().on().wanted(),
+                        choice,
+                        decisions,
+                        left,
+                        trees,
+                    )
                 }
                 None => {
                     let next = inside.behind(row.id);
-                    below::<N>(alloc, Due::Section(&next), decisions, left)
+                    below::<N>(alloc, Due::Section(&next), decisions, left, trees)
                 }
             }
         }
@@ -125,6 +142,7 @@ fn ended<const N: usize>(
     choice: Choice,
     decisions: u32,
     left: &mut u32,
+    trees: &mut Vec<Block>,
 ) -> Result<Searched, Memory>
     requires stands { MoveStands wanted.now.world wanted.now.mv }
     requires room { length wanted.now.mv.take ≤ N }
@@ -132,6 +150,7 @@ fn ended<const N: usize>(
     ensures found { IfOk result (λ r. told r left.new ≡ go_from wanted.now.world wanted.now.mv (opened (wanted.now.done ++ choice ∷ [])) decisions left.old) }
     ensures numbers { IfOk result ToldNumbers }
     ensures less { left.new ≤ left.old }
+    ensures kept { IfOk result (LeavesTrees trees.old.items trees.new.items) }
 {
     wanted.recall_left();
     let mv = wanted.mv();
@@ -144,9 +163,33 @@ fn ended<const N: usize>(
         Some(want) => {
             let path = PathOf::<N>::made(done, choice);
             let next = Wanted::new(wanted.world(), mv, path.done(), want);
-            below::<N>(alloc, Due::Course(&next), decisions, left)
+            below::<N>(alloc, Due::Course(&next), decisions, left, trees)
         }
     }
+}
+
+/// The tree, put on the stack. Room is made first, so that nothing is handed back.
+#[inline(always)]
+fn on_stack(trees: &mut Vec<Block>, tree: Block) -> Result<(), Memory>
+    ensures { OnOk result (trees.new.items ≡ trees.old.items ++ tree ∷ []) }
+{
+    trees.reserve(1)?;
+    trees.push_reserved(tree);
+    Ok(())
+}
+
+/// The trees from a place on, taken off the stack. Where that is all of it, its room goes with them.
+#[inline(always)]
+fn off_stack(alloc: Global, trees: &mut Vec<Block>, base: usize) -> Result<Vec<Block>, Memory>
+    requires { base ≤ length trees.old.items }
+    ensures own { IfOk result (λ own. own.items ≡ drop base trees.old.items) }
+    ensures kept { OnOk result (trees.new.items ≡ take base trees.old.items) }
+{
+    if base == 0 {
+        return Ok(std::mem::replace(trees, Vec::new(alloc)));
+    }
+    let own = trees.split_off(base)?;
+    Ok(own)
 }
 
 /// The choices with one more, as a list of their own.

@@ -9,6 +9,7 @@ use Rattle.sect_model.specs.declared.pick.Pick.TheVariants.{Section}
 use Rattle.sect_model.specs.Covers.{covers_with, cover_each}
 use Rattle.sect_model.specs.Path.{options_at, extend, is_complete}
 use Rattle.sect_rules.specs.Due.{place_of, place_at, pick_at}
+use Rattle.sect_rules.specs.Found.{id_of}
 use Rattle.sect_rules.specs.Wanted.{OnCourse, Joined, Configured, course_path, joined_path, config_path}
 use Rattle.sect_search.specs.Covered.{covered, covered_behind}
 use Rattle.sect_search.proofs.OpenLemmas.{open-option, covered-open, goes}
@@ -78,7 +79,7 @@ covers_behind-returns-in-Course g t c =
 pub covers_behind-returns-in-Reservation : goal.covers_behind-returns-in-Reservation
 covers_behind-returns-in-Reservation g t c =
     let at = place_at c.args.step in
-    let v : Joined = record { on = c.in-Reservation.on.now; id = c.in-Reservation.id } in
+    let v : Joined = record { on = c.in-Reservation.on.now; id = id_of c.in-Reservation.row } in
     let going = subst (λ q. is_complete q.mv q.path ≡ false) (ap place_at c.in-Reservation.is) (open-option at.world at.mv at.path (pick_at c.args.step) c.requires.option) in
     c.cover-in-Reservation.ensures
     ∙ ap (λ v. cover_each v.on.wanted.world v.on.wanted.mv (joined_path v) (options_at v.on.wanted.world v.on.wanted.mv (joined_path v)) (trees_of c.args.trees.now)) c.new-by.ensures

@@ -1,17 +1,18 @@
 -- option by option, with the trees of those in front
-use Rattle.std.proofs.Common.{◌≡◌, ◌-◌, ◌+◌, ◌++◌, ◌∷◌, [], false, IfOk, sym, ◌∙◌, ap, subst, arith}
+use Rattle.std.proofs.Common.{◌≡◌, ◌-◌, ◌+◌, ◌++◌, ◌∷◌, [], false, IfOk, sym, ◌∙◌, ap, subst, arith, ◌≤◌, length, take, drop}
 use Rattle.std.specs.Option.{option_map}
 use Rattle.sect_model.specs.declared.pick.Pick.TheVariants.{Section}
 use Rattle.sect_model.specs.Path.{options_at, extend, is_complete}
 use Rattle.sect_model.specs.Search.{found, refuted, or_later, search_from}
-use Rattle.sect_base.specs.Tree.{trees_of}
+use Rattle.sect_base.specs.Tree.{split, trees_of}
 use Rattle.sect_rules.specs.Completed.{opened}
 use Rattle.sect_rules.specs.Due.{place_of, place_at, pick_at}
+use Rattle.sect_rules.specs.Found.{id_of}
 use Rattle.sect_rules.specs.Wanted.{OnCourse, Joined, Configured, course_path, joined_path, config_path}
 use Rattle.sect_search.specs.Texts.{HaveNumbers}
-use Rattle.sect_search.specs.Told.{told, look, behind, as_one, go_from, ToldNumbers}
+use Rattle.sect_search.specs.Told.{told, look, behind, as_one, go_from, ToldNumbers, LeavesTrees}
 use Rattle.sect_search.proofs.OpenLemmas.{open-option, went-on, whole-from, want-after, open-want, goes}
-use Rattle.sect_search.proofs.WalkLemmas.{search-some, from, from-spent, from-none, from-found, from-over, from-next, more-numbers}
+use Rattle.sect_search.proofs.WalkLemmas.{search-some, from, from-spent, from-none, from-found, from-over, from-next, more-numbers, take-more, drop-more, longer-more}
 use Rattle.sect_search.proofs.walk.+walking.Goals as goal
 
 pub below-returns-then-left-eq0-clause-found : goal.below-returns-then-left-eq0-clause-found
@@ -22,8 +23,8 @@ below-returns-then-left-eq0-clause-found g t c =
     let rest = search_from w mv (c.args.decisions - 1) in
     ap (or_later (λ left. refuted [] left)) (sym (search-some w mv c.args.decisions p c.args.left.now (omega (arith, c.if-decisions-eq0.false))
     ∙ c.options.invariant.same
-    ∙ (λ i. from w mv rest p (options_at w mv p) c.options.trees.items c.options.at (c.if-left-eq0.true i))
-    ∙ from-spent w mv rest p (options_at w mv p) c.options.trees.items c.options.at (pick_at c.in-Some.step) (sym c.in-Some.ensures.value)))
+    ∙ (λ i. from w mv rest p (options_at w mv p) (drop c.len-base.result c.options.trees.items) c.options.at (c.if-left-eq0.true i))
+    ∙ from-spent w mv rest p (options_at w mv p) (drop c.len-base.result c.options.trees.items) c.options.at (pick_at c.in-Some.step) (sym c.in-Some.ensures.value)))
 
 pub below-returns-in-Found-clause-found : goal.below-returns-in-Found-clause-found
 below-returns-in-Found-clause-found g t c =
@@ -32,7 +33,7 @@ below-returns-in-Found-clause-found g t c =
     let p = (place_of c.args.due).path in
     ap (or_later (λ left. refuted [] left)) (sym (search-some w mv c.args.decisions p c.args.left.now (omega (arith, c.if-decisions-eq0.false))
     ∙ c.options.invariant.same
-    ∙ from-found w mv (search_from w mv (c.args.decisions - 1)) p (options_at w mv p) c.options.trees.items c.options.at (c.options.left - 1) c.options.left c.visit.new.left (pick_at c.in-Some.step) c.in-Found.choices
+    ∙ from-found w mv (search_from w mv (c.args.decisions - 1)) p (options_at w mv p) (drop c.len-base.result c.options.trees.items) c.options.at (c.options.left - 1) c.options.left c.visit.new.left (pick_at c.in-Some.step) c.in-Found.choices
     (sym c.in-Some.ensures.value) (omega (arith, c.if-left-eq0.false)) ((λ i. told (sym c.in-Found.is i) c.visit.new.left) ∙ c.in_ok-choices.ensures.found
     ∙ (λ i. look (c.in-Some.ensures.place i) (pick_at c.in-Some.step) (c.args.decisions - 1) (c.options.left - 1)))))
 
@@ -43,7 +44,7 @@ below-returns-in-Spent-clause-found g t c =
     let p = (place_of c.args.due).path in
     ap (or_later (λ left. refuted [] left)) (sym (search-some w mv c.args.decisions p c.args.left.now (omega (arith, c.if-decisions-eq0.false))
     ∙ c.options.invariant.same
-    ∙ from-over w mv (search_from w mv (c.args.decisions - 1)) p (options_at w mv p) c.options.trees.items c.options.at (c.options.left - 1) c.options.left (pick_at c.in-Some.step)
+    ∙ from-over w mv (search_from w mv (c.args.decisions - 1)) p (options_at w mv p) (drop c.len-base.result c.options.trees.items) c.options.at (c.options.left - 1) c.options.left (pick_at c.in-Some.step)
     (sym c.in-Some.ensures.value) (omega (arith, c.if-left-eq0.false)) ((λ i. told (sym c.in-Spent.is i) c.visit.new.left) ∙ c.in_ok-choices.ensures.found
     ∙ (λ i. look (c.in-Some.ensures.place i) (pick_at c.in-Some.step) (c.args.decisions - 1) (c.options.left - 1)))))
 
@@ -55,16 +56,22 @@ below-options-preserved g t c =
     let w = (place_of c.args.due).world in
     let mv = (place_of c.args.due).mv in
     let p = (place_of c.args.due).path in
-    let rest = search_from w mv (c.args.decisions - 1) in record {
+    let rest = search_from w mv (c.args.decisions - 1) in
+    let before = c.options.trees.items in
+    let stays : c.visit.new.trees.items ≡ before = subst (LeavesTrees before c.visit.new.trees.items) c.in-Refuted.is c.in_ok-choices.ensures.kept in
+    let pushed = c.in_ok-on_stack-in-Refuted.ensures ∙ ap (λ trees. trees ++ c.in-Refuted.tree ∷ []) stays in
+    let own = ap (drop c.len-base.result) pushed ∙ drop-more before c.len-base.result c.in-Refuted.tree c.options.invariant.room in record {
       same = c.options.invariant.same
-          ∙ from-next w mv rest p (options_at w mv p) c.options.trees.items c.options.at (c.options.left - 1) c.options.left c.visit.new.left (pick_at c.in-Some.step) c.in-Refuted.tree
+          ∙ from-next w mv rest p (options_at w mv p) (drop c.len-base.result before) c.options.at (c.options.left - 1) c.options.left c.visit.new.left (pick_at c.in-Some.step) c.in-Refuted.tree
           (sym c.in-Some.ensures.value) (omega (arith, c.if-left-eq0.false)) ((λ i. told (sym c.in-Refuted.is i) c.visit.new.left) ∙ c.in_ok-choices.ensures.found
           ∙ (λ i. look (c.in-Some.ensures.place i) (pick_at c.in-Some.step) (c.args.decisions - 1) (c.options.left - 1)))
-          ∙ (λ i. from w mv rest p (options_at w mv p) (sym c.in_ok-push-in-Refuted.ensures.items i) (c.options.at + 1) c.visit.new.left);
+          ∙ (λ i. from w mv rest p (options_at w mv p) (sym own i) (c.options.at + 1) c.visit.new.left);
       less = omega (arith, c.options.invariant.less, c.if-left-eq0.false, c.visit.ensures.less);
       whole = c.options.invariant.whole;
-      numbers = subst (λ trees. HaveNumbers (trees_of trees)) (sym c.in_ok-push-in-Refuted.ensures.items)
-          (more-numbers c.options.trees.items c.in-Refuted.tree c.options.invariant.numbers (subst ToldNumbers c.in-Refuted.is c.in_ok-choices.ensures.numbers));
+      numbers = subst (λ trees. HaveNumbers (trees_of trees)) (sym own)
+          (more-numbers (drop c.len-base.result before) c.in-Refuted.tree c.options.invariant.numbers (subst ToldNumbers c.in-Refuted.is c.in_ok-choices.ensures.numbers));
+      room = subst (λ trees. c.len-base.result ≤ length trees) (sym pushed) (longer-more before c.len-base.result c.in-Refuted.tree c.options.invariant.room);
+      kept = ap (take c.len-base.result) pushed ∙ take-more before c.len-base.result c.in-Refuted.tree c.options.invariant.room ∙ c.options.invariant.kept;
     }
 
 pub below-returns-clause-found : goal.below-returns-clause-found
@@ -72,9 +79,9 @@ below-returns-clause-found g t c =
     let w = (place_of c.args.due).world in
     let mv = (place_of c.args.due).mv in
     let p = (place_of c.args.due).path in
-    (λ i. refuted (c.split-2.ensures i ∷ []) c.options.left) ∙ ap (or_later (λ left. refuted [] left)) (sym (search-some w mv c.args.decisions p c.args.left.now (omega (arith, c.if-decisions-eq0.false))
+    (λ i. refuted (c.split-2.ensures i ∷ []) c.options.left) ∙ (λ i. refuted (split (trees_of (c.in_ok-own.ensures.own i)) ∷ []) c.options.left) ∙ ap (or_later (λ left. refuted [] left)) (sym (search-some w mv c.args.decisions p c.args.left.now (omega (arith, c.if-decisions-eq0.false))
     ∙ c.options.invariant.same
-    ∙ from-none w mv (search_from w mv (c.args.decisions - 1)) p (options_at w mv p) c.options.trees.items c.options.at c.options.left (sym c.step_at.ensures.value ∙ ap (option_map pick_at) c.in_default.is)))
+    ∙ from-none w mv (search_from w mv (c.args.decisions - 1)) p (options_at w mv p) (drop c.len-base.result c.options.trees.items) c.options.at c.options.left (sym c.step_at.ensures.value ∙ ap (option_map pick_at) c.in_default.is)))
 
 -- the option is a course
 pub go_behind-returns-in-Course-clause-found : goal.go_behind-returns-in-Course-clause-found
@@ -96,7 +103,7 @@ go_behind-returns-in-Reservation-clause-found g t c =
     let at = place_at c.args.step in
     let n = c.args.decisions in
     let left = c.args.left.now in
-    let v : Joined = record { on = c.in-Reservation.on.now; id = c.in-Reservation.id } in
+    let v : Joined = record { on = c.in-Reservation.on.now; id = id_of c.in-Reservation.row } in
     let going = subst (λ q. is_complete q.mv q.path ≡ false) (ap place_at c.in-Reservation.is) (open-option at.world at.mv at.path (pick_at c.args.step) c.requires.option) in
     subst (λ x. IfOk c.below-in-Reservation.result (λ r. told r c.below-in-Reservation.new.left ≡ x))
     (ap (λ v. as_one v.on.wanted.world v.on.wanted.mv (joined_path v) n left) c.new-by.ensures

@@ -1,5 +1,6 @@
--- the options behind are searched with what is left, behind the trees of those in front
-use Rattle.std.proofs.Common.{◌≡◌, ◌+◌, ◌-◌, ◌*◌, ◌≤◌, drop}
+-- the options behind are searched with what is left, behind the trees of those in front,
+-- which lie on the stack over those that lay there before
+use Rattle.std.proofs.Common.{◌≡◌, ◌+◌, ◌-◌, ◌*◌, ◌≤◌, length, take, drop}
 use Rattle.sect_model.specs.Path.{options_at}
 use Rattle.sect_model.specs.Search.{search_options, search_from}
 use Rattle.sect_base.specs.Tree.{trees_of}
@@ -26,10 +27,12 @@ invariant-below-options g l =
     let mv = (place_of l.due).mv in
     let p = (place_of l.due).path in record {
       same : search_options w mv (search_from w mv (l.decisions - 1)) p (options_at w mv p) l.initial.left
-          ≡ with_trees l.trees.items (search_options w mv (search_from w mv (l.decisions - 1)) p (drop l.at (options_at w mv p)) l.left);
+          ≡ with_trees (drop l.base l.trees.items) (search_options w mv (search_from w mv (l.decisions - 1)) p (drop l.at (options_at w mv p)) l.left);
       less : l.at + l.left ≤ l.budget;
       whole : l.budget ≡ l.initial.left;
-      numbers : HaveNumbers (trees_of l.trees.items);
+      numbers : HaveNumbers (trees_of (drop l.base l.trees.items));
+      room : l.base ≤ length l.trees.items;
+      kept : take l.base l.trees.items ≡ l.initial.trees.items;
     }
 
 abbrev pub decreases-below-options : goal.decreases-below-options

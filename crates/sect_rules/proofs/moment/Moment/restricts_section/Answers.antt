@@ -6,5 +6,5 @@ use Rattle.sect_rules.proofs.moment.Moment.restricts_section.Goals as goal
 pub returns-then-is_empty : goal.returns-then-is_empty
 returns-then-is_empty c =
     let a = c.args in
-    unrestricted a.self.now.at a.self.now.student a.ground.now.offering.now.id a.course a.config (a.sections ++ a.section ∷ []) a.ground.now.restrictions.now c.requires.ground.restrictions
+    unrestricted a.self.now.at a.self.now.student a.ground.now.offering.now.id a.course a.config (a.sections.now ++ a.section ∷ []) a.ground.now.restrictions.now c.requires.ground.restrictions
     (sym c.is_empty.ensures ∙ c.if-is_empty.true)

@@ -35,14 +35,14 @@ pub standing_rule-requires : goal.standing_rule-requires
 standing_rule-requires c = record {
   ground = c.requires.ground;
   offering = c.requires.offering;
-  bound = sections-few c.args.self.now.at c.recall_kept.ensures.checked c.args.course c.args.config c.args.sections c.args.row.now.id c.requires.own;
+  bound = sections-few c.args.self.now.at c.recall_kept.ensures.checked c.args.course c.args.config c.args.sections.now c.args.row.now.id c.requires.own;
   row = c.requires.row;
 }
 
 pub space_rule-requires : goal.space_rule-requires
 space_rule-requires c = record {
   ground = c.requires.ground;
-  own = section-own c.args.self.now.at c.recall_kept.ensures.checked c.args.course c.args.config c.args.sections c.args.row.now.id c.args.ground.now.offering.now c.recall_kept.ensures.fit
+  own = section-own c.args.self.now.at c.recall_kept.ensures.checked c.args.course c.args.config c.args.sections.now c.args.row.now.id c.args.ground.now.offering.now c.recall_kept.ensures.fit
       c.requires.offering c.requires.own;
   row = c.requires.row;
 }
@@ -50,12 +50,12 @@ space_rule-requires c = record {
 pub returns-in-Some : goal.returns-in-Some
 returns-in-Some c =
     let a = c.args in
-    in-standing a.self.now.at a.self.now.student a.want.now a.course a.config a.sections a.row.now.id a.ground.now.offering.now (option_copied a.r) c.in-Some.rule c.in-Some.ensures
+    in-standing a.self.now.at a.self.now.student a.want.now a.course a.config a.sections.now a.row.now.id a.ground.now.offering.now (option_copied a.r) c.in-Some.rule c.in-Some.ensures
 
 pub returns-in-Some-space_rule : goal.returns-in-Some-space_rule
 returns-in-Some-space_rule c =
     let a = c.args in
-    in-space a.self.now.at a.self.now.student a.want.now a.course a.config a.sections a.row.now.id a.ground.now.offering.now (option_copied a.r) c.in-Some-space_rule.rule
+    in-space a.self.now.at a.self.now.student a.want.now a.course a.config a.sections.now a.row.now.id a.ground.now.offering.now (option_copied a.r) c.in-Some-space_rule.rule
     (sym c.in_default.is ∙ c.standing_rule.ensures) c.in-Some-space_rule.ensures
 
 pub returns : goal.returns
@@ -63,5 +63,5 @@ returns c =
     let a = c.args in
     c.time_rule.ensures
     ∙ (λ i. first_broken (time_rules a.self.now.at a.self.now.student a.want.now (option_copied a.r) (c.as_slice.ensures i) a.row.now.id))
-    ∙ in-time a.self.now.at a.self.now.student a.want.now a.course a.config a.sections a.row.now.id a.ground.now.offering.now (option_copied a.r)
+    ∙ in-time a.self.now.at a.self.now.student a.want.now a.course a.config a.sections.now a.row.now.id a.ground.now.offering.now (option_copied a.r)
     (sym c.in_default.is ∙ c.standing_rule.ensures) (sym c.in_default-space_rule.is ∙ c.space_rule.ensures)

@@ -6,9 +6,10 @@ use Rattle.sect_model.specs.declared.pick.Pick.TheVariants.{Reservation as by_re
 use Rattle.sect_model.specs.World.{reservation_of}
 use Rattle.sect_model.specs.Rules.{leaf_of, first_broken, reservation_rules}
 use Rattle.sect_rules.specs.Completed.{opened}
+use Rattle.sect_rules.specs.Found.{IsChosen, id_of}
 use Rattle.sect_rules.specs.Ground.{IsGround, IsGroundOf}
 use Rattle.sect_rules.specs.Wanted.{OnCourse, course_path, met}
-use Rattle.sect_rules.proofs.AtLemmas.{ground-at, reservation-at}
+use Rattle.sect_rules.proofs.AtLemmas.{reservation-at}
 use Rattle.sect_rules.proofs.DueLemmas.{ground-met, reservation-leaf, reservation-none}
 use Rattle.sect_rules.proofs.on_course.OnCourse.broken.Goals as goal
 
@@ -16,26 +17,30 @@ pub reservation_rule-requires : goal.reservation_rule-requires
 reservation_rule-requires c =
     let s = c.self.inside in
     let v : OnCourse = record { wanted = s.wanted.now; course = s.course } in
-    let h : IsGroundOf (met v.wanted) (Some v.course) s.ground = ground-at v.wanted.world v.wanted.mv (opened v.wanted.done) (Some v.course) s.ground c.self.invariant.0 in
-    subst (λ m. IsGround m.at c.in-Some.ground) (sym c.moment-moment.ensures) (ground-met v c.recall_want.ensures s.ground h c.in-Some.ground c.in-Some.is)
+    let ground = option_copied c.ground.result in
+    let h : IsGroundOf (met v.wanted) (Some v.course) ground = subst (λ v. IsGroundOf (met v.wanted) (Some v.course) ground) (sym c.self.view_is) c.ground.ensures in
+    subst (λ m. IsGround m.at c.in-Some.ground.now) (sym c.moment-moment.ensures) (ground-met v c.recall_want.ensures ground h c.in-Some.ground.now (ap option_copied c.in-Some.is))
 
 pub returns-in-Some : goal.returns-in-Some
 returns-in-Some c =
     let s = c.self.inside in
     let v : OnCourse = record { wanted = s.wanted.now; course = s.course } in
-    let h : IsGroundOf (met v.wanted) (Some v.course) s.ground = ground-at v.wanted.world v.wanted.mv (opened v.wanted.done) (Some v.course) s.ground c.self.invariant.0 in
-    let row : option_copied c.args.row ≡ option_and_then (reservation_of (met v.wanted)) c.args.id
-    = subst (λ v. option_copied c.args.row ≡ option_and_then (reservation_of v.wanted.world) c.args.id) (sym c.self.view_is) c.requires
-    ∙ reservation-at v.wanted.world v.wanted.mv (opened v.wanted.done) c.args.id in
-    subst (λ v. c.reservation_rule.result ≡ leaf_of v.wanted.world v.wanted.mv (course_path v) (by_reservation c.args.id)) c.self.view_is
+    let ground = option_copied c.ground.result in
+    let h : IsGroundOf (met v.wanted) (Some v.course) ground = subst (λ v. IsGroundOf (met v.wanted) (Some v.course) ground) (sym c.self.view_is) c.ground.ensures in
+    let id = id_of c.args.row in
+    let row : option_copied c.args.row ≡ option_and_then (reservation_of (met v.wanted)) id
+    = subst (λ v. IsChosen v.wanted.world c.args.row) (sym c.self.view_is) c.requires
+    ∙ reservation-at v.wanted.world v.wanted.mv (opened v.wanted.done) id in
+    subst (λ v. c.reservation_rule.result ≡ leaf_of v.wanted.world v.wanted.mv (course_path v) (by_reservation id)) c.self.view_is
     (c.reservation_rule.ensures
-    ∙ ap (λ m. first_broken (reservation_rules m.at m.student c.in-Some.ground.offering.now v.course (option_copied c.args.row))) c.moment-moment.ensures
-    ∙ reservation-leaf v c.recall_want.ensures s.ground h c.args.id (option_copied c.args.row) c.in-Some.ground row c.in-Some.is)
+    ∙ ap (λ m. first_broken (reservation_rules m.at m.student c.in-Some.ground.now.offering.now v.course (option_copied c.args.row))) c.moment-moment.ensures
+    ∙ reservation-leaf v c.recall_want.ensures ground h id (option_copied c.args.row) c.in-Some.ground.now row (ap option_copied c.in-Some.is))
 
 pub returns-in-None : goal.returns-in-None
 returns-in-None c =
     let s = c.self.inside in
     let v : OnCourse = record { wanted = s.wanted.now; course = s.course } in
-    let h : IsGroundOf (met v.wanted) (Some v.course) s.ground = ground-at v.wanted.world v.wanted.mv (opened v.wanted.done) (Some v.course) s.ground c.self.invariant.0 in
-    subst (λ v. None ≡ leaf_of v.wanted.world v.wanted.mv (course_path v) (by_reservation c.args.id)) c.self.view_is
-    (reservation-none v c.recall_want.ensures s.ground h c.args.id c.in-None.is)
+    let ground = option_copied c.ground.result in
+    let h : IsGroundOf (met v.wanted) (Some v.course) ground = subst (λ v. IsGroundOf (met v.wanted) (Some v.course) ground) (sym c.self.view_is) c.ground.ensures in
+    subst (λ v. None ≡ leaf_of v.wanted.world v.wanted.mv (course_path v) (by_reservation (id_of c.args.row))) c.self.view_is
+    (reservation-none v c.recall_want.ensures ground h (id_of c.args.row) (ap option_copied c.in-None.is))
