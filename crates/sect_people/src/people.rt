@@ -95,11 +95,19 @@ impl People {
         self.ids.as_slice()
     }
 
+    /// The student of this id, None exactly where it is unknown. It takes no memory.
+    pub fn student(&self, id: StudentId) -> Option<&Student>
+        ensures { option_copied result ≡ find_student self.now id }
+    {
+        let place = self.place(id)?;
+        self.students.get(place)
+    }
+
     /// The row of a student, None exactly where the student is unknown. It takes no memory.
     pub fn row(&self, id: StudentId) -> Option<&StudentRow>
         ensures { option_copied result ≡ option_map (λ s. s.row) (find_student self.now id) }
     {
-        match self.find(id) {
+        match self.student(id) {
             Some(student) => Some(student.row()),
             None => None,
         }
@@ -109,7 +117,7 @@ impl People {
     pub fn asks(&self, id: StudentId) -> Option<&[Ask]>
         ensures { option_copied result ≡ option_map (λ s. s.asks) (find_student self.now id) }
     {
-        match self.find(id) {
+        match self.student(id) {
             Some(student) => Some(student.asks()),
             None => None,
         }
@@ -191,14 +199,6 @@ impl People {
         self.ids.insert(rank, id)?;
         self.students.push(Student::new(self.alloc, row))?;
         Ok(())
-    }
-
-    /// The student of this id, if there is one.
-    fn find(&self, id: StudentId) -> Option<&Student>
-        ensures { option_copied result ≡ find_student self.now id }
-    {
-        let place = self.place(id)?;
-        self.students.get(place)
     }
 
     /// Where the student stands in order of arrival. A right guess is told at once.

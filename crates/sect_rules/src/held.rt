@@ -4,7 +4,6 @@ ghost use Rattle.std.specs.Prelude.{◌≡◌, ◌<◌, ◌≤◌, ◌^◌, ◌&
 ghost use Rattle.std.specs.List.{list_any};
 ghost use Rattle.std.specs.Option.{option_map_or};
 ghost use Rattle.sect_model.specs.World.{credits_of, held_by};
-ghost use Rattle.sect_model.specs.Allowed.{max_credits as most_credits};
 ghost use Rattle.sect_rules.specs.Moment.{is_given as given_up, counts_at as choice_counts, uses};
 
 use sect_base::{Choice, CourseId, Level, ReservationId, StudentId};
@@ -153,14 +152,4 @@ pub fn credits_made(world: &World, done: &[Choice]) -> u32
         total += u32::from(credits(world, choice.course));
     }
     total
-}
-
-/// A student's maximum of credits, 0 where unknown.
-pub fn max_credits(world: &World, student: StudentId) -> u16
-    ensures { result ≡ most_credits world.now.world student }
-{
-    match world.people().row(student) {
-        Some(row) => row.max_credits,
-        None => 0,
-    }
 }

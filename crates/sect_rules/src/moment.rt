@@ -19,10 +19,12 @@ ghost use Rattle.sect_model.specs.Space.{places_at};
 ghost use Rattle.sect_model.specs.Stands.{MoveStands};
 ghost use Rattle.sect_model.specs.Rules.{world_at};
 ghost use Rattle.sect_rules.specs.Completed.{opened};
+ghost use Rattle.sect_people.specs.Student.{find_student};
+ghost use Rattle.std.specs.Option.{is_some};
 
 use crate::held::{
     counts_given, counts_made, credits_made, credits_staying, given_by, holds_kept, holds_made,
-    made_by, max_credits,
+    made_by,
 };
 use crate::lent::LentMove;
 use crate::overlap::{is_clear, lesser_of};
@@ -32,10 +34,21 @@ use sect_base::{
 };
 use sect_catalog::{Catalogue, CourseRow, OfferingRow, SubpartRow};
 use sect_model::Enrolment;
-use sect_people::People;
+use sect_people::Student;
 use sect_reserve::Reservation;
 use sect_space::World;
 use std::marker::Model;
+
+/// The student of an id that is known.
+fn person_in(world: &World, student: StudentId) -> &Student
+    requires { IsTrue (is_some (find_student world.now.world.students student)) }
+    ensures { Some result.now ≡ find_student world.now.world.students student }
+{
+    match world.people().student(student) {
+        Some(person) => person,
+        None => unreachable!(),
+    }
+}
 
 /// The world after the courses given up have left and the choices made so far were added, as the
 /// student of a move meets it. Only the enrolments of this student are read.
@@ -43,13 +56,13 @@ use std::marker::Model;
 pub struct Moment<'a> {
     world: &'a World,
     student: StudentId,
+    person: &'a Student,
     give: &'a [CourseId],
     done: &'a [Choice],
 }
 
 impl<'a> Model for Moment<'a> {
-    ghost use Rattle.std.specs.Prelude.{◌≤◌, length, IsTrue};
-    ghost use Rattle.std.specs.Option.{is_some};
+    ghost use Rattle.std.specs.Prelude.{◌≡◌, ◌≤◌, length, Some};
     ghost use Rattle.sect_people.specs.Student.{find_student};
     ghost use Rattle.sect_model.specs.Kept.{KeptWorld};
     ghost use Rattle.sect_rules.specs.Moment.{Moment as Value_of, moved};
@@ -58,7 +71,7 @@ impl<'a> Model for Moment<'a> {
 
     ghost view = { λ m. record { at = moved m.world.now.world m.student m.give.now m.done.now; student = m.student } };
 
-    ghost invariant = { λ m. KeptWorld m.world.now.world × IsTrue (is_some (find_student m.world.now.world.students m.student)) × (length m.done.now ≤ 20) };
+    ghost invariant = { λ m. KeptWorld m.world.now.world × (Some m.person.now ≡ find_student m.world.now.world.students m.student) × (length m.done.now ≤ 20) };
 }
 
 impl<'a> Moment<'a> {
@@ -69,9 +82,11 @@ impl<'a> Moment<'a> {
         ensures { result ≡ record { at = world_at world.now.world mv.now (opened done.now); student = mv.now.student } }
     {
         world.recall_kept();
+        let student = mv.student();
         Moment {
             world,
-            student: mv.student(),
+            student,
+            person: person_in(world, student),
             give: mv.give(),
             done,
         }
@@ -91,11 +106,11 @@ impl<'a> Moment<'a> {
         self.world.catalogue()
     }
 
-    /// The students of the world.
-    pub fn people(&self) -> &People
-        ensures { result.now ≡ self.now.at.students }
+    /// The student of the move, with its row and its requests.
+    pub fn person(&self) -> &'a Student
+        ensures { Some result.now ≡ find_student self.now.at.students self.now.student }
     {
-        self.world.people()
+        self.person
     }
 
     /// The reservation with this id.
@@ -153,7 +168,7 @@ impl<'a> Moment<'a> {
     pub fn max_credits(&self) -> u16
         ensures { result ≡ most_credits self.now.at self.now.student }
     {
-        max_credits(self.world, self.student)
+        self.person.row().max_credits
     }
 
     /// The credits of the student's enrolments. Those held before are at most the maximum.

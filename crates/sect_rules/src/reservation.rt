@@ -22,17 +22,14 @@ impl Moment<'_> {
     pub fn applies(&self, course: CourseId, audience: &Audience) -> bool
         ensures { result ≡ has_student self.now.at self.now.student course audience.now }
     {
-        let student = self.student();
-        match self.people().row(student) {
-            Some(row) => applies(
-                audience,
-                student,
-                row.groups.as_slice(),
-                row.curricula.as_slice(),
-                course,
-            ),
-            None => false,
-        }
+        let row = self.person().row();
+        applies(
+            audience,
+            self.student(),
+            row.groups.as_slice(),
+            row.curricula.as_slice(),
+            course,
+        )
     }
 
     /// Whether the reservation is obligatory, active and for the student.

@@ -148,7 +148,7 @@ impl Moment<'_> {
         requires { meetings.now ≡ meetings_of self.now.at section }
         ensures { result ≡ least (map (λ f. f.0) (filter (λ f. meets_at self.now.at section f.1) (free_times self.now.at self.now.student rank))) }
     {
-        let asks = self.people().asks(self.student())?;
+        let asks = self.person().asks();
         first_free(meetings, u32::from(rank), 1, asks)
     }
 

@@ -1,6 +1,7 @@
 -- the credits of what stays are at most the maximum
 use Rattle.std.proofs.Common.{◌≡◌, ◌+◌, sym, ◌∙◌, ap, arith}
 use Rattle.std.specs.Prelude.{sum_by}
+use Rattle.std.specs.Option.{is_some}
 use Rattle.sect_model.specs.World.{held_by, credits_of}
 use Rattle.sect_model.specs.Allowed.{credits_held, max_credits}
 use Rattle.sect_rules.proofs.MomentLemmas.{held-moved}
@@ -12,14 +13,14 @@ credits_staying-kept-requires c =
     let i = c.self.inside in
     let w = i.world.now.world in
     let most : c.args.most ≡ max_credits w i.student = c.requires ∙ sym (ap (λ v. max_credits v.at v.student) c.self.view_is) in
-    omega (arith, kept-few w i.student i.give.now c.self.invariant.0.good c.self.invariant.1, most, c.ranges.most.fits)
+    omega (arith, kept-few w i.student i.give.now c.self.invariant.0.good (ap is_some (sym c.self.invariant.1)), most, c.ranges.most.fits)
 
 pub prove-unreachable-requires : goal.prove-unreachable-requires
 prove-unreachable-requires c =
     let i = c.self.inside in
     let w = i.world.now.world in
     let most : c.args.most ≡ max_credits w i.student = c.requires ∙ sym (ap (λ v. max_credits v.at v.student) c.self.view_is) in
-    omega (arith, c.credits_staying-kept.ensures, kept-few w i.student i.give.now c.self.invariant.0.good c.self.invariant.1, most, c.from.ensures, c.if-prove.true)
+    omega (arith, c.credits_staying-kept.ensures, kept-few w i.student i.give.now c.self.invariant.0.good (ap is_some (sym c.self.invariant.1)), most, c.from.ensures, c.if-prove.true)
 
 pub returns-clause-value : goal.returns-clause-value
 returns-clause-value c =

@@ -1,5 +1,5 @@
 -- the first free time has the least position
-use Rattle.std.proofs.Common.{sym, ◌∙◌, ◌∷◌, []}
+use Rattle.std.proofs.Common.{ap, Some, sym, ◌∙◌, ◌∷◌, []}
 use Rattle.std.specs.Prelude.{map, filter}
 use Rattle.std.specs.Option.{option_map}
 use Rattle.sect_people.specs.Student.{find_student}
@@ -13,8 +13,8 @@ use Rattle.sect_rules.proofs.moment.Moment.least_free.Goals as goal
 pub returns : goal.returns
 returns c =
     let v = c.args.self.now.at in
-    let asks = c.in_ok-asks.asks.now in
-    let e = c.in_ok-asks.ensures ∙ (λ i. option_map (λ s. s.asks) (find_student (c.people.ensures i) (c.student.ensures i))) in
+    let asks = c.asks.result.now in
+    let e = ap Some c.asks.ensures ∙ ap (option_map (λ s. s.asks)) c.person.ensures in
     c.first_free.ensures
     ∙ (λ i. first_free (c.requires i) (c.from.ensures i) 1 asks)
     ∙ sym (least-free (meetings_of v c.args.section) c.args.rank 1 asks)

@@ -4,7 +4,7 @@ use Rattle.std.specs.List.{slice_get}
 use Rattle.std.specs.Option.{option_and_then}
 use Rattle.sect_people.proofs.PlaceLemmas.{place-find}
 use Rattle.sect_people.proofs.IndexLemmas.{got}
-use Rattle.sect_people.proofs.people.People.find.Goals as goal
+use Rattle.sect_people.proofs.people.People.student.Goals as goal
 
 pub returns-in_err-place : goal.returns-in_err-place
 returns-in_err-place c =
