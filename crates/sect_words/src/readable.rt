@@ -87,6 +87,10 @@ impl Readable for u64 {
     fn read(_alloc: Global, word: &[u8]) -> Result<u64, Fault> {
         read_number(word, u64::MAX)
     }
+
+    fn read_next(_alloc: Global, parts: &mut Parts) -> Result<u64, Fault> {
+        parts.take_number(u64::MAX)
+    }
 }
 
 /// 1 for yes and 0 for no.
@@ -180,6 +184,9 @@ impl Readable for Caller {
     fn read_next(alloc: Global, parts: &mut Parts) -> Result<Caller, Fault> {
         if parts.strips(b's') {
             return Ok(Caller::Student(StudentId(parts.take_u32()?)));
+        }
+        if parts.strips(b'r') {
+            return Ok(Caller::Registrar(parts.take_u32()?));
         }
         match parts.next() {
             Some(part) => Caller::read(alloc, part),
