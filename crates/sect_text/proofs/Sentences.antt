@@ -1,5 +1,5 @@
 -- Words behind spaces, and words with spaces between them.
-use Rattle.std.proofs.Common.{◌≡◌, ℕ, Bool, true, false, List, [], ◌∷◌, ◌++◌, refl, ap, ◌∙◌, append_assoc, sym, decimal}
+use Rattle.std.proofs.Common.{◌≡◌, ℕ, Bool, true, false, List, [], ◌∷◌, ◌++◌, refl, ap, ◌∙◌, append-nil, append_assoc, sym, decimal}
 use Rattle.std.proofs.lemmas.Grind.{flat_map-append}
 use Rattle.sect_base.specs.declared.limit.Id.{Id}
 use Rattle.sect_command.specs.declared.command.Command.{Command}
@@ -79,3 +79,11 @@ whole_row e marked old front mid new mark begun named told =
     told ∙ ap (λ bytes. bytes ++ (32 ∷ 61 ∷ 32 ∷ reply_text e.reply)) (named ∙ ap (λ bytes. bytes ++ command_text e.command) begun)
     ∙ joins old (sentence (row_front marked e.day ++ id_words e.id)) (command_text e.command) (32 ∷ 61 ∷ 32 ∷ reply_text e.reply)
     ∙ ap (λ bytes. old ++ bytes) (sym row ∙ ap (λ b. sentence (row_front b e.day ++ row_rest e)) mark)
+
+-- what stands in a request's pieces is the rest of its words
+pub ask_rest : (digits more : List ℕ) (wait substitute : List (List ℕ))
+    → digits ++ (more ++ (behind 32 wait ++ (behind 32 substitute ++ []))) ≡ (digits ++ more) ++ behind 32 (wait ++ substitute)
+ask_rest digits more wait substitute =
+    ap (λ (end : List ℕ). digits ++ (more ++ (behind 32 wait ++ end))) (append-nil (behind 32 substitute))
+    ∙ ap (λ (end : List ℕ). digits ++ (more ++ end)) (sym (flat_map-append (λ part. 32 ∷ part) wait substitute))
+    ∙ sym (append_assoc digits more (behind 32 (wait ++ substitute)))

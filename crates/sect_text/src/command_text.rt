@@ -27,7 +27,7 @@ ghost use Rattle.sect_text.specs.Commands.{
 };
 
 use crate::phrase::{
-    Phrase, print_each, print_key, print_mark, print_named, print_pair, print_three, print_word,
+    Phrase, print_each, print_mark, print_named, print_pair, print_three, print_word,
 };
 use sect_base::{
     Budget, Cap, CourseId, Day, Items, Limit, Memory, OfferingId, SectionId, StudentId, Want,
@@ -43,10 +43,23 @@ fn print_offering(row: &OfferingRow, into: &mut Vec<u8>) -> Result<(), Memory>
     ensures text { OnOk result (into.new.items ≡ into.old.items ++ sentence (offering_words row.now)) }
     ensures front { take (length into.old.items) into.new.items ≡ into.old.items }
 {
-    print_bytes(b"offering", into)?;
-    print_word(&row.id.0, into)?;
+    row.id.0.print_named(b"offering", b' ', into)?;
     print_each(row.courses.as_slice(), into)?;
     print_each(row.configs.as_slice(), into)
+}
+
+/// A student's id and the most credits, all in one piece.
+fn print_credits(row: &StudentRow, into: &mut Vec<u8>) -> Result<(), Memory>
+    ensures text { OnOk result (into.new.items ≡ into.old.items
+        ++ sentence (codes "student" ∷ decimal row.now.id.0 ∷ codes "max" ∷ decimal row.now.max_credits ∷ [])) }
+    ensures front { take (length into.old.items) into.new.items ≡ into.old.items }
+{
+    let mut bytes = [0; 40];
+    let start = put_marked(b' ', u32::from(row.max_credits), &mut bytes, 40);
+    let start = put_bytes(b" max", &mut bytes, start);
+    let start = put_marked(b' ', row.id.0, &mut bytes, start);
+    let start = put_bytes(b"student", &mut bytes, start);
+    print_bytes(&bytes[start..], into)
 }
 
 /// The row of a student, with its groups and its curricula.
@@ -54,10 +67,7 @@ fn print_student(row: &StudentRow, into: &mut Vec<u8>) -> Result<(), Memory>
     ensures text { OnOk result (into.new.items ≡ into.old.items ++ sentence (student_words row.now)) }
     ensures front { take (length into.old.items) into.new.items ≡ into.old.items }
 {
-    print_bytes(b"student", into)?;
-    print_word(&row.id, into)?;
-    print_key(b"max", into)?;
-    print_word(&row.max_credits, into)?;
+    print_credits(row, into)?;
     print_each(row.groups.as_slice(), into)?;
     print_each(row.curricula.as_slice(), into)
 }
@@ -298,8 +308,7 @@ pub(crate) fn print_verb(command: &Command, into: &mut Vec<u8>) -> Result<(), Me
         Command::Offering(row) => print_offering(row, into),
         Command::Student(row) => print_student(row, into),
         Command::Requests { student, asks } => {
-            print_bytes(b"requests", into)?;
-            print_word(student, into)?;
+            student.print_named(b"requests", b' ', into)?;
             print_each(asks.as_slice(), into)
         }
         Command::Reserve(row) => print_reserve(row, into),
