@@ -242,7 +242,10 @@ impl<'a> Parts<'a> {
         }
         let mut number = u64::from(text[0] - b'0');
         let mut count: usize = 1;
-        while count < 19 && count < text.len() && text[count].is_ascii_digit() {
+        while count < text.len()
+            && number < 1_000_000_000_000_000_000
+            && text[count].is_ascii_digit()
+        {
             number = number * 10 + u64::from(text[count] - b'0');
             count += 1;
         }

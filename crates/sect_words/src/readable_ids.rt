@@ -68,6 +68,7 @@ impl Readable for CourseId {
         Ok(CourseId(u32::read(alloc, word)?))
     }
 
+    #[inline(always)]
     fn read_next(_alloc: Global, parts: &mut Parts) -> Result<CourseId, Fault> {
         Ok(CourseId(parts.take_u32()?))
     }
