@@ -87,3 +87,7 @@ ask_rest digits more wait substitute =
     ap (λ (end : List ℕ). digits ++ (more ++ (behind 32 wait ++ end))) (append-nil (behind 32 substitute))
     ∙ ap (λ (end : List ℕ). digits ++ (more ++ end)) (sym (flat_map-append (λ part. 32 ∷ part) wait substitute))
     ∙ sym (append_assoc digits more (behind 32 (wait ++ substitute)))
+
+-- the pieces of a list of numbers, and what stands behind it
+pub list_rest : (first more end : List ℕ) → first ++ (more ++ (end ++ [])) ≡ (first ++ more) ++ end
+list_rest first more end = ap (λ (bytes : List ℕ). first ++ (more ++ bytes)) (append-nil end) ∙ sym (append_assoc first more end)
