@@ -27,7 +27,7 @@ ghost use Rattle.std.specs.Str.Parse.{AllDigits};
 ghost use Rattle.std.specs.Int.{IsInRange};
 ghost use Rattle.sect_words.specs.Parts.{pieces};
 ghost use Rattle.sect_words.specs.Reading.{Reads, word_at, first_part, later_parts, begins, is_nil, marked_if};
-ghost use Rattle.sect_words.specs.ReadingWords.{number_of, u32_of};
+ghost use Rattle.sect_words.specs.ReadingWords.{number_of, u32_of, u64_of};
 
 use crate::fault::Fault;
 use crate::number::read_number;
@@ -267,6 +267,15 @@ impl<'a> Parts<'a> {
             Some(part) => read_number(part, most),
             None => Err(Fault::Bad),
         }
+    }
+
+    /// The number of 64 bits in the next part, which is taken.
+    #[inline(always)]
+    pub fn long(&mut self) -> Result<u64, Fault>
+        ensures reads { Reads result self.new (word_at u64_of self.old) }
+        ensures shorter { IfOk result (λ _. length self.new < length self.old) }
+    {
+        self.take_number(u64::MAX)
     }
 
     /// The number of 32 bits in the next part, which is taken.

@@ -89,7 +89,7 @@ impl Readable for u64 {
     }
 
     fn read_next(_alloc: Global, parts: &mut Parts) -> Result<u64, Fault> {
-        parts.take_number(u64::MAX)
+        parts.long()
     }
 }
 
