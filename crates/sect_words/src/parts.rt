@@ -15,9 +15,11 @@ ghost use Rattle.std.specs.Prelude.{
   [],
   ◌∷◌,
   Some,
+  None,
   position,
   if◌then◌else◌,
   IfOk,
+  IfSome,
   IsTrue,
   false,
 };
@@ -228,17 +230,19 @@ impl<'a> Parts<'a> {
         }
     }
 
-    /// The number of at most `most` in the next part, which is taken. Where the part is such a number of 1 to 19 digits and
-    /// isn't 0, one look at each of its bytes finds both the number and the end.
+    /// The number of at most `most` in the next part, which is taken, where its digits begin with no 0 and are 19 at most. One look
+    /// at each byte finds both the number and the end. None where nothing is taken.
     #[inline(always)]
-    pub(crate) fn take_number(&mut self, most: u64) -> Result<u64, Fault>
-        ensures range { IfOk result (λ n. n ≤ most) }
-        ensures reads { Reads result self.new (word_at (number_of most) self.old) }
-        ensures shorter { IfOk result (λ _. length self.new < length self.old) }
+    pub(crate) fn take_digits(&mut self, most: u64) -> Option<u64>
+        ensures range { IfSome result (λ n. n ≤ most) }
+        ensures reads { IfSome result (λ n. word_at (number_of most) self.old ≡ Some (n, self.new)) }
+        ensures digits { IfSome result (λ _. IfSome (first_part self.old) (λ part. AllDigits 10 part)) }
+        ensures shorter { IfSome result (λ _. length self.new < length self.old) }
+        ensures same { result ≡ None → self.new ≡ self.old }
     {
         let text = self.text;
         if self.done || !begins_number(text) {
-            return self.take_any_number(most);
+            return None;
         }
         let mut number = u64::from(text[0] - b'0');
         let mut count: usize = 1;
@@ -251,9 +255,22 @@ impl<'a> Parts<'a> {
         }
         if number <= most && ends_number(text, self.mark, count) {
             self.pass(count);
-            return Ok(number);
+            return Some(number);
         }
-        self.take_any_number(most)
+        None
+    }
+
+    /// The number of at most `most` in the next part, which is taken.
+    #[inline(always)]
+    pub(crate) fn take_number(&mut self, most: u64) -> Result<u64, Fault>
+        ensures range { IfOk result (λ n. n ≤ most) }
+        ensures reads { Reads result self.new (word_at (number_of most) self.old) }
+        ensures shorter { IfOk result (λ _. length self.new < length self.old) }
+    {
+        match self.take_digits(most) {
+            Some(number) => Ok(number),
+            None => self.take_any_number(most),
+        }
     }
 
     /// The number of at most `most` in the next part, whatever stands there. The part is taken.

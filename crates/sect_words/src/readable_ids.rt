@@ -72,6 +72,11 @@ impl Readable for CourseId {
     fn read_next(_alloc: Global, parts: &mut Parts) -> Result<CourseId, Fault> {
         Ok(CourseId(parts.take_u32()?))
     }
+
+    #[inline(always)]
+    fn read_alone(parts: &mut Parts) -> Option<CourseId> {
+        Some(CourseId(parts.take_digits(4_294_967_295)? as u32))
+    }
 }
 
 impl Readable for GroupId {
@@ -95,6 +100,11 @@ impl Readable for MajorId {
 
     fn read_next(_alloc: Global, parts: &mut Parts) -> Result<MajorId, Fault> {
         Ok(MajorId(parts.take_u32()?))
+    }
+
+    #[inline(always)]
+    fn read_alone(parts: &mut Parts) -> Option<MajorId> {
+        Some(MajorId(parts.take_digits(4_294_967_295)? as u32))
     }
 }
 

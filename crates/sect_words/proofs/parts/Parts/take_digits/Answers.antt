@@ -8,7 +8,7 @@ use Rattle.sect_words.proofs.Exact.{by_found}
 use Rattle.sect_words.proofs.Fronts.{digits_next, plain_front, read_next_digit, word_front}
 use Rattle.sect_words.proofs.Numbers.{exact_upto}
 use Rattle.sect_words.proofs.Parsing.{printed, read_on}
-use Rattle.sect_words.proofs.parts.Parts.take_number.Goals as goal
+use Rattle.sect_words.proofs.parts.Parts.take_digits.Goals as goal
 
 pub loop-count-init : goal.loop-count-init
 loop-count-init c =

@@ -2,7 +2,7 @@
 use Rattle.std.proofs.Common.{◌≡◌, ◌-◌, ◌<◌, ◌≤◌, ◌^◌, length, take}
 use Rattle.std.specs.Str.Parse.{AllDigits}
 use Rattle.sect_words.proofs.Parsing.{read_on}
-use Rattle.sect_words.proofs.parts.Parts.take_number.Given as goal
+use Rattle.sect_words.proofs.parts.Parts.take_digits.Given as goal
 
 abbrev pub invariant-loop-count : goal.invariant-loop-count
 invariant-loop-count l = record {
