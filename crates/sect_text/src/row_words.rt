@@ -21,7 +21,7 @@ use crate::phrase::{Phrase, print_each, print_mark, print_named, print_word};
 use sect_base::{ConfigId, CourseId, Curriculum, GroupId, Memory, SectionId};
 use sect_catalog::{ConfigRow, CourseRow, SectionRow, SubpartRow};
 use sect_people::{Ask, CourseAsk};
-use sect_words::{print_bytes, put, put_bytes, put_courses, put_marked};
+use sect_words::{Spelled, print_bytes, put, put_bytes, put_courses, put_marked};
 
 impl Phrase for SectionRow {
     ghost words = { section_words };
@@ -63,11 +63,15 @@ impl Phrase for CourseRow {
     }
 }
 
+/// All is appended in one piece.
 impl Phrase for GroupId {
     ghost words = { group_words };
 
     fn print_words(&self, into: &mut Vec<u8>) -> Result<(), Memory> {
-        print_named(b"group", &self.0, into)
+        let mut bytes = [0; 24];
+        let start = put_marked(b' ', self.0, &mut bytes, 24);
+        let start = put_bytes(b" group", &mut bytes, start);
+        print_bytes(&bytes[start..], into)
     }
 }
 
@@ -75,7 +79,7 @@ impl Phrase for Curriculum {
     ghost words = { curriculum_words };
 
     fn print_words(&self, into: &mut Vec<u8>) -> Result<(), Memory> {
-        print_named(b"curriculum", self, into)
+        self.print_named(b" curriculum", b' ', into)
     }
 }
 
