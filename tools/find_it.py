@@ -251,7 +251,7 @@ GROUPS = [
         ('An audience', 'Words', ['sect_words/specs/Words.antt: audience_text', 'sect_words/specs/ReadingWords.antt: audience_of'],
          ['sect_words/src/read_parts.rt: read_audience'], RUNS + '# Lines of each form, as they are printed again.'),
         ('A want', 'Words', ['sect_text/specs/Commands.antt: want_words'], ['sect_read/src/read_want.rt: read_want',
-         'sect_text/src/command_text.rt: print_asked', 'sect_text/src/command_text.rt: print_want_rest'],
+         'sect_text/src/want_text.rt: print_asked', 'sect_text/src/want_text.rt: print_want_rest'],
          RUNS + '# Lines in which a default is written.'),
         ('A choice', 'Answers', ['sect_words/specs/Words.antt: choice_text', 'sect_words/specs/ReadingWords.antt: choice_of'],
          ['sect_words/src/read_parts.rt: read_choice'], 'test_units/src/tests/texts.rt: rows_come_back'),

@@ -1,6 +1,6 @@
 // Reading what stands in several words, one value behind another.
 
-ghost use Rattle.std.specs.Prelude.{◌≡◌, ◌<◌, ◌≤◌, ℕ, Bool, List, Option, IfOk, length, codes, if◌then◌else◌};
+ghost use Rattle.std.specs.Prelude.{◌≡◌, ◌<◌, ◌≤◌, ◌++◌, ◌∷◌, [], ℕ, Bool, List, Option, IfOk, IfErr, length, codes, if◌then◌else◌};
 ghost use Rattle.sect_words.specs.Reading.{Reads, each_at, begins, mark_at};
 ghost use Rattle.sect_words.specs.ReadingWords.{choice_of};
 ghost use Rattle.sect_read.specs.ReadingRows.{
@@ -44,10 +44,28 @@ pub(crate) trait ReadPhrase: Drop {
     fn starts(words: &Parts) -> bool
         ensures { result ≡ starts words.now };
 
+    /// How many values a list has room for as soon as it has one.
+    fn room() -> usize {
+        4
+    }
+
     /// The value in front of the words, which is taken.
     fn read(alloc: Global, shown: bool, words: &mut Parts) -> Result<Self, Fault>
         ensures reads { Reads result words.new (at shown words.old) }
         ensures shorter { IfOk result (λ _. length words.new < length words.old) };
+}
+
+/// Puts a value behind others. The first of them makes room for so many.
+#[inline(always)]
+fn push_with_room<T: Drop>(room: usize, item: T, items: &mut Vec<T>) -> Result<(), Fault>
+    ensures items { IfOk result (λ _. items.new.items ≡ items.old.items ++ item ∷ []) }
+    ensures memory { IfErr result (λ fault. fault ≡ Fault.Memory) }
+{
+    if items.is_empty() {
+        items.reserve(room)?;
+    }
+    items.push(item)?;
+    Ok(())
 }
 
 /// The values in a row, as long as another one starts.
@@ -61,7 +79,8 @@ pub(crate) fn read_each<T: ReadPhrase>(
 {
     let mut items = Vec::new(alloc);
     while T::starts(words) {
-        items.push(T::read(alloc, shown, words)?)?;
+        let item = T::read(alloc, shown, words)?;
+        push_with_room(T::room(), item, &mut items)?;
     }
     Ok(Items::from_vec(items))
 }
@@ -264,6 +283,10 @@ impl ReadPhrase for Ask {
 
     fn starts(words: &Parts) -> bool {
         words.begins(b"course") || words.begins(b"free")
+    }
+
+    fn room() -> usize {
+        8
     }
 
     fn read(alloc: Global, _shown: bool, words: &mut Parts) -> Result<Ask, Fault> {

@@ -25,7 +25,7 @@ pub(crate) fn read_id(alloc: Global, words: &mut Parts) -> Result<Id, Fault>
     ensures { Reads result words.new (id_at words.old) }
 {
     let caller = words.word(alloc)?;
-    let number = words.word(alloc)?;
+    let number = words.long()?;
     Ok(Id { caller, number })
 }
 

@@ -1,5 +1,5 @@
 -- Words behind spaces, and words with spaces between them.
-use Rattle.std.proofs.Common.{◌≡◌, ℕ, Bool, true, false, List, [], ◌∷◌, ◌++◌, refl, ap, ◌∙◌, append_assoc, sym, decimal}
+use Rattle.std.proofs.Common.{◌≡◌, ℕ, Bool, true, false, List, [], ◌∷◌, ◌++◌, refl, ap, ◌∙◌, append-nil, append_assoc, sym, decimal}
 use Rattle.std.proofs.lemmas.Grind.{flat_map-append}
 use Rattle.sect_base.specs.declared.limit.Id.{Id}
 use Rattle.sect_command.specs.declared.command.Command.{Command}
@@ -88,3 +88,15 @@ parts_row e =
     ∙ ap (λ bytes. front ++ bytes) (append_assoc (command_text e.command) (32 ∷ 61 ∷ 32 ∷ []) (reply_text e.reply))
     ∙ sym (append_assoc front (command_text e.command) (32 ∷ 61 ∷ 32 ∷ reply_text e.reply))
     ∙ whole_row e (is_marked e.command) [] front (front ++ command_text e.command) ((front ++ command_text e.command) ++ (32 ∷ 61 ∷ 32 ∷ reply_text e.reply)) refl refl refl refl
+
+-- what stands in a request's pieces is the rest of its words
+pub ask_rest : (digits more : List ℕ) (wait substitute : List (List ℕ))
+    → digits ++ (more ++ (behind 32 wait ++ (behind 32 substitute ++ []))) ≡ (digits ++ more) ++ behind 32 (wait ++ substitute)
+ask_rest digits more wait substitute =
+    ap (λ (end : List ℕ). digits ++ (more ++ (behind 32 wait ++ end))) (append-nil (behind 32 substitute))
+    ∙ ap (λ (end : List ℕ). digits ++ (more ++ end)) (sym (flat_map-append (λ part. 32 ∷ part) wait substitute))
+    ∙ sym (append_assoc digits more (behind 32 (wait ++ substitute)))
+
+-- the pieces of a list of numbers, and what stands behind it
+pub list_rest : (first more end : List ℕ) → first ++ (more ++ (end ++ [])) ≡ (first ++ more) ++ end
+list_rest first more end = ap (λ (bytes : List ℕ). first ++ (more ++ bytes)) (append-nil end) ∙ sym (append_assoc first more end)

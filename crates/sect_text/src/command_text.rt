@@ -1,8 +1,8 @@
 // Printing commands.
 
-ghost use Rattle.std.specs.Prelude.{◌≡◌, ℕ, ◌++◌, ◌∷◌, ◌≤◌, [], OnOk, OnErr, length, take, codes, flat_map, false, decimal};
+ghost use Rattle.std.specs.Prelude.{◌≡◌, ℕ, ◌++◌, ◌∷◌, [], OnOk, OnErr, length, take, codes, flat_map, false, decimal};
 ghost use Rattle.sect_words.specs.Parts.{behind, sentence};
-ghost use Rattle.sect_words.specs.Words.{list_text, course_text, limit_text, audience_text};
+ghost use Rattle.sect_words.specs.Words.{limit_text, audience_text};
 ghost use Rattle.sect_text.specs.Commands.{
   offering_words,
   student_words,
@@ -14,8 +14,6 @@ ghost use Rattle.sect_text.specs.Commands.{
   section_id_words,
   mark_words,
   cap_words,
-  stated_words,
-  only_words,
   printed_want,
   give_words,
   take_words,
@@ -27,11 +25,10 @@ ghost use Rattle.sect_text.specs.Commands.{
 };
 
 use crate::phrase::{
-    Phrase, print_each, print_key, print_mark, print_named, print_pair, print_three, print_word,
+    Phrase, print_each, print_mark, print_named, print_pair, print_three, print_word,
 };
-use sect_base::{
-    Budget, Cap, CourseId, Day, Items, Limit, Memory, OfferingId, SectionId, StudentId, Want,
-};
+use crate::want_text::{print_stated, print_wanted};
+use sect_base::{Budget, Cap, CourseId, Day, Limit, Memory, OfferingId, StudentId, Want};
 use sect_catalog::OfferingRow;
 use sect_command::{Command, ReserveRow, RestrictRow};
 use sect_people::StudentRow;
@@ -43,10 +40,23 @@ fn print_offering(row: &OfferingRow, into: &mut Vec<u8>) -> Result<(), Memory>
     ensures text { OnOk result (into.new.items ≡ into.old.items ++ sentence (offering_words row.now)) }
     ensures front { take (length into.old.items) into.new.items ≡ into.old.items }
 {
-    print_bytes(b"offering", into)?;
-    print_word(&row.id.0, into)?;
+    row.id.0.print_named(b"offering", b' ', into)?;
     print_each(row.courses.as_slice(), into)?;
     print_each(row.configs.as_slice(), into)
+}
+
+/// A student's id and the most credits, all in one piece.
+fn print_credits(row: &StudentRow, into: &mut Vec<u8>) -> Result<(), Memory>
+    ensures text { OnOk result (into.new.items ≡ into.old.items
+        ++ sentence (codes "student" ∷ decimal row.now.id.0 ∷ codes "max" ∷ decimal row.now.max_credits ∷ [])) }
+    ensures front { take (length into.old.items) into.new.items ≡ into.old.items }
+{
+    let mut bytes = [0; 40];
+    let start = put_marked(b' ', u32::from(row.max_credits), &mut bytes, 40);
+    let start = put_bytes(b" max", &mut bytes, start);
+    let start = put_marked(b' ', row.id.0, &mut bytes, start);
+    let start = put_bytes(b"student", &mut bytes, start);
+    print_bytes(&bytes[start..], into)
 }
 
 /// The row of a student, with its groups and its curricula.
@@ -54,10 +64,7 @@ fn print_student(row: &StudentRow, into: &mut Vec<u8>) -> Result<(), Memory>
     ensures text { OnOk result (into.new.items ≡ into.old.items ++ sentence (student_words row.now)) }
     ensures front { take (length into.old.items) into.new.items ≡ into.old.items }
 {
-    print_bytes(b"student", into)?;
-    print_word(&row.id, into)?;
-    print_key(b"max", into)?;
-    print_word(&row.max_credits, into)?;
+    print_credits(row, into)?;
     print_each(row.groups.as_slice(), into)?;
     print_each(row.curricula.as_slice(), into)
 }
@@ -149,63 +156,6 @@ fn print_cap(cap: &Cap, into: &mut Vec<u8>) -> Result<(), Memory>
     }
 }
 
-/// A key and a number, where it is not the default.
-fn print_stated(key: &[u8], default: u32, number: u32, into: &mut Vec<u8>) -> Result<(), Memory>
-    ensures text { OnOk result (into.new.items ≡ into.old.items ++ behind 32 (stated_words key.now default false number)) }
-    ensures front { take (length into.old.items) into.new.items ≡ into.old.items }
-{
-    if number == default {
-        return Ok(());
-    }
-    print_named(key, &number, into)
-}
-
-/// The only sections that are wanted, where there are some.
-fn print_only(sections: &Items<SectionId>, into: &mut Vec<u8>) -> Result<(), Memory>
-    ensures text { OnOk result (into.new.items ≡ into.old.items ++ behind 32 (only_words false sections.now)) }
-    ensures front { take (length into.old.items) into.new.items ≡ into.old.items }
-{
-    if sections.is_empty() {
-        return Ok(());
-    }
-    print_named(b"only", sections, into)
-}
-
-/// The only sections for the courses that are wanted, and the rank where it is not the default.
-fn print_want_rest(want: &Want, into: &mut Vec<u8>) -> Result<(), Memory>
-    ensures text { OnOk result (into.new.items ≡ into.old.items ++ behind 32 (only_words false want.now.only ++ stated_words (codes "rank") 21 false want.now.rank)) }
-    ensures front { take (length into.old.items) into.new.items ≡ into.old.items }
-{
-    print_only(&want.only, into)?;
-    print_stated(b"rank", 21, u32::from(want.rank), into)
-}
-
-impl Phrase for Want {
-    ghost words = { take_words };
-
-    fn print_words(&self, into: &mut Vec<u8>) -> Result<(), Memory> {
-        print_named(b"take", &self.courses, into)?;
-        print_want_rest(self, into)
-    }
-}
-
-/// A verb, a student and courses, all up to the first course in one piece.
-fn print_asked(
-    verb: &[u8],
-    student: StudentId,
-    courses: &Items<CourseId>,
-    into: &mut Vec<u8>,
-) -> Result<(), Memory>
-    requires { length verb.now ≤ 8 }
-    ensures text { OnOk result (into.new.items ≡ into.old.items ++ sentence (verb.now ∷ decimal student.0 ∷ list_text 43 course_text courses.now ∷ [])) }
-    ensures front { take (length into.old.items) into.new.items ≡ into.old.items }
-{
-    let mut bytes = [0; 24];
-    let start = put_marked(b' ', student.0, &mut bytes, 24);
-    let start = put_bytes(verb, &mut bytes, start);
-    courses.print_named(&bytes[start..], b' ', into)
-}
-
 /// The budget, where it is not the default.
 fn print_budget(budget: Budget, into: &mut Vec<u8>) -> Result<(), Memory>
     ensures text { OnOk result (into.new.items ≡ into.old.items ++ behind 32 (budget_words false budget)) }
@@ -225,8 +175,7 @@ fn print_enrol(
         ++ sentence (codes "enrol" ∷ decimal student.0 ∷ printed_want want.now ++ budget_words false budget)) }
     ensures front { take (length into.old.items) into.new.items ≡ into.old.items }
 {
-    print_asked(b"enrol", student, &want.courses, into)?;
-    print_want_rest(want, into)?;
+    print_wanted(b"enrol", student, want, into)?;
     print_budget(budget, into)
 }
 
@@ -262,8 +211,7 @@ fn print_wait(
         ++ (optional_give_words give ++ class_words false class))) }
     ensures front { take (length into.old.items) into.new.items ≡ into.old.items }
 {
-    print_asked(b"wait", student, &want.courses, into)?;
-    print_want_rest(want, into)?;
+    print_wanted(b"wait", student, want, into)?;
     print_give(give, into)?;
     print_stated(b"class", 5, u32::from(class), into)
 }
@@ -298,8 +246,7 @@ pub(crate) fn print_verb(command: &Command, into: &mut Vec<u8>) -> Result<(), Me
         Command::Offering(row) => print_offering(row, into),
         Command::Student(row) => print_student(row, into),
         Command::Requests { student, asks } => {
-            print_bytes(b"requests", into)?;
-            print_word(student, into)?;
+            student.print_named(b"requests", b' ', into)?;
             print_each(asks.as_slice(), into)
         }
         Command::Reserve(row) => print_reserve(row, into),

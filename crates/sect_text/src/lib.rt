@@ -7,6 +7,7 @@ mod reply_text;
 mod row_text;
 mod row_words;
 mod told_row;
+mod want_text;
 
 pub use command_text::print_command;
 pub use reply_text::print_reply;

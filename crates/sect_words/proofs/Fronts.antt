@@ -94,7 +94,7 @@ pass_none false mark text len is past = (front_by mark text len (position (λ by
 -- ---- numbers
 
 -- no digit is a mark that is none
-digits_lack : (mark : ℕ) (digits : List ℕ) → (IsInRange 48 57 mark → ⊥) → AllDigits 10 digits → Lacks mark digits
+pub digits_lack : (mark : ℕ) (digits : List ℕ) → (IsInRange 48 57 mark → ⊥) → AllDigits 10 digits → Lacks mark digits
 digits_lack mark [] other all = tt
 digits_lack mark (digit ∷ digits) other all =
     (ne_eqb digit mark (λ same. other (subst (IsInRange 48 57) same (digit_from_value digit all.0))), digits_lack mark digits other all.1)

@@ -65,7 +65,7 @@ few i number below short =
     omega (arith, most, below)
 
 -- so with a digit more
-pub longer : (i number digit : ℕ) → number < 10 ^ i → digit ≤ 9 → number * 10 + digit < 10 ^ (i + 1)
+longer : (i number digit : ℕ) → number < 10 ^ i → digit ≤ 9 → number * 10 + digit < 10 ^ (i + 1)
 longer i number digit below small =
     let same : suc i ≡ i + 1 = omega arith in
     let step : 10 ^ suc i ≡ 10 ^ i * 10 = pow-suc 10 i in

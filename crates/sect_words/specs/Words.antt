@@ -77,6 +77,15 @@ course_row_text c = joined 58 (decimal c.id.0 ∷ limit_text c.limit ∷ decimal
 abbrev pub curriculum_text : Curriculum → List ℕ
 curriculum_text c = joined 58 (decimal c.area.0 ∷ decimal c.class.0 ∷ list_text 43 major_text c.majors ∷ [])
 
+-- the first major of a curriculum, or `-` where there is none
+abbrev pub first_major_text : List MajorId → List ℕ
+first_major_text [] = dash
+first_major_text (id ∷ ids) = major_text id
+
+-- `AREA:CLASS:MAJOR`, where the major is the first
+abbrev pub curriculum_front : Curriculum → List ℕ
+curriculum_front c = joined 58 (decimal c.area.0 ∷ decimal c.class.0 ∷ first_major_text c.majors ∷ [])
+
 -- the parts of an audience
 abbrev pub audience_parts : Audience → List (List ℕ)
 audience_parts (audiences.Students ids) = codes "students" ∷ list_text 43 student_text ids ∷ []

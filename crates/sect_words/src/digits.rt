@@ -1,11 +1,12 @@
 // What is written from the last byte to the first into bytes on the stack, so that it is appended in one piece.
 
-ghost use Rattle.std.specs.Prelude.{◌≡◌, ◌+◌, ◌≤◌, ◌∷◌, ◌++◌, decimal, length, drop};
+ghost use Rattle.std.specs.Prelude.{◌≡◌, ◌+◌, ◌*◌, ◌≤◌, ◌∷◌, ◌++◌, decimal, length, drop, map};
 ghost use Rattle.sect_words.specs.Days.{day_text};
-ghost use Rattle.sect_words.specs.Words.{caller_text};
+ghost use Rattle.sect_words.specs.Parts.{behind};
+ghost use Rattle.sect_words.specs.Words.{caller_text, course_text};
 
 use itoa::write_digits;
-use sect_base::{Caller, Day, print_day};
+use sect_base::{Caller, CourseId, Day, print_day};
 
 /// Writes the byte before a place, and returns where it stands.
 pub fn put(byte: u8, bytes: &mut [u8], end: usize) -> usize
@@ -62,6 +63,22 @@ pub fn put_marked(mark: u8, number: u32, bytes: &mut [u8], end: usize) -> usize
 {
     let digits = put_number(number, bytes, end);
     put(mark, bytes, digits)
+}
+
+/// Writes the numbers of courses, each behind the mark, before a place, and returns where they start.
+pub fn put_courses(mark: u8, courses: &[CourseId], bytes: &mut [u8], end: usize) -> usize
+    requires { (11 * length courses.now ≤ end) × (end ≤ length bytes.old) }
+    ensures start { (end ≤ result + 11 * length courses.now) × (result ≤ end) }
+    ensures written { drop result bytes.new ≡ behind mark (map course_text courses.now) ++ drop end bytes.old }
+    ensures long { length bytes.new ≡ length bytes.old }
+{
+    let mut start = end;
+    let mut left = courses.len();
+    while left > 0 {
+        left -= 1;
+        start = put_marked(mark, courses[left].0, bytes, start);
+    }
+    start
 }
 
 /// Writes a day before a place, and returns where it starts.

@@ -15,9 +15,11 @@ ghost use Rattle.std.specs.Prelude.{
   [],
   ◌∷◌,
   Some,
+  None,
   position,
   if◌then◌else◌,
   IfOk,
+  IfSome,
   IsTrue,
   false,
 };
@@ -27,7 +29,7 @@ ghost use Rattle.std.specs.Str.Parse.{AllDigits};
 ghost use Rattle.std.specs.Int.{IsInRange};
 ghost use Rattle.sect_words.specs.Parts.{pieces};
 ghost use Rattle.sect_words.specs.Reading.{Reads, word_at, first_part, later_parts, begins, is_nil, marked_if};
-ghost use Rattle.sect_words.specs.ReadingWords.{number_of, u32_of};
+ghost use Rattle.sect_words.specs.ReadingWords.{number_of, u32_of, u64_of};
 
 use crate::fault::Fault;
 use crate::number::read_number;
@@ -228,29 +230,47 @@ impl<'a> Parts<'a> {
         }
     }
 
-    /// The number of at most `most` in the next part, which is taken. Where the part is such a number of 1 to 19 digits and
-    /// isn't 0, one look at each of its bytes finds both the number and the end.
+    /// The number of at most `most` in the next part, which is taken, where its digits begin with no 0 and are 19 at most. One look
+    /// at each byte finds both the number and the end. None where nothing is taken.
+    #[inline(always)]
+    pub(crate) fn take_digits(&mut self, most: u64) -> Option<u64>
+        ensures range { IfSome result (λ n. n ≤ most) }
+        ensures reads { IfSome result (λ n. word_at (number_of most) self.old ≡ Some (n, self.new)) }
+        ensures digits { IfSome result (λ _. IfSome (first_part self.old) (λ part. AllDigits 10 part)) }
+        ensures shorter { IfSome result (λ _. length self.new < length self.old) }
+        ensures same { result ≡ None → self.new ≡ self.old }
+    {
+        let text = self.text;
+        if self.done || !begins_number(text) {
+            return None;
+        }
+        let mut number = u64::from(text[0] - b'0');
+        let mut count: usize = 1;
+        while count < text.len()
+            && number < 1_000_000_000_000_000_000
+            && text[count].is_ascii_digit()
+        {
+            number = number * 10 + u64::from(text[count] - b'0');
+            count += 1;
+        }
+        if number <= most && ends_number(text, self.mark, count) {
+            self.pass(count);
+            return Some(number);
+        }
+        None
+    }
+
+    /// The number of at most `most` in the next part, which is taken.
     #[inline(always)]
     pub(crate) fn take_number(&mut self, most: u64) -> Result<u64, Fault>
         ensures range { IfOk result (λ n. n ≤ most) }
         ensures reads { Reads result self.new (word_at (number_of most) self.old) }
         ensures shorter { IfOk result (λ _. length self.new < length self.old) }
     {
-        let text = self.text;
-        if self.done || !begins_number(text) {
-            return self.take_any_number(most);
+        match self.take_digits(most) {
+            Some(number) => Ok(number),
+            None => self.take_any_number(most),
         }
-        let mut number = u64::from(text[0] - b'0');
-        let mut count: usize = 1;
-        while count < 19 && count < text.len() && text[count].is_ascii_digit() {
-            number = number * 10 + u64::from(text[count] - b'0');
-            count += 1;
-        }
-        if number <= most && ends_number(text, self.mark, count) {
-            self.pass(count);
-            return Ok(number);
-        }
-        self.take_any_number(most)
     }
 
     /// The number of at most `most` in the next part, whatever stands there. The part is taken.
@@ -264,6 +284,15 @@ impl<'a> Parts<'a> {
             Some(part) => read_number(part, most),
             None => Err(Fault::Bad),
         }
+    }
+
+    /// The number of 64 bits in the next part, which is taken.
+    #[inline(always)]
+    pub fn long(&mut self) -> Result<u64, Fault>
+        ensures reads { Reads result self.new (word_at u64_of self.old) }
+        ensures shorter { IfOk result (λ _. length self.new < length self.old) }
+    {
+        self.take_number(u64::MAX)
     }
 
     /// The number of 32 bits in the next part, which is taken.

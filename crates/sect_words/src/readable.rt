@@ -1,6 +1,6 @@
 // Reading what stands in one word.
 
-ghost use Rattle.std.specs.Prelude.{◌≡◌, ◌<◌, ℕ, List, Option, IfOk, length};
+ghost use Rattle.std.specs.Prelude.{◌≡◌, ◌<◌, ◌∷◌, [], ℕ, List, Option, Some, None, IfOk, IfSome, length};
 ghost use Rattle.std.specs.Option.{option_map};
 ghost use Rattle.sect_words.specs.Parts.{pieces};
 ghost use Rattle.sect_words.specs.Reading.{Means, Reads, all_of, word_at};
@@ -51,6 +51,15 @@ pub trait Readable: Drop {
             None => Err(Fault::Bad),
         }
     }
+
+    /// The only value of a list in the next part, which is taken, where it is told to be one. None where nothing is taken.
+    fn read_alone(parts: &mut Parts) -> Option<Self>
+        ensures alone { IfSome result (λ item. word_at (list_of 43 reads) parts.old ≡ Some (item ∷ [], parts.new)) }
+        ensures shorter { IfSome result (λ _. length parts.new < length parts.old) }
+        ensures same { result ≡ None → parts.new ≡ parts.old }
+    {
+        None
+    }
 }
 
 impl Readable for u8 {
@@ -86,6 +95,10 @@ impl Readable for u64 {
 
     fn read(_alloc: Global, word: &[u8]) -> Result<u64, Fault> {
         read_number(word, u64::MAX)
+    }
+
+    fn read_next(_alloc: Global, parts: &mut Parts) -> Result<u64, Fault> {
+        parts.long()
     }
 }
 
@@ -181,6 +194,9 @@ impl Readable for Caller {
         if parts.strips(b's') {
             return Ok(Caller::Student(StudentId(parts.take_u32()?)));
         }
+        if parts.strips(b'r') {
+            return Ok(Caller::Registrar(parts.take_u32()?));
+        }
         match parts.next() {
             Some(part) => Caller::read(alloc, part),
             None => Err(Fault::Bad),
@@ -216,6 +232,18 @@ impl<T: Readable> Readable for Items<T> {
 
     fn read(alloc: Global, word: &[u8]) -> Result<Items<T>, Fault> {
         read_list(alloc, word, b'+')
+    }
+
+    fn read_next(alloc: Global, parts: &mut Parts) -> Result<Items<T>, Fault> {
+        if let Some(item) = T::read_alone(parts) {
+            let mut items = Vec::with_capacity(alloc, 4)?;
+            items.push(item)?;
+            return Ok(Items::from_vec(items));
+        }
+        match parts.next() {
+            Some(part) => read_list(alloc, part, b'+'),
+            None => Err(Fault::Bad),
+        }
     }
 }
 

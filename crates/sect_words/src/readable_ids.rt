@@ -68,8 +68,14 @@ impl Readable for CourseId {
         Ok(CourseId(u32::read(alloc, word)?))
     }
 
+    #[inline(always)]
     fn read_next(_alloc: Global, parts: &mut Parts) -> Result<CourseId, Fault> {
         Ok(CourseId(parts.take_u32()?))
+    }
+
+    #[inline(always)]
+    fn read_alone(parts: &mut Parts) -> Option<CourseId> {
+        Some(CourseId(parts.take_digits(4_294_967_295)? as u32))
     }
 }
 
@@ -94,6 +100,11 @@ impl Readable for MajorId {
 
     fn read_next(_alloc: Global, parts: &mut Parts) -> Result<MajorId, Fault> {
         Ok(MajorId(parts.take_u32()?))
+    }
+
+    #[inline(always)]
+    fn read_alone(parts: &mut Parts) -> Option<MajorId> {
+        Some(MajorId(parts.take_digits(4_294_967_295)? as u32))
     }
 }
 

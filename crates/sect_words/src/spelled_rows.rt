@@ -5,6 +5,9 @@ ghost use Rattle.sect_words.specs.Parts.{behind};
 ghost use Rattle.sect_words.specs.Words.{
   course_row_text,
   curriculum_text,
+  curriculum_front,
+  first_major_text,
+  major_text,
   audience_text,
   choice_text,
   choice_front,
@@ -42,13 +45,62 @@ impl Spelled for CourseRow {
     }
 }
 
+/// Writes the mark and the first major, or a dash, before a place, and returns where they start.
+fn put_first_major(mark: u8, majors: &[MajorId], bytes: &mut [u8], end: usize) -> usize
+    requires { (11 ≤ end) × (end ≤ length bytes.old) }
+    ensures start { (end ≤ result + 11) × (result ≤ end) }
+    ensures written { drop result bytes.new ≡ (mark ∷ first_major_text majors.now) ++ drop end bytes.old }
+    ensures long { length bytes.new ≡ length bytes.old }
+{
+    match majors {
+        [] => {
+            let dash = put(b'-', bytes, end);
+            put(mark, bytes, dash)
+        }
+        [first, ..] => put_marked(mark, first.0, bytes, end),
+    }
+}
+
+/// Writes a curriculum up to its first major at the end of the bytes, and returns where it starts.
+#[inline(always)]
+fn put_curriculum_front(curriculum: &Curriculum, bytes: &mut [u8; 64]) -> usize
+    ensures start { (17 ≤ result) × (result ≤ 64) }
+    ensures written { drop result bytes.new ≡ curriculum_front curriculum.now }
+{
+    let start = put_first_major(b':', curriculum.majors.as_slice(), bytes, 64);
+    let start = put_marked(b':', curriculum.class.0, bytes, start);
+    put_number(curriculum.area.0, bytes, start)
+}
+
+/// Appends the majors behind the first. After `Memory` a part of them may stand at the end.
+fn print_later_majors(majors: &[MajorId], into: &mut Vec<u8>) -> Result<(), Memory>
+    ensures text { OnOk result (into.new.items ≡ into.old.items ++ behind 43 (map major_text (drop 1 majors.now))) }
+    ensures front { take (length into.old.items) into.new.items ≡ into.old.items }
+{
+    match majors {
+        [] => Ok(()),
+        [_, rest @ ..] => print_behind(b'+', rest, into),
+    }
+}
+
+/// All up to the first major is appended in one piece.
 impl Spelled for Curriculum {
     ghost spelling = { curriculum_text };
 
     fn print(&self, into: &mut Vec<u8>) -> Result<(), Memory> {
-        self.area.0.print(into)?;
-        print_marked(b':', &self.class, into)?;
-        print_marked(b':', &self.majors, into)
+        let mut bytes = [0; 64];
+        let start = put_curriculum_front(self, &mut bytes);
+        print_bytes(&bytes[start..], into)?;
+        print_later_majors(self.majors.as_slice(), into)
+    }
+
+    #[inline(always)]
+    fn print_named(&self, name: &[u8], mark: u8, into: &mut Vec<u8>) -> Result<(), Memory> {
+        let mut bytes = [0; 64];
+        let start = put_curriculum_front(self, &mut bytes);
+        let start = put(mark, &mut bytes, start);
+        print_behind_name(name, &mut bytes, start, into)?;
+        print_later_majors(self.majors.as_slice(), into)
     }
 }
 

@@ -6,9 +6,9 @@ use Rattle.sect_read.proofs.read_phrase.read_each.Goals as goal
 pub loop-alloc-preserved : goal.loop-alloc-preserved
 loop-alloc-preserved g c = record {
   reaches =
-      reach_step_to g.T.ReadPhrase.starts (g.T.ReadPhrase.at c.args.shown) c.loop-alloc.items.items c.push.new.self.items c.loop-alloc.words c.read.new.words c.in_ok-read.field-0 _ c.loop-alloc.invariant.reaches
-      (sym c.starts.ensures ∙ c.loop-alloc-test.true) c.in_ok-read.ensures.reads c.in_ok-read.ensures.shorter c.in_ok-push.ensures.items;
-  longest = omega (arith, c.in_ok-read.ensures.shorter, c.loop-alloc.invariant.longest);
+      reach_step_to g.T.ReadPhrase.starts (g.T.ReadPhrase.at c.args.shown) c.loop-alloc.items.items c.push_with_room.new.items.items c.loop-alloc.words c.read.new.words c.in_ok-item.item _ c.loop-alloc.invariant.reaches
+      (sym c.starts.ensures ∙ c.loop-alloc-test.true) c.in_ok-item.ensures.reads c.in_ok-item.ensures.shorter c.in_ok-push_with_room.ensures.items;
+  longest = omega (arith, c.in_ok-item.ensures.shorter, c.loop-alloc.invariant.longest);
 }
 
 pub returns-clause-reads : goal.returns-clause-reads

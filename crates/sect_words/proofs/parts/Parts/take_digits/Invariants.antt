@@ -1,18 +1,17 @@
--- The bytes so far are digits, which make the number so far, and so few that it has room.
+-- The bytes so far are digits, which make the number so far.
 use Rattle.std.proofs.Common.{◌≡◌, ◌-◌, ◌<◌, ◌≤◌, ◌^◌, length, take}
 use Rattle.std.specs.Str.Parse.{AllDigits}
 use Rattle.sect_words.proofs.Parsing.{read_on}
-use Rattle.sect_words.proofs.parts.Parts.take_number.Given as goal
+use Rattle.sect_words.proofs.parts.Parts.take_digits.Given as goal
 
 abbrev pub invariant-loop-count : goal.invariant-loop-count
 invariant-loop-count l = record {
-  below : l.number < 10 ^ l.count;
+  fits : l.number < 2 ^ 64;
   some : 0 < l.count;
-  few : l.count ≤ 19;
   within : l.count ≤ length l.text;
   digits : AllDigits 10 (take l.count l.text);
   value : l.number ≡ read_on 0 (take l.count l.text);
 }
 
 abbrev pub decreases-loop-count : goal.decreases-loop-count
-decreases-loop-count l = 19 - l.count
+decreases-loop-count l = length l.text - l.count
