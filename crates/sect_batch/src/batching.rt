@@ -110,11 +110,20 @@ fn all_lines<L: Ledger>(
     ensures since { Since world.old.world undo.old.backs world.new.world undo.new.backs }
     ensures undoable { Undoable world.new undo.new.backs }
 {
-    let mut lines = Lines::empty(alloc);
+    let mut lines = Lines::with_room(alloc, most_lines(world, students))?;
     for student in students {
         student_lines(alloc, world, *student, &mut lines, undo, steps)?;
     }
     Ok(lines.into_items())
+}
+
+/// How many lines the students have at most: as many as requests, of which a free time makes none.
+fn most_lines(world: &World, students: &[StudentId]) -> usize {
+    let mut most: usize = 0;
+    for student in students {
+        most = most.saturating_add(world.asks(*student).len());
+    }
+    most
 }
 
 /// The lines of one student.

@@ -1,6 +1,6 @@
 // The lines of a batch so far, and what later lines count of them.
 
-ghost use Rattle.std.specs.Prelude.{◌≡◌, ◌&&◌, ◌==◌, ◌++◌, [], ◌∷◌, nat_le, filter, count_by, OnOk};
+ghost use Rattle.std.specs.Prelude.{◌≡◌, ◌&&◌, ◌==◌, ◌++◌, [], ◌∷◌, nat_le, filter, count_by, IfOk, OnOk};
 ghost use Rattle.sect_model.specs.Batch.{is_unmet as is_line_unmet, is_met as is_line_met};
 ghost use Rattle.sect_batch.specs.Lines.{is_counted, line_by, mark_by, unmet_of, met_of};
 
@@ -34,15 +34,15 @@ pub struct Lines {
 }
 
 impl Lines {
-    /// No lines. It takes no memory.
-    pub fn empty(alloc: Global) -> Lines
-        ensures lines { result.lines.items ≡ [] }
-        ensures marks { result.marks.items ≡ [] }
+    /// No lines, with room for `n`.
+    pub fn with_room(alloc: Global, n: usize) -> Result<Lines, Memory>
+        ensures lines { IfOk result (λ made. made.lines.items ≡ []) }
+        ensures marks { IfOk result (λ made. made.marks.items ≡ []) }
     {
-        Lines {
-            lines: Vec::new(alloc),
+        Ok(Lines {
+            lines: Vec::with_capacity(alloc, n)?,
             marks: Vec::new(alloc),
-        }
+        })
     }
 
     /// Puts a line behind the others.
