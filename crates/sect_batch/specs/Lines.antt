@@ -1,5 +1,7 @@
 -- The lines of a batch so far, as they are kept.
 use Rattle.std.specs.Prelude.{◌≡◌, ℕ, Bool, true, not, ◌&&◌, ◌||◌, ◌==◌, List, map, filter, count_by, Option, Some, None}
+use Rattle.std.specs.List.{list_any}
+use Rattle.sect_base.specs.declared.ids.CourseId.{CourseId}
 use Rattle.sect_base.specs.declared.ids.StudentId.{StudentId}
 use Rattle.sect_command.specs.declared.reply.Line.{Line}
 use Rattle.sect_command.specs.declared.reply.LineResult.{LineResult}
@@ -8,6 +10,7 @@ use Rattle.sect_people.specs.declared.row.CourseAsk.{CourseAsk}
 use Rattle.sect_people.specs.declared.row.Ask.{Ask}
 use Rattle.sect_people.specs.declared.row.Ask.TheVariants.{Course as asks_course, Free}
 use Rattle.sect_model.specs.declared.change.Change.TheVariants.{Enrol}
+use Rattle.sect_model.specs.declared.held.Enrolment.{Enrolment}
 use Rattle.sect_model.specs.World.{World}
 use Rattle.sect_model.specs.Fits.{Fits}
 use Rattle.sect_model.specs.Batch.{Answered, Batched, answer_to, want_of, is_unmet, is_met}
@@ -39,6 +42,10 @@ mark_of a = mark_by a.line.student (answer_by a.line.result a.ask)
 -- later lines count the mark
 abbrev pub is_counted : Mark → Bool
 is_counted mark = mark.unmet || mark.met
+
+-- whether one of the enrolments is in the course
+abbrev pub has_course : List Enrolment → CourseId → Bool
+has_course es course = list_any (λ e. e.choice.course.0 == course.0) es
 
 -- how many of the student's marks are unmet
 abbrev pub unmet_of : StudentId → List Mark → ℕ
