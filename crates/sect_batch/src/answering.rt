@@ -3,6 +3,7 @@
 ghost use Rattle.std.specs.Prelude.{◌≡◌, ◌&&◌, nat_le, find, IfOk, IsTrue};
 ghost use Rattle.std.specs.Option.{is_some};
 ghost use Rattle.sect_people.specs.Student.{find_student};
+ghost use Rattle.sect_model.specs.World.{held_by};
 ghost use Rattle.sect_model.specs.Premises.{want_fits};
 ghost use Rattle.sect_model.specs.Batch.{
   Batched,
@@ -24,23 +25,25 @@ use sect_space::World;
 use std::alloc::Global;
 use std::sync::ledger::Ledger;
 
-/// What becomes of a student's course request of this rank, behind the lines so far.
+/// What becomes of a student's course request of this rank, behind the lines so far, where `held` is what the student holds.
 pub fn answer_to<L: Ledger>(
     alloc: Global,
     world: &World,
     student: StudentId,
     rank: u8,
     ask: &CourseAsk,
+    held: &[Enrolment],
     lines: &Lines,
     steps: &mut Steps<L>,
 ) -> Result<Answer, Memory>
     requires known { IsTrue (is_some (find_student world.now.world.students student)) }
     requires fits { IsTrue (want_fits world.now.world (want_of ask.now 0)) }
+    requires held { held.now ≡ held_by world.now.world student }
     ensures answer { IfOk result (λ answer. (b : Batched) → Tells world.now.world lines.now b
         → answer ≡ answer_by (answer_of_batch b student rank ask.now) ask.now) }
     ensures met { IfOk result (λ answer. MetFits world.now.world student answer.result) }
 {
-    let result = line_result(alloc, world, student, rank, ask, lines, steps)?;
+    let result = line_result(alloc, world, student, rank, ask, held, lines, steps)?;
     Ok(Answer {
         result,
         wait: ask.wait,
@@ -55,15 +58,17 @@ fn line_result<L: Ledger>(
     student: StudentId,
     rank: u8,
     ask: &CourseAsk,
+    held: &[Enrolment],
     lines: &Lines,
     steps: &mut Steps<L>,
 ) -> Result<LineResult, Memory>
     requires known { IsTrue (is_some (find_student world.now.world.students student)) }
     requires fits { IsTrue (want_fits world.now.world (want_of ask.now 0)) }
+    requires held { held.now ≡ held_by world.now.world student }
     ensures line { IfOk result (λ line. (b : Batched) → Tells world.now.world lines.now b → line ≡ answer_of_batch b student rank ask.now) }
     ensures met { IfOk result (λ line. MetFits world.now.world student line) }
 {
-    match held_course(world.enrolments(student), ask.courses.as_slice()) {
+    match held_course(held, ask.courses.as_slice()) {
         Some(course) => Ok(LineResult::Held(course)),
         None => {
             if is_skipped(student, ask, lines) {

@@ -2,7 +2,7 @@
 
 ghost use Rattle.std.specs.Prelude.{◌≡◌, ◌&&◌, ◌==◌, ◌++◌, [], ◌∷◌, nat_le, filter, count_by, IfOk, OnOk};
 ghost use Rattle.sect_model.specs.Batch.{is_unmet as is_line_unmet, is_met as is_line_met};
-ghost use Rattle.sect_batch.specs.Lines.{is_counted, line_by, mark_by, unmet_of, met_of};
+ghost use Rattle.sect_batch.specs.Lines.{is_chosen, is_counted, line_by, mark_by, unmet_of, met_of};
 
 use sect_base::{Items, Memory, StudentId};
 use sect_command::{Line, LineResult};
@@ -143,6 +143,20 @@ fn is_met(line: &LineResult) -> bool
     match line {
         LineResult::Met(_) => true,
         LineResult::Held(_) => true,
+        LineResult::Blocked(_, _) => false,
+        LineResult::Spent => false,
+        LineResult::Waiting(_) => false,
+        LineResult::Skipped => false,
+    }
+}
+
+/// Whether the line has a choice, by which the student is to be enrolled. It takes no memory.
+pub fn has_choice(line: &LineResult) -> bool
+    ensures { result ≡ is_chosen line.now }
+{
+    match line {
+        LineResult::Met(_) => true,
+        LineResult::Held(_) => false,
         LineResult::Blocked(_, _) => false,
         LineResult::Spent => false,
         LineResult::Waiting(_) => false,
