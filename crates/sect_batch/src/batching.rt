@@ -51,7 +51,7 @@ pub fn batch(
     counted::<Brand>(alloc, world, students, undo, Blank::new(1))
 }
 
-/// The batch, whose searches are counted in a ledger of its own.
+/// The batch, whose searches are counted in a ledger of its own. It makes room first to record an enrolment of each student.
 fn counted<L: Ledger>(
     alloc: Global,
     world: &mut World,
@@ -71,6 +71,7 @@ fn counted<L: Ledger>(
     ensures since { Since world.old.world undo.old.backs world.new.world undo.new.backs }
     ensures undoable { Undoable world.new undo.new.backs }
 {
+    undo.reserve(students.len())?;
     let mut steps: Steps<L> = Steps::new(blank);
     all_or_none(alloc, world, students, undo, &mut steps)
 }

@@ -79,7 +79,8 @@ impl Lines {
     pub fn has_enough(&self, student: StudentId) -> bool
         ensures { result ≡ nat_le (unmet_of student self.now.marks.items) (met_of student self.now.marks.items) }
     {
-        unmet(self.marks.as_slice(), student) <= met(self.marks.as_slice(), student)
+        let unmet = unmet(self.marks.as_slice(), student);
+        unmet == 0 || unmet <= met(self.marks.as_slice(), student)
     }
 
     /// The lines. It takes no memory.
