@@ -1,5 +1,5 @@
 -- A line more: how the world, the lines that are kept and the batch go on together.
-use Rattle.std.specs.Prelude.{◌≡◌, ℕ, zero, suc, ◌+◌, ◌<◌, ◌≤◌, Bool, true, false, ◌==◌, nat_lt, List, [], ◌∷◌, ◌++◌, length, map, filter, find, slice_get, take, Option, Some, None, Result, Ok, Err, IfOk, OnOk, OnErr, refl}
+use Rattle.std.specs.Prelude.{◌≡◌, ℕ, zero, suc, ◌+◌, ◌<◌, ◌≤◌, Bool, true, false, ◌==◌, nat_lt, List, [], ◌∷◌, ◌++◌, length, map, filter, find, slice_get, take, Option, Some, None, Result, Ok, Err, IfSome, OnOk, OnErr, refl}
 use Rattle.std.specs.List.{list_all, enumerate_from}
 use Rattle.std.specs.Bool.{then_some}
 use Rattle.std.specs.Option.{is_some, is_none, option_map, option_map_or, option_or}
@@ -33,7 +33,7 @@ use Rattle.sect_space.specs.Undo.{Since}
 use Rattle.sect_space.proofs.Steps.{since-none, since-more}
 use Rattle.sect_batch.specs.declared.lines.Answer.{Answer}
 use Rattle.sect_batch.specs.declared.lines.Lines.{Lines}
-use Rattle.sect_batch.specs.Lines.{Tells, line_by, mark_by, mark_of, is_counted, answer_by, answer_to_ask, ask_fits}
+use Rattle.sect_batch.specs.Lines.{Tells, ToldOn, StopsAt, IsPut, MetFits, line_by, mark_by, mark_of, is_counted, answer_by, answer_to_ask, ask_fits}
 
 -- ---- what a change led to
 
@@ -84,19 +84,18 @@ same-asks w v student e = ap (λ ss. option_map_or (λ (s : Student). s.asks) (f
 pub same-known : (w v : World) (student : StudentId) → w.students ≡ v.students → is_some (find_student v.students student) ≡ true → is_some (find_student w.students student) ≡ true
 same-known w v student e h = ap (λ ss. is_some (find_student ss student)) e ∙ h
 
--- the request at the place is the one
-pub answer-at : {E : Type 0} (w : World) (l : Lines) (student : StudentId) (place : ℕ) (a : Ask) (r : Result (Option Answer) E) → slice_get (asks_of w student) place ≡ Some a
-    → IfOk r (λ answer. (b : Batched) → Tells w l b → answer ≡ answer_to_ask b student (place + 1) a)
-    → IfOk r (λ answer. (b : Batched) (ask : Ask) → slice_get (asks_of w student) place ≡ Some ask → Tells w l b → answer ≡ answer_to_ask b student (place + 1) ask)
-answer-at w l student place a (Ok answer) at is = λ b ask same t. is b t ∙ ap (answer_to_ask b student (place + 1)) (one a ask (sym at ∙ same))
+-- the request that was found at a place
+pub found-at : (asks found : List Ask) (place : ℕ) (a : Ask) → found ≡ asks → place < length found → a ≡ get_or found place a → (place < length asks) × (slice_get asks place ≡ Some a)
+found-at asks found place a same few is = subst (λ xs. (place < length xs) × (slice_get xs place ≡ Some a)) same (few, got found place few ∙ ap Some (sym is))
   where
-    one : (x y : Ask) → Some x ≡ Some y → x ≡ y
-    one x y e = cc
-answer-at w l student place a (Err x) at is = tt
+    got : (xs : List Ask) (k : ℕ) → k < length xs → slice_get xs k ≡ Some (get_or xs k a)
+    got [] k l = absurd (omega (arith, l))
+    got (x ∷ xs) zero l = refl
+    got (x ∷ xs) (suc k) l = got xs k (omega (arith, l))
 
-pub on-ok : {A E P Q : Type 0} (r : Result A E) → OnOk r P → (P → Q) → OnOk r Q
-on-ok (Ok x) p f = f p
-on-ok (Err x) p f = tt
+-- one request stands at a place
+one-request : (asks : List Ask) (i : ℕ) (x y : Ask) → slice_get asks i ≡ Some x → slice_get asks i ≡ Some y → x ≡ y
+one-request asks i x y e f = cc
 
 -- what holds anyway holds after a failure
 pub on-err : {A E P : Type 0} (r : Result A E) → P → OnErr r P
@@ -129,6 +128,26 @@ told-some w v l m student rank answer more b (asks_course ask) t some = more b a
     same : (x y : Answer) → Some x ≡ Some y → x ≡ y
     same x y e = cc
 
+-- an answer with a choice, before whose line the lines stop
+pub stops-at : (w : World) (student : StudentId) (from place rank : ℕ) (l m : Lines) (answer left : Option Answer) (chosen : Answer) (a : Ask) → from ≤ place → place < length (asks_of w student) → slice_get (asks_of w student) place ≡ Some a
+    → ((b : Batched) → Tells w l b → answer ≡ answer_to_ask b student (place + 1) a) → IfSome answer (λ x. MetFits w student x.result) → IsPut student rank answer l m left → left ≡ Some chosen → StopsAt w student m from place (Some chosen)
+stops-at w student from place rank l m answer left chosen a behind few at answers met put is =
+    let same : (answer ≡ Some chosen) × (m ≡ l) = subst (IsPut student rank answer l m) is put in (
+      behind,
+      few,
+      subst (λ o. IfSome o (λ x. MetFits w student x.result)) same.0 met,
+      λ b ask here t. sym same.0 ∙ answers b (subst (λ k. Tells w k b) same.1 t) ∙ ap (answer_to_ask b student (place + 1)) (one-request (asks_of w student) place a ask at here),
+    )
+
+-- a line that was put
+pub put-on : (w : World) (student : StudentId) (place rank : ℕ) (l m : Lines) (answer left : Option Answer) (a : Ask) → rank ≡ place + 1 → slice_get (asks_of w student) place ≡ Some a
+    → ((b : Batched) → Tells w l b → answer ≡ answer_to_ask b student (place + 1) a) → IsPut student rank answer l m left → left ≡ None
+    → (b : Batched) (ask : Ask) → slice_get (asks_of w student) place ≡ Some ask → Tells w l b → Tells w m (batch_asks b student ((place + 1, ask) ∷ []))
+put-on w student place rank l m answer left a next at answers put is b ask here t =
+    let all : IsPut student rank answer l m None = subst (IsPut student rank answer l m) is put in
+    subst (λ n. Tells w m (batch_asks b student ((n, ask) ∷ []))) next
+    (all w b ask t (answers b t ∙ (λ i. answer_to_ask b student (sym next i) (one-request (asks_of w student) place a ask at here i))))
+
 -- ---- requests one after the other
 
 batch_asks-append : (xs ys : List (ℕ × Ask)) (b : Batched) (student : StudentId) → batch_asks b student (xs ++ ys) ≡ batch_asks (batch_asks b student xs) student ys
@@ -158,13 +177,10 @@ ask-more asks i l =
     turned : (n : ℕ) → 1 + n ≡ n + 1
     turned n = omega arith
 
--- so far the lines of these requests are told
-abbrev pub ToldAsks : StudentId → List Ask → World → Lines → ℕ → World → Lines → Type 0
-ToldAsks student asks w_old l_old n w l = (b : Batched) → Tells w_old l_old b → Tells w l (batch_asks b student (take n (enumerate_from 1 asks)))
-
-pub told-on : (student : StudentId) (asks : List Ask) (w_old : World) (l_old : Lines) (n : ℕ) (w : World) (l : Lines) (v : World) (m : Lines) → n < length asks → ToldAsks student asks w_old l_old n w l
-    → ((b : Batched) (ask : Ask) → slice_get asks n ≡ Some ask → Tells w l b → Tells v m (batch_asks b student ((n + 1, ask) ∷ []))) → ToldAsks student asks w_old l_old (n + 1) v m
-told-on student asks w_old l_old n w l v m few told more b t =
+-- the lines of the requests so far, and of one more
+pub told-on : (student : StudentId) (asks : List Ask) (w_old : World) (l_old : Lines) (from n : ℕ) (w : World) (l : Lines) (v : World) (m : Lines) → n < length asks → ToldOn student asks w_old l_old from w l n
+    → ((b : Batched) (ask : Ask) → slice_get asks n ≡ Some ask → Tells w l b → Tells v m (batch_asks b student ((n + 1, ask) ∷ []))) → ToldOn student asks w_old l_old from v m (n + 1)
+told-on student asks w_old l_old from n w l v m few told more b t =
     let one = ask-more asks n few in
     let before = take n (enumerate_from 1 asks) in
     subst (Tells v m) (sym (ap (batch_asks b student) one.2 ∙ batch_asks-append before ((n + 1, one.0) ∷ []) b student)) (more (batch_asks b student before) one.0 one.1 (told b t))
@@ -175,7 +191,7 @@ take_all (suc n) [] few = refl
 take_all zero (x ∷ xs) few = absurd (omega (arith, few))
 take_all (suc n) (x ∷ xs) few = ap (λ ys. x ∷ ys) (take_all n xs (omega (arith, few)))
 
-pub told-all : (student : StudentId) (asks : List Ask) (w_old : World) (l_old : Lines) (n : ℕ) (w : World) (l : Lines) → length asks ≤ n → ToldAsks student asks w_old l_old n w l
+pub told-all : (student : StudentId) (asks : List Ask) (w_old : World) (l_old : Lines) (n : ℕ) (w : World) (l : Lines) → length asks ≤ n → ToldOn student asks w_old l_old 0 w l n
     → (b : Batched) → Tells w_old l_old b → Tells w l (batch_asks b student (enumerate_from 1 asks))
 told-all student asks w_old l_old n w l all told b t =
     subst (λ xs. Tells w l (batch_asks b student xs)) (take_all n (enumerate_from 1 asks) (enough (length (enumerate_from 1 asks)) (length asks) (length-enumerate_from 1 asks) all)) (told b t)

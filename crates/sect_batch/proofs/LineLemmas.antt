@@ -12,17 +12,18 @@ use Rattle.sect_command.specs.declared.reply.LineResult.{LineResult}
 use Rattle.sect_command.specs.declared.reply.LineResult.TheVariants.{Held, Skipped}
 use Rattle.sect_model.specs.declared.pick.Outcome.{Outcome}
 use Rattle.sect_model.specs.declared.pick.Outcome.TheVariants.{Found, Blocked as blocked, Spent as spent}
-use Rattle.sect_model.specs.World.{World, enrol, holds}
+use Rattle.sect_model.specs.World.{World, enrol, held_by, holds}
 use Rattle.sect_model.specs.Allowed.{is_allowed}
 use Rattle.sect_model.specs.Move.{are_allowed}
 use Rattle.sect_model.specs.Outcome.{outcome_of}
 use Rattle.sect_model.specs.Settle.{found_in}
 use Rattle.sect_model.specs.Batch.{Answered, Batched, answer_to, held_or, skipped_or, is_skipped, search_for, result_of, request_move, want_of, unmet_requests, met_substitutes, is_unmet, is_met}
+use Rattle.sect_model.proofs.ListLemmas.{any-filter-both}
 use Rattle.sect_model.proofs.Members.{both-left}
 use Rattle.sect_model.proofs.KeptMoves.{found-allowed}
 use Rattle.sect_batch.specs.declared.lines.Lines.{Lines}
 use Rattle.sect_batch.specs.declared.lines.Mark.{Mark}
-use Rattle.sect_batch.specs.Lines.{Tells, MetFits, mark_of, is_counted, unmet_of, met_of}
+use Rattle.sect_batch.specs.Lines.{Tells, MetFits, has_course, mark_of, is_counted, unmet_of, met_of}
 
 -- ---- what marks count
 
@@ -96,6 +97,12 @@ skipped-same w l b student ask t = λ i. ask.substitute && nat_le (unmet i) (met
     met = ap (met_of student) t.marks
         ∙ counted-same (λ m. m.student.0 == student.0 && m.met) (λ m. no_second (m.student.0 == student.0) m.unmet m.met) (map mark_of b.answered)
         ∙ met-same student b.answered
+
+-- ---- what is held
+
+-- among the student's enrolments
+pub held-same : (w : World) (student : StudentId) (courses : List CourseId) → find (has_course (held_by w student)) courses ≡ find (holds w student) courses
+held-same w student courses = λ i. find (λ course. any-filter-both (λ e. e.student.0 == student.0) (λ e. e.choice.course.0 == course.0) w.roster i) courses
 
 -- ---- the line
 

@@ -3,7 +3,7 @@
 ghost use Rattle.std.specs.Prelude.{◌≡◌, ◌&&◌, nat_le, find, IfOk, IsTrue};
 ghost use Rattle.std.specs.Option.{is_some};
 ghost use Rattle.sect_people.specs.Student.{find_student};
-ghost use Rattle.sect_model.specs.World.{holds as is_held};
+ghost use Rattle.sect_model.specs.World.{held_by};
 ghost use Rattle.sect_model.specs.Premises.{want_fits};
 ghost use Rattle.sect_model.specs.Batch.{
   Batched,
@@ -13,35 +13,37 @@ ghost use Rattle.sect_model.specs.Batch.{
   request_move as move_of_request,
   want_of,
 };
-ghost use Rattle.sect_batch.specs.Lines.{Tells, MetFits, answer_by, unmet_of, met_of};
+ghost use Rattle.sect_batch.specs.Lines.{Tells, MetFits, answer_by, has_course as is_in_course, unmet_of, met_of};
 
 use crate::lines::{Answer, Lines};
 use sect_base::{CourseId, Memory, Steps, StudentId};
 use sect_command::LineResult;
-use sect_model::Outcome;
+use sect_model::{Enrolment, Outcome};
 use sect_people::CourseAsk;
 use sect_search::{LentMove, LentWant, search_lent, usual_budget};
 use sect_space::World;
 use std::alloc::Global;
 use std::sync::ledger::Ledger;
 
-/// What becomes of a student's course request of this rank, behind the lines so far.
+/// What becomes of a student's course request of this rank, behind the lines so far, where `held` is what the student holds.
 pub fn answer_to<L: Ledger>(
     alloc: Global,
     world: &World,
     student: StudentId,
     rank: u8,
     ask: &CourseAsk,
+    held: &[Enrolment],
     lines: &Lines,
     steps: &mut Steps<L>,
 ) -> Result<Answer, Memory>
     requires known { IsTrue (is_some (find_student world.now.world.students student)) }
     requires fits { IsTrue (want_fits world.now.world (want_of ask.now 0)) }
+    requires held { held.now ≡ held_by world.now.world student }
     ensures answer { IfOk result (λ answer. (b : Batched) → Tells world.now.world lines.now b
         → answer ≡ answer_by (answer_of_batch b student rank ask.now) ask.now) }
     ensures met { IfOk result (λ answer. MetFits world.now.world student answer.result) }
 {
-    let result = line_result(alloc, world, student, rank, ask, lines, steps)?;
+    let result = line_result(alloc, world, student, rank, ask, held, lines, steps)?;
     Ok(Answer {
         result,
         wait: ask.wait,
@@ -56,15 +58,17 @@ fn line_result<L: Ledger>(
     student: StudentId,
     rank: u8,
     ask: &CourseAsk,
+    held: &[Enrolment],
     lines: &Lines,
     steps: &mut Steps<L>,
 ) -> Result<LineResult, Memory>
     requires known { IsTrue (is_some (find_student world.now.world.students student)) }
     requires fits { IsTrue (want_fits world.now.world (want_of ask.now 0)) }
+    requires held { held.now ≡ held_by world.now.world student }
     ensures line { IfOk result (λ line. (b : Batched) → Tells world.now.world lines.now b → line ≡ answer_of_batch b student rank ask.now) }
     ensures met { IfOk result (λ line. MetFits world.now.world student line) }
 {
-    match held_course(world, student, ask.courses.as_slice()) {
+    match held_course(held, ask.courses.as_slice()) {
         Some(course) => Ok(LineResult::Held(course)),
         None => {
             if is_skipped(student, ask, lines) {
@@ -83,16 +87,25 @@ fn is_skipped(student: StudentId, ask: &CourseAsk, lines: &Lines) -> bool
     ask.substitute && lines.has_enough(student)
 }
 
-/// The first of the courses that the student holds.
-fn held_course(world: &World, student: StudentId, courses: &[CourseId]) -> Option<CourseId>
-    ensures { result ≡ find (is_held world.now.world student) courses.now }
+/// The first of the courses that one of the enrolments is in.
+fn held_course(enrolments: &[Enrolment], courses: &[CourseId]) -> Option<CourseId>
+    ensures { result ≡ find (is_in_course enrolments.now) courses.now }
 {
     for course in courses {
-        if world.holds(student, *course) {
+        if has_course(enrolments, *course) {
             return Some(*course);
         }
     }
     None
+}
+
+/// Whether one of the enrolments is in the course.
+fn has_course(enrolments: &[Enrolment], course: CourseId) -> bool
+    ensures { result ≡ is_in_course enrolments.now course }
+{
+    enrolments
+        .iter()
+        .any(|enrolment| enrolment.choice.course == course)
 }
 
 /// What the search for one of the request's courses gives.

@@ -1,20 +1,19 @@
 // The batch: each student's requests in turn, and each choice is enrolled at once.
 
-ghost use Rattle.std.specs.Prelude.{◌≡◌, ◌<◌, ◌≤◌, ◌+◌, [], ◌∷◌, List, length, map, slice_get, Some, IfOk, IfSome, OnOk, OnErr, IsTrue};
+ghost use Rattle.std.specs.Prelude.{◌≡◌, ◌<◌, ◌≤◌, ◌+◌, [], ◌∷◌, List, length, map, IfOk, IfSome, OnOk, OnErr, IsTrue};
 ghost use Rattle.std.specs.List.{list_all, enumerate_from};
 ghost use Rattle.std.specs.Option.{is_some};
 ghost use Rattle.sect_people.specs.Student.{find_student};
-ghost use Rattle.sect_people.specs.declared.row.Ask.{Ask as Request};
 ghost use Rattle.sect_people.specs.declared.row.CourseAsk.{CourseAsk};
 ghost use Rattle.sect_command.specs.declared.reply.LineResult.{LineResult};
 ghost use Rattle.sect_model.specs.Batch.{Batched, batch_of, batch_students, batch_asks, add_line, world_after, asks_of as requests_of};
-ghost use Rattle.sect_model.specs.World.{enrol as world_with};
+ghost use Rattle.sect_model.specs.World.{enrol as world_with, held_by};
 ghost use Rattle.sect_model.specs.Fits.{Fits};
 ghost use Rattle.sect_space.specs.Undo.{Since, Undoable};
-ghost use Rattle.sect_batch.specs.Lines.{Tells, MetFits, answer_by, answer_to_ask, ask_fits};
+ghost use Rattle.sect_batch.specs.Lines.{Tells, ToldOn, StopsAt, IsPut, MetFits, answer_by, answer_to_ask, ask_fits};
 
 use crate::answering::answer_to;
-use crate::lines::{Answer, Lines};
+use crate::lines::{Answer, Lines, has_choice};
 use sect_base::{Choice, Items, Memory, Steps, StudentId};
 use sect_command::{Line, LineResult};
 use sect_model::{Change, Enrolment};
@@ -23,6 +22,13 @@ use sect_space::{Undo, World};
 use std::alloc::Global;
 use std::marker::Brand;
 use std::sync::ledger::{Blank, Ledger};
+
+/// Where the lines of a student's requests stop: how far they go, and the answer of the next request where that has a choice.
+#[derive(Drop)]
+struct Stop {
+    place: usize,
+    chosen: Option<Answer>,
+}
 
 /// A line for each course request of the students, in their order and by position; free times make none. What is met is
 /// enrolled at once, so that later requests see it. The students are known, and what is recorded in `undo` can be taken back.
@@ -45,7 +51,7 @@ pub fn batch(
     counted::<Brand>(alloc, world, students, undo, Blank::new(1))
 }
 
-/// The batch, whose searches are counted in a ledger of its own.
+/// The batch, whose searches are counted in a ledger of its own. It makes room first to record an enrolment of each student.
 fn counted<L: Ledger>(
     alloc: Global,
     world: &mut World,
@@ -65,6 +71,7 @@ fn counted<L: Ledger>(
     ensures since { Since world.old.world undo.old.backs world.new.world undo.new.backs }
     ensures undoable { Undoable world.new undo.new.backs }
 {
+    undo.reserve(students.len())?;
     let mut steps: Steps<L> = Steps::new(blank);
     all_or_none(alloc, world, students, undo, &mut steps)
 }
@@ -110,11 +117,20 @@ fn all_lines<L: Ledger>(
     ensures since { Since world.old.world undo.old.backs world.new.world undo.new.backs }
     ensures undoable { Undoable world.new undo.new.backs }
 {
-    let mut lines = Lines::empty(alloc);
+    let mut lines = Lines::with_room(alloc, most_lines(world, students))?;
     for student in students {
         student_lines(alloc, world, *student, &mut lines, undo, steps)?;
     }
     Ok(lines.into_items())
+}
+
+/// How many lines the students have at most: as many as requests, of which a free time makes none.
+fn most_lines(world: &World, students: &[StudentId]) -> usize {
+    let mut most: usize = 0;
+    for student in students {
+        most = most.saturating_add(world.asks(*student).len());
+    }
+    most
 }
 
 /// The lines of one student.
@@ -135,58 +151,103 @@ fn student_lines<L: Ledger>(
     ensures undoable { Undoable world.new undo.new.backs }
 {
     let count = world.asks(student).len();
-    for place in 0..count {
-        ask_line(alloc, world, student, place, lines, undo, steps)?;
+    let mut place = 0;
+    while place < count {
+        place = some_lines(alloc, world, student, place, lines, undo, steps)?;
     }
     Ok(())
 }
 
-/// The line of the request at a place, none where it is a free time.
-fn ask_line<L: Ledger>(
+/// The lines of the student's requests from a place on, up to the first that takes a place in a course. The place behind them.
+fn some_lines<L: Ledger>(
     alloc: Global,
     world: &mut World,
     student: StudentId,
-    place: usize,
+    from: usize,
     lines: &mut Lines,
     undo: &mut Undo,
     steps: &mut Steps<L>,
-) -> Result<(), Memory>
+) -> Result<usize, Memory>
     requires known { IsTrue (is_some (find_student world.old.world.students student)) }
-    requires place { place < length (requests_of world.old.world student) }
+    requires from { from < length (requests_of world.old.world student) }
     requires undoable { Undoable world.old undo.old.backs }
-    ensures told { OnOk result ((b : Batched) (ask : Request)
-        → slice_get (requests_of world.old.world student) place ≡ Some ask → Tells world.old.world lines.old b
-        → Tells world.new.world lines.new (batch_asks b student ((place + 1, ask) ∷ []))) }
+    ensures on { IfOk result (λ place. from < place) }
+    ensures told { IfOk result (λ place. ToldOn student (requests_of world.old.world student) world.old.world lines.old from world.new.world lines.new place) }
     ensures students { world.new.world.students ≡ world.old.world.students }
     ensures since { Since world.old.world undo.old.backs world.new.world undo.new.backs }
     ensures undoable { Undoable world.new undo.new.backs }
 {
     world.recall_kept();
-    match answer_at(alloc, world, student, place, lines, steps)? {
-        Some(answer) => add(world, student, rank(place), answer, lines, undo),
-        None => Ok(()),
+    let stop = lines_to_choice(alloc, world, student, from, lines, steps)?;
+    let Stop { place, chosen } = stop;
+    match chosen {
+        Some(answer) => {
+            add(world, student, rank(place), answer, lines, undo)?;
+            Ok(place + 1)
+        }
+        None => Ok(place),
     }
 }
 
-/// What becomes of the request at a place, None where it is a free time.
-fn answer_at<L: Ledger>(
+/// The lines of the student's requests from a place on, before the first that takes a place in a course.
+fn lines_to_choice<L: Ledger>(
     alloc: Global,
     world: &World,
     student: StudentId,
-    place: usize,
-    lines: &Lines,
+    from: usize,
+    lines: &mut Lines,
     steps: &mut Steps<L>,
-) -> Result<Option<Answer>, Memory>
+) -> Result<Stop, Memory>
     requires known { IsTrue (is_some (find_student world.now.world.students student)) }
-    requires place { place < length (requests_of world.now.world student) }
-    ensures answer { IfOk result (λ answer. (b : Batched) (ask : Request)
-        → slice_get (requests_of world.now.world student) place ≡ Some ask → Tells world.now.world lines.now b
-        → answer ≡ answer_to_ask b student (place + 1) ask) }
-    ensures met { IfOk result (λ answer. IfSome answer (λ a. MetFits world.now.world student a.result)) }
+    requires from { from < length (requests_of world.now.world student) }
+    ensures told { IfOk result (λ stop. ToldOn student (requests_of world.now.world student) world.now.world lines.old from world.now.world lines.new stop.place) }
+    ensures stop { IfOk result (λ stop. StopsAt world.now.world student lines.new from stop.place stop.chosen) }
 {
     world.recall_kept();
-    match world.asks(student).get(place) {
-        Some(ask) => answer_ask(alloc, world, student, place, ask, lines, steps),
+    let asks = world.asks(student);
+    let held = world.enrolments(student);
+    for place in from..asks.len() {
+        let answer = answer_ask(
+            alloc,
+            world,
+            student,
+            place,
+            &asks[place],
+            held,
+            lines,
+            steps,
+        )?;
+        if let Some(answer) = put(student, rank(place), answer, lines)? {
+            return Ok(Stop {
+                place,
+                chosen: Some(answer),
+            });
+        }
+    }
+    Ok(Stop {
+        place: asks.len(),
+        chosen: None,
+    })
+}
+
+/// Puts the line of an answer behind the others. One that has a choice comes back instead, and so nothing changes.
+fn put(
+    student: StudentId,
+    rank: u8,
+    answer: Option<Answer>,
+    lines: &mut Lines,
+) -> Result<Option<Answer>, Memory>
+    ensures { IfOk result (λ left. IsPut student rank answer lines.old lines.new left) }
+{
+    match answer {
+        Some(answer) => {
+            if has_choice(&answer.result) {
+                Ok(Some(answer))
+            } else {
+                lines.push(student, rank, answer)?;
+                Ok(None)
+            }
+        }
         None => Ok(None),
     }
 }
@@ -198,18 +259,20 @@ fn answer_ask<L: Ledger>(
     student: StudentId,
     place: usize,
     ask: &Ask,
+    held: &[Enrolment],
     lines: &Lines,
     steps: &mut Steps<L>,
 ) -> Result<Option<Answer>, Memory>
     requires known { IsTrue (is_some (find_student world.now.world.students student)) }
     requires place { place < 20 }
     requires fits { IsTrue (ask_fits world.now.world ask.now) }
+    requires held { held.now ≡ held_by world.now.world student }
     ensures answer { IfOk result (λ answer. (b : Batched) → Tells world.now.world lines.now b → answer ≡ answer_to_ask b student (place + 1) ask.now) }
     ensures met { IfOk result (λ answer. IfSome answer (λ a. MetFits world.now.world student a.result)) }
 {
     match ask {
         Ask::Course(ask) => {
-            let answer = answer_to(alloc, world, student, rank(place), ask, lines, steps)?;
+            let answer = answer_to(alloc, world, student, rank(place), ask, held, lines, steps)?;
             Ok(Some(answer))
         }
         Ask::Free(_) => Ok(None),

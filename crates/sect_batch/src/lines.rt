@@ -1,8 +1,8 @@
 // The lines of a batch so far, and what later lines count of them.
 
-ghost use Rattle.std.specs.Prelude.{◌≡◌, ◌&&◌, ◌==◌, ◌++◌, [], ◌∷◌, nat_le, filter, count_by, OnOk};
+ghost use Rattle.std.specs.Prelude.{◌≡◌, ◌&&◌, ◌==◌, ◌++◌, [], ◌∷◌, nat_le, filter, count_by, IfOk, OnOk};
 ghost use Rattle.sect_model.specs.Batch.{is_unmet as is_line_unmet, is_met as is_line_met};
-ghost use Rattle.sect_batch.specs.Lines.{is_counted, line_by, mark_by, unmet_of, met_of};
+ghost use Rattle.sect_batch.specs.Lines.{is_chosen, is_counted, line_by, mark_by, unmet_of, met_of};
 
 use sect_base::{Items, Memory, StudentId};
 use sect_command::{Line, LineResult};
@@ -34,15 +34,15 @@ pub struct Lines {
 }
 
 impl Lines {
-    /// No lines. It takes no memory.
-    pub fn empty(alloc: Global) -> Lines
-        ensures lines { result.lines.items ≡ [] }
-        ensures marks { result.marks.items ≡ [] }
+    /// No lines, with room for `n`.
+    pub fn with_room(alloc: Global, n: usize) -> Result<Lines, Memory>
+        ensures lines { IfOk result (λ made. made.lines.items ≡ []) }
+        ensures marks { IfOk result (λ made. made.marks.items ≡ []) }
     {
-        Lines {
-            lines: Vec::new(alloc),
+        Ok(Lines {
+            lines: Vec::with_capacity(alloc, n)?,
             marks: Vec::new(alloc),
-        }
+        })
     }
 
     /// Puts a line behind the others.
@@ -79,7 +79,8 @@ impl Lines {
     pub fn has_enough(&self, student: StudentId) -> bool
         ensures { result ≡ nat_le (unmet_of student self.now.marks.items) (met_of student self.now.marks.items) }
     {
-        unmet(self.marks.as_slice(), student) <= met(self.marks.as_slice(), student)
+        let unmet = unmet(self.marks.as_slice(), student);
+        unmet == 0 || unmet <= met(self.marks.as_slice(), student)
     }
 
     /// The lines. It takes no memory.
@@ -143,6 +144,20 @@ fn is_met(line: &LineResult) -> bool
     match line {
         LineResult::Met(_) => true,
         LineResult::Held(_) => true,
+        LineResult::Blocked(_, _) => false,
+        LineResult::Spent => false,
+        LineResult::Waiting(_) => false,
+        LineResult::Skipped => false,
+    }
+}
+
+/// Whether the line has a choice, by which the student is to be enrolled. It takes no memory.
+pub fn has_choice(line: &LineResult) -> bool
+    ensures { result ≡ is_chosen line.now }
+{
+    match line {
+        LineResult::Met(_) => true,
+        LineResult::Held(_) => false,
         LineResult::Blocked(_, _) => false,
         LineResult::Spent => false,
         LineResult::Waiting(_) => false,

@@ -14,6 +14,7 @@ ghost use Rattle.sect_model.specs.Batch.{
   join_lines as joined_by_all,
   ticket_of as least_ticket,
   with_result,
+  is_unmet as is_line_unmet,
 };
 ghost use Rattle.sect_model.specs.Step.{batched};
 ghost use Rattle.sect_model.specs.World.{World as SectionedWorld};
@@ -110,6 +111,33 @@ fn join_line(
     ensures since { QueueSince queue.old.queue queue_undo.old queue.new.queue queue_undo.new }
     ensures undoable { QueueUndoable queue.new queue_undo.new }
 {
+    if is_unmet(&line.result) {
+        join_unmet(alloc, world, queue, line, queue_undo)
+    } else {
+        Ok(None)
+    }
+}
+
+/// The ticket by which an unmet line waits, None where it doesn't.
+fn join_unmet(
+    alloc: Global,
+    world: &World,
+    queue: &mut Queue,
+    line: &Line,
+    queue_undo: &mut QueueUndo,
+) -> Result<Option<u64>, Memory>
+    requires unmet { IsTrue (is_line_unmet line.now.result) }
+    requires undoable { QueueUndoable queue.old queue_undo.old }
+    ensures joined { IfOk result (λ ticket. (lines : List BatchLine)
+        → joined_by (record { state = state_of world.now.world queue.old.queue; lines = lines })
+        (answered_of world.now.world line.now) ≡ record {
+          state = state_of world.now.world queue.new.queue;
+          lines = lines
+              ++ waiting_line line.now ticket ∷ [];
+        }) }
+    ensures since { QueueSince queue.old.queue queue_undo.old queue.new.queue queue_undo.new }
+    ensures undoable { QueueUndoable queue.new queue_undo.new }
+{
     match world.asks(line.student).get(place(line.rank)) {
         Some(ask) => join_ask(alloc, queue, line, ask, queue_undo),
         None => Ok(None),
@@ -123,7 +151,7 @@ fn place(rank: u8) -> usize
     if rank == 0 { 0 } else { rank as usize - 1 }
 }
 
-/// The ticket by which the line of a request waits, None where it doesn't.
+/// The ticket by which the unmet line of a request waits, None where it doesn't.
 fn join_ask(
     alloc: Global,
     queue: &mut Queue,
@@ -131,6 +159,7 @@ fn join_ask(
     ask: &Ask,
     queue_undo: &mut QueueUndo,
 ) -> Result<Option<u64>, Memory>
+    requires unmet { IsTrue (is_line_unmet line.now.result) }
     requires undoable { QueueUndoable queue.old queue_undo.old }
     ensures joined { IfOk result (λ ticket. (w : SectionedWorld) (lines : List BatchLine)
         → joined_by (record { state = state_of w queue.old.queue; lines = lines })
@@ -145,7 +174,7 @@ fn join_ask(
     }
 }
 
-/// The ticket by which the line of a course request waits, None where it doesn't.
+/// The ticket by which the unmet line of a course request waits, None where it doesn't.
 fn join_course(
     alloc: Global,
     queue: &mut Queue,
@@ -153,6 +182,7 @@ fn join_course(
     ask: &CourseAsk,
     queue_undo: &mut QueueUndo,
 ) -> Result<Option<u64>, Memory>
+    requires unmet { IsTrue (is_line_unmet line.now.result) }
     requires undoable { QueueUndoable queue.old queue_undo.old }
     ensures joined { IfOk result (λ ticket. (w : SectionedWorld) (lines : List BatchLine)
         → joined_by (record { state = state_of w queue.old.queue; lines = lines }) (record { line = line.now; ask = ask.now })
@@ -160,7 +190,7 @@ fn join_course(
     ensures since { QueueSince queue.old.queue queue_undo.old queue.new.queue queue_undo.new }
     ensures undoable { QueueUndoable queue.new queue_undo.new }
 {
-    if is_unmet(&line.result) && ask.wait {
+    if ask.wait {
         let ticket = ticket_or_join(alloc, queue, line, ask, queue_undo)?;
         Ok(Some(ticket))
     } else {
