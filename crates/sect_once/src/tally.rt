@@ -142,9 +142,7 @@ fn request_of(day: Day, caller: Caller, number: u64, command: u8) -> [u8; 18]
     let tag = tag_of(caller);
     let [e, f, g, h] = number_of(caller).to_be_bytes();
     let [i, j, k, l, m, n, o, p] = number.to_be_bytes();
-    [
-        a, b, c, d, tag, e, f, g, h, i, j, k, l, m, n, o, p, command,
-    ]
+    [a, b, c, d, tag, e, f, g, h, i, j, k, l, m, n, o, p, command]
 }
 
 /// The number in the four bytes from a place on, the highest byte first.

@@ -14,12 +14,7 @@ use sect_command::{Command, Reply};
 
 /// Appends a request as it stands in a row, in front of the text of its reply: the mark, the day, the id, the command and `=`. It
 /// takes memory. After `Memory` a part of it may stand at the end.
-pub fn print_request(
-    id: Id,
-    day: Day,
-    command: &Command,
-    into: &mut Vec<u8>,
-) -> Result<(), Memory>
+pub fn print_request(id: Id, day: Day, command: &Command, into: &mut Vec<u8>) -> Result<(), Memory>
     ensures text { OnOk result (into.new.items ≡ into.old.items ++ request_text id day command.now) }
     ensures front { take (length into.old.items) into.new.items ≡ into.old.items }
 {

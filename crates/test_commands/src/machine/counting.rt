@@ -45,13 +45,7 @@ fn count_ask(machine: &mut Machine, ask: LineAsk, into: &mut Vec<u8>) -> Result<
         return Ok(());
     };
     let LineAsk { id, command, .. } = ask;
-    let (reply, searches) = counted::<Brand>(
-        machine,
-        day,
-        id.caller,
-        command,
-        Blank::new(1),
-    )?;
+    let (reply, searches) = counted::<Brand>(machine, day, id.caller, command, Blank::new(1))?;
     print_counted(&reply, searches, into)
 }
 
