@@ -9,6 +9,7 @@ use Rattle.std.proofs.lemmas.List.Elements.{filter-append}
 use Rattle.std.proofs.lemmas.List.{take_more, map-append}
 use Rattle.std.proofs.lemmas.List.FromFn.{length-enumerate_from, get_or-enumerate_from}
 use Rattle.sect_base.specs.Capped.{capped}
+use Rattle.sect_base.specs.declared.choice.Choice.{Choice}
 use Rattle.sect_base.specs.declared.ids.StudentId.{StudentId}
 use Rattle.sect_people.specs.Student.{Student, find_student}
 use Rattle.sect_people.specs.Fault as requests
@@ -17,6 +18,7 @@ use Rattle.sect_people.specs.declared.row.Ask.TheVariants.{Course as asks_course
 use Rattle.sect_people.specs.declared.row.CourseAsk.{CourseAsk}
 use Rattle.sect_people.specs.declared.row.RequestFault.TheVariants.{UnknownCourse, Twice, TooMany}
 use Rattle.sect_command.specs.declared.reply.LineResult.{LineResult}
+use Rattle.sect_command.specs.declared.reply.LineResult.TheVariants.{Met, Held, Blocked, Spent, Waiting, Skipped}
 use Rattle.sect_model.specs.declared.change.Change.{Change}
 use Rattle.sect_model.specs.World.{World, course_ids}
 use Rattle.sect_model.specs.Fits.{Fits, changed}
@@ -33,7 +35,7 @@ use Rattle.sect_space.specs.Undo.{Since}
 use Rattle.sect_space.proofs.Steps.{since-none, since-more}
 use Rattle.sect_batch.specs.declared.lines.Answer.{Answer}
 use Rattle.sect_batch.specs.declared.lines.Lines.{Lines}
-use Rattle.sect_batch.specs.Lines.{Tells, ToldOn, StopsAt, IsPut, MetFits, line_by, mark_by, mark_of, is_counted, answer_by, answer_to_ask, ask_fits}
+use Rattle.sect_batch.specs.Lines.{Tells, ToldOn, IsPut, ChoiceFits, MetFits, choice_by, choice_in, taking, line_by, mark_by, mark_of, is_counted, answer_by, answer_to_ask, ask_fits}
 
 -- ---- what a change led to
 
@@ -128,25 +130,49 @@ told-some w v l m student rank answer more b (asks_course ask) t some = more b a
     same : (x y : Answer) → Some x ≡ Some y → x ≡ y
     same x y e = cc
 
--- an answer with a choice, before whose line the lines stop
-pub stops-at : (w : World) (student : StudentId) (from place rank : ℕ) (l m : Lines) (answer left : Option Answer) (chosen : Answer) (a : Ask) → from ≤ place → place < length (asks_of w student) → slice_get (asks_of w student) place ≡ Some a
-    → ((b : Batched) → Tells w l b → answer ≡ answer_to_ask b student (place + 1) a) → IfSome answer (λ x. MetFits w student x.result) → IsPut student rank answer l m left → left ≡ Some chosen → StopsAt w student m from place (Some chosen)
-stops-at w student from place rank l m answer left chosen a behind few at answers met put is =
-    let same : (answer ≡ Some chosen) × (m ≡ l) = subst (IsPut student rank answer l m) is put in (
-      behind,
-      few,
-      subst (λ o. IfSome o (λ x. MetFits w student x.result)) same.0 met,
-      λ b ask here t. sym same.0 ∙ answers b (subst (λ k. Tells w k b) same.1 t) ∙ ap (answer_to_ask b student (place + 1)) (one-request (asks_of w student) place a ask at here),
-    )
+-- a line that is put
+after-choice : (w : World) (student : StudentId) (line : LineResult) → taking w student (choice_by line) ≡ world_after w student line
+after-choice w student (Met choice) = refl
+after-choice w student (Held course) = refl
+after-choice w student (Blocked visits tree) = refl
+after-choice w student Spent = refl
+after-choice w student (Waiting ticket) = refl
+after-choice w student Skipped = refl
 
--- a line that was put
-pub put-on : (w : World) (student : StudentId) (place rank : ℕ) (l m : Lines) (answer left : Option Answer) (a : Ask) → rank ≡ place + 1 → slice_get (asks_of w student) place ≡ Some a
-    → ((b : Batched) → Tells w l b → answer ≡ answer_to_ask b student (place + 1) a) → IsPut student rank answer l m left → left ≡ None
-    → (b : Batched) (ask : Ask) → slice_get (asks_of w student) place ≡ Some ask → Tells w l b → Tells w m (batch_asks b student ((place + 1, ask) ∷ []))
-put-on w student place rank l m answer left a next at answers put is b ask here t =
-    let all : IsPut student rank answer l m None = subst (IsPut student rank answer l m) is put in
-    subst (λ n. Tells w m (batch_asks b student ((n, ask) ∷ []))) next
-    (all w b ask t (answers b t ∙ (λ i. answer_to_ask b student (sym next i) (one-request (asks_of w student) place a ask at here i))))
+pub put-line : (l m : Lines) (student : StudentId) (rank : ℕ) (answer : Answer) (choice : Option Choice) → choice ≡ choice_by answer.result → m.lines.items ≡ l.lines.items ++ line_by student rank answer ∷ []
+    → m.marks.items ≡ l.marks.items ++ filter is_counted (mark_by student answer ∷ []) → IsPut student rank (Some answer) l m choice
+put-line l m student rank answer choice is lines marks = record {
+  same = is;
+  told = λ w b ask t some. told-some w (taking w student choice) l m student rank answer
+      (told-more w (taking w student choice) l m student rank answer (ap (taking w student) is ∙ after-choice w student answer.result) lines marks) b ask t some;
+}
+
+pub put-none : (l : Lines) (student : StudentId) (rank : ℕ) → IsPut student rank None l l None
+put-none l student rank = record { same = refl; told = λ w b ask t none. told-none w l student rank b ask t none }
+
+line-fits : (w : World) (student : StudentId) (line : LineResult) → MetFits w student line → ChoiceFits w student (choice_by line)
+line-fits w student (Met choice) fits = fits
+line-fits w student (Held course) fits = tt
+line-fits w student (Blocked visits tree) fits = tt
+line-fits w student Spent fits = tt
+line-fits w student (Waiting ticket) fits = tt
+line-fits w student Skipped fits = tt
+
+-- its choice may be enrolled
+pub choice-fits : (w : World) (student : StudentId) (rank : ℕ) (l m : Lines) (answer : Option Answer) (choice : Option Choice) → IfSome answer (λ x. MetFits w student x.result) → IsPut student rank answer l m choice → ChoiceFits w student choice
+choice-fits w student rank l m answer choice met put = subst (ChoiceFits w student) (sym put.same) (by_answer answer met)
+  where
+    by_answer : (o : Option Answer) → IfSome o (λ x. MetFits w student x.result) → ChoiceFits w student (choice_in o)
+    by_answer (Some x) fits = line-fits w student x.result fits
+    by_answer None fits = tt
+
+-- the request at a place is told
+pub put-on : (w : World) (student : StudentId) (place rank : ℕ) (l m : Lines) (answer : Option Answer) (choice : Option Choice) (a : Ask) → rank ≡ place + 1 → slice_get (asks_of w student) place ≡ Some a
+    → ((b : Batched) → Tells w l b → answer ≡ answer_to_ask b student (place + 1) a) → IsPut student rank answer l m choice
+    → (b : Batched) (ask : Ask) → slice_get (asks_of w student) place ≡ Some ask → Tells w l b → Tells (taking w student choice) m (batch_asks b student ((place + 1, ask) ∷ []))
+put-on w student place rank l m answer choice a next at answers put b ask here t =
+    subst (λ n. Tells (taking w student choice) m (batch_asks b student ((n, ask) ∷ []))) next
+    (put.told w b ask t (answers b t ∙ (λ i. answer_to_ask b student (sym next i) (one-request (asks_of w student) place a ask at here i))))
 
 -- ---- requests one after the other
 

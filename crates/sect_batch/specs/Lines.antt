@@ -1,6 +1,7 @@
 -- The lines of a batch so far, as they are kept.
-use Rattle.std.specs.Prelude.{◌≡◌, ℕ, ◌+◌, ◌<◌, ◌≤◌, Bool, true, false, not, ◌&&◌, ◌||◌, ◌==◌, List, [], ◌∷◌, length, map, filter, take, slice_get, count_by, Option, Some, None}
+use Rattle.std.specs.Prelude.{◌≡◌, ℕ, Bool, true, not, ◌&&◌, ◌||◌, ◌==◌, List, [], ◌∷◌, map, filter, take, count_by, Option, Some, None}
 use Rattle.std.specs.List.{list_any, enumerate_from}
+use Rattle.sect_base.specs.declared.choice.Choice.{Choice}
 use Rattle.sect_base.specs.declared.ids.CourseId.{CourseId}
 use Rattle.sect_base.specs.declared.ids.StudentId.{StudentId}
 use Rattle.sect_command.specs.declared.reply.Line.{Line}
@@ -11,9 +12,9 @@ use Rattle.sect_people.specs.declared.row.Ask.{Ask}
 use Rattle.sect_people.specs.declared.row.Ask.TheVariants.{Course as asks_course, Free}
 use Rattle.sect_model.specs.declared.change.Change.TheVariants.{Enrol}
 use Rattle.sect_model.specs.declared.held.Enrolment.{Enrolment}
-use Rattle.sect_model.specs.World.{World}
+use Rattle.sect_model.specs.World.{World, enrol}
 use Rattle.sect_model.specs.Fits.{Fits}
-use Rattle.sect_model.specs.Batch.{Answered, Batched, answer_to, asks_of, batch_asks, want_of, is_unmet, is_met}
+use Rattle.sect_model.specs.Batch.{Answered, Batched, answer_to, batch_asks, want_of, is_unmet, is_met}
 use Rattle.sect_model.specs.Premises.{want_fits}
 use Rattle.sect_batch.specs.declared.lines.Answer.{Answer}
 use Rattle.sect_batch.specs.declared.lines.Mark.{Mark}
@@ -80,31 +81,37 @@ abbrev pub answer_to_ask : Batched → StudentId → ℕ → Ask → Option Answ
 answer_to_ask b student rank (asks_course ask) = Some (answer_by (answer_to b student rank ask) ask)
 answer_to_ask b student rank (Free pattern) = None
 
--- a line has a choice, by which the student is to be enrolled
-abbrev pub is_chosen : LineResult → Bool
-is_chosen (Met choice) = true
-is_chosen (Held course) = false
-is_chosen (Blocked visits tree) = false
-is_chosen Spent = false
-is_chosen (Waiting ticket) = false
-is_chosen Skipped = false
+-- the choice of a line that is met
+abbrev pub choice_by : LineResult → Option Choice
+choice_by (Met choice) = Some choice
+choice_by (Held course) = None
+choice_by (Blocked visits tree) = None
+choice_by Spent = None
+choice_by (Waiting ticket) = None
+choice_by Skipped = None
+
+-- the world where the student is enrolled by the choice, where there is one
+abbrev pub taking : World → StudentId → Option Choice → World
+taking w student (Some choice) = enrol w student choice
+taking w student None = w
+
+-- the choice, where there is one, may be enrolled
+abbrev pub ChoiceFits : World → StudentId → Option Choice → Type 0
+ChoiceFits w student (Some choice) = Fits w (Enrol (record { student = student; choice = choice }))
+ChoiceFits w student None = Unit {0}
 
 -- where the lines of the requests before one place are told, so are those before another
 abbrev pub ToldOn : StudentId → List Ask → World → Lines → ℕ → World → Lines → ℕ → Type 0
 ToldOn student asks w l from v m place =
     (b : Batched) → Tells w l (batch_asks b student (take from (enumerate_from 1 asks))) → Tells v m (batch_asks b student (take place (enumerate_from 1 asks)))
 
--- the lines from one place on stop at another, behind a line at least, or before a request that has a choice, which may be enrolled
-abbrev pub StopsAt : World → StudentId → Lines → ℕ → ℕ → Option Answer → Type 0
-StopsAt w student l from place None = from < place
-StopsAt w student l from place (Some answer) =
-    (from ≤ place)
-    × (place < length (asks_of w student))
-    × MetFits w student answer.result
-    × ((b : Batched) (ask : Ask) → slice_get (asks_of w student) place ≡ Some ask → Tells w l b → Some answer ≡ answer_to_ask b student (place + 1) ask)
+-- the choice of an answer's line
+abbrev pub choice_in : Option Answer → Option Choice
+choice_in (Some answer) = choice_by answer.result
+choice_in None = None
 
--- the line of an answer was put behind the others, or it has a choice and is left
-abbrev pub IsPut : StudentId → ℕ → Option Answer → Lines → Lines → Option Answer → Type 0
-IsPut student rank answer l m None =
-    (w : World) (b : Batched) (ask : Ask) → Tells w l b → answer ≡ answer_to_ask b student rank ask → Tells w m (batch_asks b student ((rank, ask) ∷ []))
-IsPut student rank answer l m (Some left) = (answer ≡ Some left) × (m ≡ l)
+-- the line of an answer, where there is one, was put behind the others, and has this choice
+pub record IsPut (student : StudentId) (rank : ℕ) (answer : Option Answer) (l : Lines) (m : Lines) (choice : Option Choice) : Type 0 where
+  pub same : choice ≡ choice_in answer
+  pub told :
+      (w : World) (b : Batched) (ask : Ask) → Tells w l b → answer ≡ answer_to_ask b student rank ask → Tells (taking w student choice) m (batch_asks b student ((rank, ask) ∷ []))

@@ -4,18 +4,16 @@ ghost use Rattle.std.specs.Prelude.{◌≡◌, ◌<◌, ◌≤◌, ◌+◌, [], 
 ghost use Rattle.std.specs.List.{list_all, enumerate_from};
 ghost use Rattle.std.specs.Option.{is_some};
 ghost use Rattle.sect_people.specs.Student.{find_student};
-ghost use Rattle.sect_people.specs.declared.row.CourseAsk.{CourseAsk};
-ghost use Rattle.sect_command.specs.declared.reply.LineResult.{LineResult};
-ghost use Rattle.sect_model.specs.Batch.{Batched, batch_of, batch_students, batch_asks, add_line, world_after, asks_of as requests_of};
+ghost use Rattle.sect_model.specs.Batch.{Batched, batch_of, batch_students, batch_asks, asks_of as requests_of};
 ghost use Rattle.sect_model.specs.World.{enrol as world_with, held_by};
 ghost use Rattle.sect_model.specs.Fits.{Fits};
 ghost use Rattle.sect_space.specs.Undo.{Since, Undoable};
-ghost use Rattle.sect_batch.specs.Lines.{Tells, ToldOn, StopsAt, IsPut, MetFits, answer_by, answer_to_ask, ask_fits};
+ghost use Rattle.sect_batch.specs.Lines.{Tells, ToldOn, IsPut, ChoiceFits, MetFits, answer_to_ask, ask_fits, taking};
 
 use crate::answering::answer_to;
-use crate::lines::{Answer, Lines, has_choice};
+use crate::lines::{Answer, Lines, choice_of};
 use sect_base::{Choice, Items, Memory, Steps, StudentId};
-use sect_command::{Line, LineResult};
+use sect_command::Line;
 use sect_model::{Change, Enrolment};
 use sect_people::Ask;
 use sect_space::{Undo, World};
@@ -23,11 +21,11 @@ use std::alloc::Global;
 use std::marker::Brand;
 use std::sync::ledger::{Blank, Ledger};
 
-/// Where the lines of a student's requests stop: how far they go, and the answer of the next request where that has a choice.
+/// Where the lines of a student's requests stop: how far they go, and the choice of the last one, where it has one.
 #[derive(Drop)]
 struct Stop {
     place: usize,
-    chosen: Option<Answer>,
+    choice: Option<Choice>,
 }
 
 /// A line for each course request of the students, in their order and by position; free times make none. What is met is
@@ -177,19 +175,18 @@ fn some_lines<L: Ledger>(
     ensures since { Since world.old.world undo.old.backs world.new.world undo.new.backs }
     ensures undoable { Undoable world.new undo.new.backs }
 {
-    world.recall_kept();
     let stop = lines_to_choice(alloc, world, student, from, lines, steps)?;
-    let Stop { place, chosen } = stop;
-    match chosen {
-        Some(answer) => {
-            add(world, student, rank(place), answer, lines, undo)?;
-            Ok(place + 1)
+    let Stop { place, choice } = stop;
+    match choice {
+        Some(choice) => {
+            enrol(world, student, choice, undo)?;
+            Ok(place)
         }
         None => Ok(place),
     }
 }
 
-/// The lines of the student's requests from a place on, before the first that takes a place in a course.
+/// The lines of the student's requests from a place on, up to the first with a choice, by which the student is yet to be enrolled.
 fn lines_to_choice<L: Ledger>(
     alloc: Global,
     world: &World,
@@ -200,8 +197,10 @@ fn lines_to_choice<L: Ledger>(
 ) -> Result<Stop, Memory>
     requires known { IsTrue (is_some (find_student world.now.world.students student)) }
     requires from { from < length (requests_of world.now.world student) }
-    ensures told { IfOk result (λ stop. ToldOn student (requests_of world.now.world student) world.now.world lines.old from world.now.world lines.new stop.place) }
-    ensures stop { IfOk result (λ stop. StopsAt world.now.world student lines.new from stop.place stop.chosen) }
+    ensures on { IfOk result (λ stop. from < stop.place) }
+    ensures told { IfOk result (λ stop. ToldOn student (requests_of world.now.world student) world.now.world lines.old from
+        (taking world.now.world student stop.choice) lines.new stop.place) }
+    ensures fits { IfOk result (λ stop. ChoiceFits world.now.world student stop.choice) }
 {
     world.recall_kept();
     let asks = world.asks(student);
@@ -217,36 +216,33 @@ fn lines_to_choice<L: Ledger>(
             lines,
             steps,
         )?;
-        if let Some(answer) = put(student, rank(place), answer, lines)? {
+        if let Some(choice) = put(student, rank(place), answer, lines)? {
             return Ok(Stop {
-                place,
-                chosen: Some(answer),
+                place: place + 1,
+                choice: Some(choice),
             });
         }
     }
     Ok(Stop {
         place: asks.len(),
-        chosen: None,
+        choice: None,
     })
 }
 
-/// Puts the line of an answer behind the others. One that has a choice comes back instead, and so nothing changes.
+/// Puts the line of an answer behind the others. The line's choice, where it has one.
 fn put(
     student: StudentId,
     rank: u8,
     answer: Option<Answer>,
     lines: &mut Lines,
-) -> Result<Option<Answer>, Memory>
-    ensures { IfOk result (λ left. IsPut student rank answer lines.old lines.new left) }
+) -> Result<Option<Choice>, Memory>
+    ensures { IfOk result (λ choice. IsPut student rank answer lines.old lines.new choice) }
 {
     match answer {
         Some(answer) => {
-            if has_choice(&answer.result) {
-                Ok(Some(answer))
-            } else {
-                lines.push(student, rank, answer)?;
-                Ok(None)
-            }
+            let choice = choice_of(&answer.result);
+            lines.push(student, rank, answer)?;
+            Ok(choice)
         }
         None => Ok(None),
     }
@@ -285,51 +281,6 @@ fn rank(place: usize) -> u8
     ensures { result ≡ place + 1 }
 {
     place as u8 + 1
-}
-
-/// Puts the line of an answer behind the others, and enrols the student where it is met.
-fn add(
-    world: &mut World,
-    student: StudentId,
-    rank: u8,
-    answer: Answer,
-    lines: &mut Lines,
-    undo: &mut Undo,
-) -> Result<(), Memory>
-    requires met { MetFits world.old.world student answer.result }
-    requires undoable { Undoable world.old undo.old.backs }
-    ensures told { OnOk result ((b : Batched) (ask : CourseAsk) (line : LineResult) → Tells world.old.world lines.old b
-        → answer ≡ answer_by line ask → Tells world.new.world lines.new (add_line b student rank ask line)) }
-    ensures students { world.new.world.students ≡ world.old.world.students }
-    ensures since { Since world.old.world undo.old.backs world.new.world undo.new.backs }
-    ensures undoable { Undoable world.new undo.new.backs }
-{
-    enrol_met(world, student, &answer.result, undo)?;
-    lines.push(student, rank, answer)
-}
-
-/// Enrols the student by the choice of a line that is met.
-fn enrol_met(
-    world: &mut World,
-    student: StudentId,
-    line: &LineResult,
-    undo: &mut Undo,
-) -> Result<(), Memory>
-    requires met { MetFits world.old.world student line.now }
-    requires undoable { Undoable world.old undo.old.backs }
-    ensures ok { OnOk result (world.new.world ≡ world_after world.old.world student line.now) }
-    ensures students { world.new.world.students ≡ world.old.world.students }
-    ensures since { Since world.old.world undo.old.backs world.new.world undo.new.backs }
-    ensures undoable { Undoable world.new undo.new.backs }
-{
-    match line {
-        LineResult::Met(choice) => enrol(world, student, *choice, undo),
-        LineResult::Held(_) => Ok(()),
-        LineResult::Blocked(_, _) => Ok(()),
-        LineResult::Spent => Ok(()),
-        LineResult::Waiting(_) => Ok(()),
-        LineResult::Skipped => Ok(()),
-    }
 }
 
 /// Enrols the student by the choice.

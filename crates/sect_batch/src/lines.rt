@@ -2,9 +2,9 @@
 
 ghost use Rattle.std.specs.Prelude.{◌≡◌, ◌&&◌, ◌==◌, ◌++◌, [], ◌∷◌, nat_le, filter, count_by, IfOk, OnOk};
 ghost use Rattle.sect_model.specs.Batch.{is_unmet as is_line_unmet, is_met as is_line_met};
-ghost use Rattle.sect_batch.specs.Lines.{is_chosen, is_counted, line_by, mark_by, unmet_of, met_of};
+ghost use Rattle.sect_batch.specs.Lines.{choice_by, is_counted, line_by, mark_by, unmet_of, met_of};
 
-use sect_base::{Items, Memory, StudentId};
+use sect_base::{Choice, Items, Memory, StudentId};
 use sect_command::{Line, LineResult};
 use std::alloc::Global;
 
@@ -151,16 +151,16 @@ fn is_met(line: &LineResult) -> bool
     }
 }
 
-/// Whether the line has a choice, by which the student is to be enrolled. It takes no memory.
-pub fn has_choice(line: &LineResult) -> bool
-    ensures { result ≡ is_chosen line.now }
+/// The choice of a line that is met, by which its student is to be enrolled. None of another line. It takes no memory.
+pub fn choice_of(line: &LineResult) -> Option<Choice>
+    ensures { result ≡ choice_by line.now }
 {
     match line {
-        LineResult::Met(_) => true,
-        LineResult::Held(_) => false,
-        LineResult::Blocked(_, _) => false,
-        LineResult::Spent => false,
-        LineResult::Waiting(_) => false,
-        LineResult::Skipped => false,
+        LineResult::Met(choice) => Some(*choice),
+        LineResult::Held(_) => None,
+        LineResult::Blocked(_, _) => None,
+        LineResult::Spent => None,
+        LineResult::Waiting(_) => None,
+        LineResult::Skipped => None,
     }
 }
