@@ -7,6 +7,7 @@ use Rattle.std.proofs.Math.Seq.{take-length}
 use Rattle.std.proofs.lemmas.Bool.Decides.{nat_tests}
 use Rattle.std.proofs.lemmas.List.{append-nil}
 use Rattle.sect_people.specs.declared.row.Ask.TheVariants.{Course as asks_course, Free}
+use Rattle.sect_people.specs.Student.{is_free}
 use Rattle.sect_reserve.specs.Audience.{empty_or_any}
 use Rattle.sect_base.specs.Pattern.{Pattern, lists_overlap}
 use Rattle.std.specs.Option.{option_map, option_map_or}
@@ -214,3 +215,16 @@ and-true false b h = cc
 pub and-false : (a b : Bool) → a ≡ false → a ≡ a && b
 and-false false b h = refl
 and-false true b h = cc
+
+-- where no time is to be kept free, none is met
+pub none-free : (meetings : List Pattern) (rank n : ℕ) (asks : List Ask) → list_any is_free asks ≡ false → first_free meetings rank n asks ≡ None
+none-free meetings rank n [] h = refl
+none-free meetings rank n (asks_course ask ∷ asks) h = by_test (nat_lt n rank) ∙ none-free meetings rank (n + 1) asks h
+  where
+    by_test : (b : Bool) → cond (b && false) (Some n) (first_free meetings rank (n + 1) asks) ≡ first_free meetings rank (n + 1) asks
+    by_test true = refl
+    by_test false = refl
+none-free meetings rank n (Free pattern ∷ asks) h = absurd (differ h)
+  where
+    differ : true ≡ false → ⊥
+    differ h = cc

@@ -25,7 +25,7 @@ use crate::moment::Moment;
 use crate::reserved::limited;
 use sect_base::{ConfigId, CourseId, Level, Meeting, Rule, SectionId, Sections, overlaps};
 use sect_catalog::{OfferingRow, SectionRow};
-use sect_people::Ask;
+use sect_people::{Ask, Student};
 use sect_reserve::{Reservation, admits_section};
 
 /// Whether the meetings overlap the time that the request keeps free.
@@ -61,6 +61,18 @@ fn first_free(meetings: &[Meeting], rank: u32, first: u32, asks: &[Ask]) -> Opti
         number += 1;
     }
     None
+}
+
+/// The position of the student's first free time before the rank that the meetings overlap. Where no time is to be kept free,
+/// no request is looked at.
+fn free_before(meetings: &[Meeting], rank: u32, person: &Student) -> Option<u32>
+    ensures { result ≡ first_free_time meetings.now rank 1 person.now.asks }
+{
+    if person.keeps_free() {
+        first_free(meetings, rank, 1, person.asks())
+    } else {
+        None
+    }
 }
 
 /// Whether the list is empty, or has the section.
@@ -148,8 +160,7 @@ impl Moment<'_> {
         requires { meetings.now ≡ meetings_of self.now.at section }
         ensures { result ≡ least (map (λ f. f.0) (filter (λ f. meets_at self.now.at section f.1) (free_times self.now.at self.now.student rank))) }
     {
-        let asks = self.person().asks();
-        first_free(meetings, u32::from(rank), 1, asks)
+        free_before(meetings, u32::from(rank), self.person())
     }
 
     /// Whether the section of this row has a parent that isn't among those chosen.

@@ -13,9 +13,9 @@ use Rattle.sect_rules.proofs.moment.Moment.least_free.Goals as goal
 pub returns : goal.returns
 returns c =
     let v = c.args.self.now.at in
-    let asks = c.asks.result.now in
-    let e = ap Some c.asks.ensures ∙ ap (option_map (λ s. s.asks)) c.person.ensures in
-    c.first_free.ensures
+    let asks = c.person.result.now.asks in
+    let e = ap (option_map (λ s. s.asks)) c.person.ensures in
+    c.free_before.ensures
     ∙ (λ i. first_free (c.requires i) (c.from.ensures i) 1 asks)
     ∙ sym (least-free (meetings_of v c.args.section) c.args.rank 1 asks)
     ∙ (λ i. least (map (λ f. f.0) (filter (λ f. lists_overlap (meetings_of v c.args.section) (f.1 ∷ [])) (asks-free c.args.rank (find_student v.students c.args.self.now.student) asks e i))))
