@@ -7,12 +7,10 @@ ghost use Rattle.sect_words.specs.Words.{
   curriculum_text,
   curriculum_front,
   first_major_text,
-  major_text,
   audience_text,
   choice_text,
   choice_front,
   first_section_text,
-  section_text,
   reservation_text,
   optional_text,
 };
@@ -72,12 +70,12 @@ fn put_curriculum_front(curriculum: &Curriculum, bytes: &mut [u8; 64]) -> usize
     put_number(curriculum.area.0, bytes, start)
 }
 
-/// Appends the majors behind the first. After `Memory` a part of them may stand at the end.
-fn print_later_majors(majors: &[MajorId], into: &mut Vec<u8>) -> Result<(), Memory>
-    ensures text { OnOk result (into.new.items ≡ into.old.items ++ behind 43 (map major_text (drop 1 majors.now))) }
+/// Appends the elements behind the first, each behind `+`. After `Memory` a part of them may stand at the end.
+fn print_later<T: Spelled>(items: &[T], into: &mut Vec<u8>) -> Result<(), Memory>
+    ensures text { OnOk result (into.new.items ≡ into.old.items ++ behind 43 (map T.spelling (drop 1 items.now))) }
     ensures front { take (length into.old.items) into.new.items ≡ into.old.items }
 {
-    match majors {
+    match items {
         [] => Ok(()),
         [_, rest @ ..] => print_behind(b'+', rest, into),
     }
@@ -91,7 +89,7 @@ impl Spelled for Curriculum {
         let mut bytes = [0; 64];
         let start = put_curriculum_front(self, &mut bytes);
         print_bytes(&bytes[start..], into)?;
-        print_later_majors(self.majors.as_slice(), into)
+        print_later(self.majors.as_slice(), into)
     }
 
     #[inline(always)]
@@ -100,7 +98,7 @@ impl Spelled for Curriculum {
         let start = put_curriculum_front(self, &mut bytes);
         let start = put(mark, &mut bytes, start);
         print_behind_name(name, &mut bytes, start, into)?;
-        print_later_majors(self.majors.as_slice(), into)
+        print_later(self.majors.as_slice(), into)
     }
 }
 
@@ -190,17 +188,6 @@ fn put_choice_front(choice: &Choice, bytes: &mut [u8; 64]) -> usize
     let start = put_marked(b'/', choice.config.0, bytes, start);
     let start = put_reservation(b'/', choice.reservation, bytes, start);
     put_number(choice.course.0, bytes, start)
-}
-
-/// Appends the sections behind the first. After `Memory` a part of them may stand at the end.
-fn print_later(sections: &[SectionId], into: &mut Vec<u8>) -> Result<(), Memory>
-    ensures text { OnOk result (into.new.items ≡ into.old.items ++ behind 43 (map section_text (drop 1 sections.now))) }
-    ensures front { take (length into.old.items) into.new.items ≡ into.old.items }
-{
-    match sections {
-        [] => Ok(()),
-        [_, rest @ ..] => print_behind(b'+', rest, into),
-    }
 }
 
 /// All up to the first section is appended in one piece.
