@@ -2,8 +2,7 @@
 // decision that breaks a rule nothing is looked at. The tree is made on the way back: the trees of
 // the options refuted so far lie on one stack, and a node that is refuted takes its own off it.
 
-ghost use Rattle.std.specs.Prelude.{◌≡◌, ◌-◌, ◌≤◌, ◌<◌, ◌++◌, ◌∷◌, [], length, Contains, IfOk, OnOk};
-ghost use Rattle.std.proofs.Common.{take, drop};
+ghost use Rattle.std.specs.Prelude.{◌≡◌, ◌-◌, ◌≤◌, ◌<◌, ◌++◌, ◌∷◌, [], length, take, drop, Contains, IfOk, OnOk};
 ghost use Rattle.sect_model.specs.Path.{options_at};
 ghost use Rattle.sect_model.specs.Stands.{MoveStands};
 ghost use Rattle.sect_rules.specs.Completed.{opened};
