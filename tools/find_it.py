@@ -267,7 +267,7 @@ GROUPS = [
          'sect_read/src/refusal.rt: read_refusal'], 'test_units/src/tests/texts.rt: rows_come_back'),
         ('An answer line', 'Answers', ['sect_asking/specs/AnswerLines.antt: answer_line'], ['sect_asking/src/asker.rt: print_line',
          'sect_asking/src/answer.rt: print_answer'], RUNS + '# a swap is made'),
-        ('A row of the history', 'A term that lasts', ['sect_text/specs/Rows.antt: row_text'], ['sect_text/src/told_row.rt: print_request',
+        ('A row of the history', 'A term that lasts', ['sect_text/specs/Rows.antt: row_text'], ['sect_text/src/row_text.rt: print_row',
          'sect_read/src/row.rt: read_row'], 'test_units/src/tests/texts.rt: rows_come_back'),
         ('A repeat, a number that is reused', 'A term in lines', ['sect_once/specs/History.antt: ActsOnce',
          'sect_once/specs/Desks.antt: Answers'], ['sect_once/src/ask.rt: ask'],

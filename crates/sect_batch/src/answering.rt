@@ -21,7 +21,7 @@ use sect_command::LineResult;
 use sect_model::{Enrolment, Outcome};
 use sect_people::CourseAsk;
 use sect_search::{LentMove, LentWant, search_lent, usual_budget};
-use sect_space::World;
+use sect_space::{World, has_course};
 use std::alloc::Global;
 use std::sync::ledger::Ledger;
 
@@ -97,15 +97,6 @@ fn held_course(enrolments: &[Enrolment], courses: &[CourseId]) -> Option<CourseI
         }
     }
     None
-}
-
-/// Whether one of the enrolments is in the course.
-fn has_course(enrolments: &[Enrolment], course: CourseId) -> bool
-    ensures { result ≡ is_in_course enrolments.now course }
-{
-    enrolments
-        .iter()
-        .any(|enrolment| enrolment.choice.course == course)
 }
 
 /// What the search for one of the request's courses gives.

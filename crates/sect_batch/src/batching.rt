@@ -122,7 +122,8 @@ fn all_lines<L: Ledger>(
     Ok(lines.into_items())
 }
 
-/// How many lines the students have at most: as many as requests, of which a free time makes none.
+/// How many lines the students have at most: as many as requests, of which a free time makes none. It is only room: nothing rests
+/// on it.
 fn most_lines(world: &World, students: &[StudentId]) -> usize {
     let mut most: usize = 0;
     for student in students {
@@ -216,7 +217,7 @@ fn lines_to_choice<L: Ledger>(
             lines,
             steps,
         )?;
-        if let Some(choice) = put(student, rank(place), answer, lines)? {
+        if let Some(choice) = put_line(student, rank(place), answer, lines)? {
             return Ok(Stop {
                 place: place + 1,
                 choice: Some(choice),
@@ -230,7 +231,7 @@ fn lines_to_choice<L: Ledger>(
 }
 
 /// Puts the line of an answer behind the others. The line's choice, where it has one.
-fn put(
+fn put_line(
     student: StudentId,
     rank: u8,
     answer: Option<Answer>,

@@ -34,7 +34,7 @@ pub struct Lines {
 }
 
 impl Lines {
-    /// No lines, with room for `n`.
+    /// No lines, with room for `n`. It takes memory.
     pub fn with_room(alloc: Global, n: usize) -> Result<Lines, Memory>
         ensures lines { IfOk result (λ made. made.lines.items ≡ []) }
         ensures marks { IfOk result (λ made. made.marks.items ≡ []) }

@@ -1,4 +1,5 @@
-// How a request acts: it steps, prints its row, takes it behind the others and appends it to the keeper's.
+// How a request acts: it is printed, it steps, its reply is printed behind it, and the row is taken behind the others and appended
+// to the keeper's.
 ghost use Rattle.std.specs.Prelude.{◌≡◌, ℕ, ◌+◌, ◌<◌, ◌≤◌, ◌^◌, ◌++◌, ◌==◌, nat_eq, [], ◌∷◌, List, cond, length, None, Some, IfOk, OnOk, OnErr, IfErr};
 ghost use Rattle.std.specs.HashMap.{get};
 ghost use Rattle.sect_base.specs.declared.limit.Id.{Id};
@@ -6,7 +7,7 @@ ghost use Rattle.sect_edge.specs.declared.edge.KeepFault.{KeepFault};
 ghost use Rattle.sect_edge.specs.Causes.{HasCauseFor};
 ghost use Rattle.sect_edge.specs.Keeper.{AddsRow, KeepsRows};
 ghost use Rattle.sect_once.specs.Desks.{Adds};
-ghost use Rattle.sect_once.specs.History.{HasRow, IsNew, key_of};
+ghost use Rattle.sect_once.specs.History.{IsNew, key_of};
 ghost use Rattle.sect_once.specs.Told.{TellsFrom};
 
 use crate::object::Object;

@@ -6,9 +6,8 @@ ghost use Rattle.sect_command.specs.declared.reply.Reply.{Reply};
 ghost use Rattle.sect_once.specs.declared.entry.Entry.{Entry};
 ghost use Rattle.sect_read.specs.Laws.{IsRow};
 ghost use Rattle.sect_words.specs.Parts.{pieces};
-ghost use Rattle.sect_words.specs.Reading.{Reads, Means, whole, Finds};
-ghost use Rattle.sect_read.specs.ReadingLines.{id_at, row_at, row_of, agrees, entry_if};
-ghost use Rattle.sect_text.specs.Rows.{is_marked as has_mark};
+ghost use Rattle.sect_words.specs.Reading.{Reads, whole, Finds};
+ghost use Rattle.sect_read.specs.ReadingLines.{id_at, row_at, row_of, agrees};
 
 use crate::commands::read_command_words;
 use crate::reply::read_reply_words;

@@ -197,14 +197,14 @@ fn with_choice(alloc: Global, done: &[Choice], choice: Choice) -> Result<Items<C
     ensures { IfOk result (λ choices. choices ≡ done.now ++ choice ∷ []) }
 {
     let mut choices = Vec::with_capacity(alloc, done.len() + 1)?;
-    put_all(&mut choices, done)?;
+    push_all(&mut choices, done)?;
     choices.push(choice)?;
     Ok(Items::from_vec(choices))
 }
 
 /// Puts the choices behind the others. Mostly there are none.
 #[inline(always)]
-fn put_all(choices: &mut Vec<Choice>, done: &[Choice]) -> Result<(), Memory>
+fn push_all(choices: &mut Vec<Choice>, done: &[Choice]) -> Result<(), Memory>
     ensures { OnOk result (choices.new.items ≡ choices.old.items ++ done.now) }
 {
     if done.is_empty() {

@@ -17,8 +17,8 @@ impl World {
     }
 }
 
-/// Whether one of the enrolments is in the course.
-fn has_course(enrolments: &[Enrolment], course: CourseId) -> bool
+/// Whether one of the enrolments is in the course. It takes no memory.
+pub fn has_course(enrolments: &[Enrolment], course: CourseId) -> bool
     ensures { result ≡ list_any (λ e. e.choice.course.0 == course.0) enrolments.now }
 {
     enrolments

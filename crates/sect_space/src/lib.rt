@@ -21,6 +21,7 @@ mod undo;
 mod world;
 
 pub use back::{Back, Mark};
+pub use holds::has_course;
 pub use sect_model::{Change, Enrolment};
 pub use space::names;
 pub use undo::Undo;

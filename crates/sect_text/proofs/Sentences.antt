@@ -12,7 +12,7 @@ use Rattle.sect_words.specs.Words.{caller_text}
 use Rattle.sect_text.specs.Commands.{command_words, command_text}
 use Rattle.sect_text.specs.Replies.{reply_words, reply_text}
 use Rattle.sect_once.specs.declared.entry.Entry.{Entry}
-use Rattle.sect_text.specs.Rows.{behind_mark, row_front, id_words, request_text, row_rest, row_text, is_marked}
+use Rattle.sect_text.specs.Rows.{behind_mark, row_front, id_words, request_part, row_rest, row_text, is_marked}
 
 -- a space and a command are its words behind spaces
 pub spaced_command : (c : Command) → 32 ∷ command_text c ≡ behind 32 (command_words c)
@@ -81,7 +81,7 @@ whole_row e marked old front mid new mark begun named told =
     ∙ ap (λ bytes. old ++ bytes) (sym row ∙ ap (λ b. sentence (row_front b e.day ++ row_rest e)) mark)
 
 -- the text of a request in a row, and the reply behind it, are the row
-pub parts_row : (e : Entry Command Reply) → request_text e.id e.day e.command ++ reply_text e.reply ≡ row_text e
+pub parts_row : (e : Entry Command Reply) → request_part e.id e.day e.command ++ reply_text e.reply ≡ row_text e
 parts_row e =
     let front = sentence (row_front (is_marked e.command) e.day ++ id_words e.id) ++ (32 ∷ []) in
     append_assoc front (command_text e.command ++ (32 ∷ 61 ∷ 32 ∷ [])) (reply_text e.reply)

@@ -33,8 +33,8 @@ abbrev pub id_words : Id → List (List ℕ)
 id_words id = caller_text id.caller ∷ decimal id.number ∷ []
 
 -- a request in a row: the mark, the day, the id, the command and `=`, each behind the one before it, and a space
-abbrev pub request_text : Id → ℕ → Command → List ℕ
-request_text id day command = (sentence (row_front (is_marked command) day ++ id_words id) ++ 32 ∷ []) ++ (command_text command ++ 32 ∷ 61 ∷ 32 ∷ [])
+abbrev pub request_part : Id → ℕ → Command → List ℕ
+request_part id day command = (sentence (row_front (is_marked command) day ++ id_words id) ++ 32 ∷ []) ++ (command_text command ++ 32 ∷ 61 ∷ 32 ∷ [])
 
 -- the id, the command, `=` and the reply
 abbrev pub row_rest : Entry Command Reply → List (List ℕ)

@@ -23,7 +23,7 @@ pub fn is_marked(command: &Command) -> bool
 }
 
 /// Writes `2` and a space before a place, where a row is marked, and returns where they start.
-fn put_mark(marked: bool, bytes: &mut [u8], end: usize) -> usize
+fn put_row_mark(marked: bool, bytes: &mut [u8], end: usize) -> usize
     requires { (2 ≤ end) × (end ≤ length bytes.old) }
     ensures start { (end ≤ result + 2) × (result ≤ end) }
     ensures written { drop result bytes.new ≡ behind_mark marked (drop end bytes.old) }
@@ -48,7 +48,7 @@ fn put_front(marked: bool, day: Day, id: Id, bytes: &mut [u8; 48]) -> usize
     let start = put_caller(id.caller, bytes, start);
     let start = put(b' ', bytes, start);
     let start = put_day(day, bytes, start);
-    put_mark(marked, bytes, start)
+    put_row_mark(marked, bytes, start)
 }
 
 /// Appends the front of a row, its id and a space, all in one piece. After `Memory` a part of it may stand at the end.

@@ -3,7 +3,7 @@
 ghost use Rattle.std.specs.Prelude.{◌≡◌, ◌++◌, IfOk, OnOk, length, take};
 ghost use Rattle.sect_once.specs.Told.{TellsFrom};
 ghost use Rattle.sect_text.specs.Replies.{reply_text};
-ghost use Rattle.sect_text.specs.Rows.{request_text};
+ghost use Rattle.sect_text.specs.Rows.{request_part};
 ghost use Rattle.sect_text.specs.ToldRows.{IsReplyText};
 
 use crate::command_text::print_verb;
@@ -15,7 +15,7 @@ use sect_command::{Command, Reply};
 /// Appends a request as it stands in a row, in front of the text of its reply: the mark, the day, the id, the command and `=`. It
 /// takes memory. After `Memory` a part of it may stand at the end.
 pub fn print_request(id: Id, day: Day, command: &Command, into: &mut Vec<u8>) -> Result<(), Memory>
-    ensures text { OnOk result (into.new.items ≡ into.old.items ++ request_text id day command.now) }
+    ensures text { OnOk result (into.new.items ≡ into.old.items ++ request_part id day command.now) }
     ensures front { take (length into.old.items) into.new.items ≡ into.old.items }
 {
     print_front(is_marked(command), day, id, into)?;

@@ -29,14 +29,14 @@ returns-in-Some-clause-told g c =
     let asks = asks_of w c.args.student in
     let place = c.loop-place.place in
     let at = found-at asks c.asks-asks.result.now place c.index-asks-place.result c.asks-asks.ensures c.loop-place-test.true c.index-asks-place.is in
-    told-on c.args.student asks w c.args.lines.now c.args.from place w c.loop-place.lines (taking w c.args.student (Some c.in-Some.choice)) c.put.new.lines at.0 c.loop-place.invariant.2
-    (put-on w c.args.student place c.rank.result c.loop-place.lines c.put.new.lines c.in_ok-answer.answer (Some c.in-Some.choice) c.index-asks-place.result
-    c.rank.ensures at.1 c.in_ok-answer.ensures.answer (subst (IsPut c.args.student c.rank.result c.in_ok-answer.answer c.loop-place.lines c.put.new.lines) c.in-Some.is c.in_ok-choice.ensures))
+    told-on c.args.student asks w c.args.lines.now c.args.from place w c.loop-place.lines (taking w c.args.student (Some c.in-Some.choice)) c.put_line.new.lines at.0 c.loop-place.invariant.2
+    (put-on w c.args.student place c.rank.result c.loop-place.lines c.put_line.new.lines c.in_ok-answer.answer (Some c.in-Some.choice) c.index-asks-place.result
+    c.rank.ensures at.1 c.in_ok-answer.ensures.answer (subst (IsPut c.args.student c.rank.result c.in_ok-answer.answer c.loop-place.lines c.put_line.new.lines) c.in-Some.is c.in_ok-choice.ensures))
 
 pub returns-in-Some-clause-fits : goal.returns-in-Some-clause-fits
 returns-in-Some-clause-fits g c =
-    choice-fits c.args.world.now.world c.args.student c.rank.result c.loop-place.lines c.put.new.lines c.in_ok-answer.answer (Some c.in-Some.choice) c.in_ok-answer.ensures.met
-    (subst (IsPut c.args.student c.rank.result c.in_ok-answer.answer c.loop-place.lines c.put.new.lines) c.in-Some.is c.in_ok-choice.ensures)
+    choice-fits c.args.world.now.world c.args.student c.rank.result c.loop-place.lines c.put_line.new.lines c.in_ok-answer.answer (Some c.in-Some.choice) c.in_ok-answer.ensures.met
+    (subst (IsPut c.args.student c.rank.result c.in_ok-answer.answer c.loop-place.lines c.put_line.new.lines) c.in-Some.is c.in_ok-choice.ensures)
 
 pub loop-place-preserved : goal.loop-place-preserved
 loop-place-preserved g c =
@@ -46,7 +46,7 @@ loop-place-preserved g c =
     let at = found-at asks c.asks-asks.result.now place c.index-asks-place.result c.asks-asks.ensures c.loop-place-test.true c.index-asks-place.is in (
       omega (arith, c.loop-place.invariant.0),
       omega (arith, at.0),
-      told-on c.args.student asks w c.args.lines.now c.args.from place w c.loop-place.lines w c.put.new.lines at.0 c.loop-place.invariant.2
-          (put-on w c.args.student place c.rank.result c.loop-place.lines c.put.new.lines c.in_ok-answer.answer None c.index-asks-place.result
-          c.rank.ensures at.1 c.in_ok-answer.ensures.answer (subst (IsPut c.args.student c.rank.result c.in_ok-answer.answer c.loop-place.lines c.put.new.lines) c.in_default.is c.in_ok-choice.ensures)),
+      told-on c.args.student asks w c.args.lines.now c.args.from place w c.loop-place.lines w c.put_line.new.lines at.0 c.loop-place.invariant.2
+          (put-on w c.args.student place c.rank.result c.loop-place.lines c.put_line.new.lines c.in_ok-answer.answer None c.index-asks-place.result
+          c.rank.ensures at.1 c.in_ok-answer.ensures.answer (subst (IsPut c.args.student c.rank.result c.in_ok-answer.answer c.loop-place.lines c.put_line.new.lines) c.in_default.is c.in_ok-choice.ensures)),
     )

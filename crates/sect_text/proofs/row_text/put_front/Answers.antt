@@ -7,5 +7,5 @@ use Rattle.sect_text.proofs.row_text.put_front.Goals as goal
 pub returns-clause-written : goal.returns-clause-written
 returns-clause-written c =
     let none : drop 48 c.args.bytes.now ≡ [] = drop_all 48 c.args.bytes.now (omega (arith, c.told-bytes)) in
-    rw (c.put_mark.ensures.written, c.put_day-start.ensures.written, c.put-start-3.ensures.written, c.put_caller-start.ensures.written, c.put-start-2.ensures.written, c.put_long-start.ensures.written, c.put-start.ensures.written, none)
+    rw (c.put_row_mark.ensures.written, c.put_day-start.ensures.written, c.put-start-3.ensures.written, c.put_caller-start.ensures.written, c.put-start-2.ensures.written, c.put_long-start.ensures.written, c.put-start.ensures.written, none)
     (front_bytes c.args.marked c.args.day c.args.id)

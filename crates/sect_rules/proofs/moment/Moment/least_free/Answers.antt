@@ -1,5 +1,5 @@
 -- the first free time has the least position
-use Rattle.std.proofs.Common.{ap, Some, sym, ◌∙◌, ◌∷◌, []}
+use Rattle.std.proofs.Common.{ap, sym, ◌∙◌, ◌∷◌, []}
 use Rattle.std.specs.Prelude.{map, filter}
 use Rattle.std.specs.Option.{option_map}
 use Rattle.sect_people.specs.Student.{find_student}

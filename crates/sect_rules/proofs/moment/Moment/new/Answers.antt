@@ -9,4 +9,4 @@ pub returns : goal.returns
 returns c =
     let w = c.args.world.now.world in
     let mv = c.args.mv.now in
-    λ i. record { at = ((λ j. moved w (c.student.ensures j) (c.give.ensures j) c.args.done.now) ∙ sym (world-moved w mv (opened c.args.done.now))) i; student = c.student.ensures i }
+    λ i. record { at = ((λ j. moved w (c.student-student.ensures j) (c.give.ensures j) c.args.done.now) ∙ sym (world-moved w mv (opened c.args.done.now))) i; student = c.student-student.ensures i }
