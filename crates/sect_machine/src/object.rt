@@ -15,10 +15,10 @@ use crate::state::State;
 use crate::undo::MachineUndo;
 use sect_base::{Caller, Day, Id, Memory, Same};
 use sect_command::{Command, Query, Reply, View};
-use sect_once::{Entry, Object};
+use sect_once::{Entry, Object, Request};
 use sect_space::World;
 use sect_wait::{Marks, Queue};
-use sect_wire::{TextObject, print_request, print_told_reply, read_row};
+use sect_wire::{TextObject, print_request, print_told_reply, read_request, read_row};
 use std::alloc::Global;
 
 impl TextObject for Machine {
@@ -111,6 +111,13 @@ impl Object for Machine {
 
     fn read_entry(alloc: Global, row: &[u8]) -> Result<Option<Entry<Command, Reply>>, Memory> {
         read_row(alloc, row)
+    }
+
+    fn read_request(
+        alloc: Global,
+        row: &[u8],
+    ) -> Result<Option<(Request<Command>, usize)>, Memory> {
+        read_request(alloc, row)
     }
 
     ghost use Rattle.sect_read.proofs.TextLaws.{one_row as row_is_one, one_entry as entry_is_one, row_again};

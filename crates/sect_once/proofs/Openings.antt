@@ -5,13 +5,14 @@ use Rattle.std.specs.Option.{is_some}
 use Rattle.std.specs.Prelude.{IfSome}
 use Rattle.std.proofs.Math.Nat.{lt_of_not-le}
 use Rattle.sect_base.specs.declared.limit.Caller.{Caller}
+use Rattle.sect_base.specs.declared.limit.Id.{Id}
 use Rattle.sect_edge.specs.Keeper.{CountsRows, FindsRow, KeepsRows}
 use Rattle.sect_once.specs.declared.entry.Entry.{Entry}
 use Rattle.sect_once.specs.History.{acted_log, history, log_of, state_after, ActsOnce, AreHeavy, IsFull, IsNew, IsReplay, NeverFull, TellsRows}
 use Rattle.sect_once.specs.Desks.{IsSound, Standing, Trail}
 use Rattle.sect_once.specs.declared.answer.OpenFault.{OpenFault}
 use Rattle.sect_once.specs.declared.answer.OpenFault.TheVariants as shut
-use Rattle.sect_once.specs.Opening.{Follows, HasActed, IsBad, IsBadNext, IsCause, IsFirstBad, IsOpened, IsRowCause, Resumes, Takes, TakesNext}
+use Rattle.sect_once.specs.Opening.{Follows, HasActed, IsBad, IsBadNext, IsCause, IsFirstBad, IsOpened, IsRowCause, Repeats, Resumes, Takes, TakesAtOnce, TakesNext}
 use Rattle.sect_once.proofs.Logs.{get-snoc, IsReplay-append}
 use Rattle.std.proofs.lemmas.List.{take_all}
 use Rattle.sect_once.specs.declared.entry.Note.{Note}
@@ -81,6 +82,20 @@ module _ {O C R : Type 0} (start : O) (stepped : O → ℕ → Caller → C → 
       → (b : Bool) → Resumes start stepped is_row old new e b → Takes start stepped is_row old new row b
   takes_from old new row e room written is_new true h = (e, record { roomy = room; written = written; is_new = is_new; replied = h.0 }, h.1)
   takes_from old new row e room written is_new false h = (inr (inr (e, written, inr h.0)), h.1)
+
+  -- a request that is taken again is an entry that follows
+  repeats_takes : (old new : Trail O C R) (id : Id) (day : ℕ) (command : C) (row : List ℕ) → (IsFull is_row (acted_log old.entries) → ⊥) → IsNew id old.entries
+      → Repeats start stepped is_row old new id day command row true → Takes start stepped is_row old new row true
+  repeats_takes old new id day command row room is_new h = (
+    h.0,
+    record { roomy = room; written = h.2; is_new = subst (λ (it : Id). IsNew it old.entries) (sym h.1) is_new; replied = h.3 },
+    h.4,
+  )
+
+  pub repeats_at_once : (old new : Trail O C R) (id : Id) (day : ℕ) (command : C) (row : List ℕ) → (IsFull is_row (acted_log old.entries) → ⊥) → IsNew id old.entries
+      → (b : Bool) → Repeats start stepped is_row old new id day command row b → TakesAtOnce start stepped is_row old new row b
+  repeats_at_once old new id day command row room is_new true h = repeats_takes old new id day command row room is_new h
+  repeats_at_once old new id day command row room is_new false h = h
 
   pub acted_bad : (es : List (Entry C R)) (row : List ℕ) (e : Entry C R) → is_row e row → HasActed start stepped is_row e.id es → IsBad start stepped is_row es true row
   acted_bad es row e written has = inr (inr (e, written, inl has))

@@ -46,10 +46,20 @@ module _ {O C R : Type 0} (start : O) (stepped : O → ℕ → Caller → C → 
   Resumes old new e true = IsReplied old.entries e × (new.entries ≡ old.entries ++ e ∷ [])
   Resumes old new e false = (IsReplied old.entries e → ⊥) × (new ≡ old)
 
+  -- whether a request is taken again behind others: the row is that of its entry with the object's reply, or all is as before
+  abbrev pub Repeats : Trail O C R → Trail O C R → Id → ℕ → C → List ℕ → Bool → Type 0
+  Repeats old new id day command row true = (e : Entry C R) × (e.id ≡ id) × is_row e row × IsReplied old.entries e × (new.entries ≡ old.entries ++ e ∷ [])
+  Repeats old new id day command row false = new ≡ old
+
   -- whether a row is taken behind others: it's that of an entry that follows them, or it's bad and all is as before
   abbrev pub Takes : Trail O C R → Trail O C R → List ℕ → Bool → Type 0
   Takes old new row true = (e : Entry C R) × Follows old.entries row e × (new.entries ≡ old.entries ++ e ∷ [])
   Takes old new row false = IsBad old.entries true row × (new ≡ old)
+
+  -- whether a row is taken at once behind others: it's that of an entry that follows them, or all is as before
+  abbrev pub TakesAtOnce : Trail O C R → Trail O C R → List ℕ → Bool → Type 0
+  TakesAtOnce old new row true = Takes old new row true
+  TakesAtOnce old new row false = new ≡ old
 
   -- the next row that the keeper told was taken
   pub record TakesNext (told : Option (List (List ℕ))) (old new : Trail O C R) (at : ℕ) : Type 0 where

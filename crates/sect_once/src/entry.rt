@@ -11,6 +11,14 @@ pub struct Entry<C, R> {
     pub reply: R,
 }
 
+/// A request that a row tells: what its entry has in front of the reply.
+#[derive(Drop)]
+pub struct Request<C> {
+    pub id: Id,
+    pub day: Day,
+    pub command: C,
+}
+
 /// What stands in the log: a request that acted, or the id of one that the keeper failed to keep.
 #[derive(Drop)]
 pub enum Note<C, R> {

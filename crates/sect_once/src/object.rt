@@ -1,5 +1,5 @@
 // What a desk needs of its object.
-ghost use Rattle.std.specs.Prelude.{◌≡◌, ℕ, List, Option, Some, ◌↔◌, IsTrue, IfOk, OnOk, OnErr, IfSome, IfNone};
+ghost use Rattle.std.specs.Prelude.{◌≡◌, ◌≤◌, ℕ, List, Option, Some, length, take, ◌↔◌, IsTrue, IfOk, OnOk, OnErr, IfSome, IfNone};
 ghost use Rattle.sect_base.specs.declared.limit.Caller.{Caller};
 ghost use Rattle.sect_base.specs.declared.limit.Id.{Id};
 ghost use Rattle.sect_once.specs.declared.entry.Entry.{Entry};
@@ -7,7 +7,7 @@ ghost use Rattle.sect_once.specs.Desks.{NextHasRow};
 ghost use Rattle.sect_once.specs.History.{HasRow};
 ghost use Rattle.sect_once.specs.Told.{TellsFrom};
 
-use crate::entry::Entry;
+use crate::entry::{Entry, Request};
 use sect_base::{Caller, Day, Id, Memory};
 use std::alloc::Global;
 
@@ -112,6 +112,14 @@ pub trait Object: Sized {
     ) -> Result<Option<Entry<Self::Command, Self::Reply>>, Memory>
         ensures found { IfOk result (λ found. IfSome found (λ entry. is_row entry row.now)) }
         ensures none { IfOk result (λ found. IfNone found ((entry : Entry Self.Command Self.Reply) → is_row entry row.now → ⊥)) };
+
+    /// The request that stands in front of a row, and the place behind its text. None says nothing of the row.
+    fn read_request(
+        alloc: Global,
+        row: &[u8],
+    ) -> Result<Option<(Request<Self::Command>, usize)>, Memory>
+        ensures text { IfOk result (λ found. IfSome found (λ r. (r.1 ≤ length row.now) × is_request r.0.id r.0.day r.0.command (take r.1 row.now))) }
+        ensures askable { IfOk result (λ found. IfSome found (λ r. may_ask r.0.id r.0.day r.0.command)) };
 
     /// An entry has at most one row.
     ghost one_row: { (entry : Entry Self.Command Self.Reply) (a b : List ℕ) → is_row entry a → is_row entry b → a ≡ b };

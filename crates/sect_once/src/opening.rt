@@ -1,19 +1,37 @@
 // How a desk is opened: the keeper's rows are replayed, one after another.
-ghost use Rattle.std.specs.Prelude.{◌≡◌, ◌↔◌, ◌<◌, ◌≤◌, List, [], length, true, false, IfErr, IfOk, IsTrue, OnErr, OnOk};
+ghost use Rattle.std.specs.Prelude.{◌≡◌, ◌↔◌, ◌<◌, ◌≤◌, List, [], length, take, true, false, IfErr, IfOk, IsTrue, OnErr, OnOk};
 ghost use Rattle.sect_edge.specs.Keeper.{KeepsRows};
 ghost use Rattle.sect_once.specs.History.{acted_log, IsFull, IsNew, NeverFull, TellsRows};
-ghost use Rattle.sect_once.specs.Opening.{IsCause, IsRowCause, Opens, Reopens, Resumes, Takes, TakesNext};
+ghost use Rattle.sect_once.specs.Opening.{IsCause, IsRowCause, Opens, Reopens, Repeats, Resumes, Takes, TakesAtOnce, TakesNext};
 
 use crate::act::{step_in, take_back};
 use crate::answer::OpenFault;
 use crate::desk::Desk;
-use crate::entry::Entry;
+use crate::entry::{Entry, Request};
 use crate::object::Object;
 use crate::past::{MOST_NOTES, Past, add};
-use sect_base::Memory;
+use sect_base::{Day, Id, Memory};
 use sect_edge::Keeper;
 use std::alloc::Global;
 use std::snapshot::Snapshot;
+
+/// Puts the bytes before a place in place of what is there.
+fn copy_front(row: &[u8], at: usize, into: &mut Vec<u8>) -> Result<(), Memory>
+    requires { at ≤ length row.now }
+    ensures { OnOk result (into.new.items ≡ take at row.now) }
+{
+    into.clear();
+    into.extend_from_slice(&row[..at])?;
+    Ok(())
+}
+
+/// Whether the bytes are the same.
+#[inline(always)]
+fn is_same(bytes: &[u8], others: &[u8]) -> bool
+    ensures { IsTrue result → bytes.now ≡ others.now }
+{
+    bytes == others
+}
 
 impl<O: Object> Past<O> {
     /// Whether the log of these entries alone is full.
@@ -51,8 +69,85 @@ impl<O: Object> Past<O> {
         }
     }
 
+    /// Acts a request again, and takes its row, where that is what the entry is printed as: the buffer has the request's text, and
+    /// the reply's is put behind it. Else, and after want of memory, all is as before.
+    fn repeat(
+        &mut self,
+        id: Id,
+        day: Day,
+        command: &mut O::Command,
+        row: &[u8],
+        printed: &mut Vec<u8>,
+    ) -> Result<bool, Memory>
+        requires room { IsFull O.is_row (acted_log self.old.entries) → ⊥ }
+        requires askable { O.may_ask id day command.old }
+        requires text { O.is_request id day command.old printed.old.items }
+        requires new { IsNew id self.old.entries }
+        ensures taken { IfOk result (Repeats O.start O.stepped O.is_row self.old self.new id day command.old row.now) }
+        ensures err { OnErr result (self.new ≡ self.old) }
+    {
+        let (reply, undo) = step_in(&mut self.object, day, id.caller, command)?;
+        let Ok(_) = O::print_reply(&reply, printed) else {
+            take_back(&mut self.object, undo);
+            return Err(Memory);
+        };
+        if !is_same(printed.as_slice(), row) {
+            take_back(&mut self.object, undo);
+            return Ok(false);
+        }
+        match add(&mut self.rows, &mut self.places, &id, row) {
+            Ok(()) => Ok(true),
+            Err(memory) => {
+                take_back(&mut self.object, undo);
+                Err(memory)
+            }
+        }
+    }
+
+    /// Takes a row behind the entries, of which no more is read than the request. Where it isn't taken so, and after want of memory,
+    /// all is as before.
+    fn take_repeated(
+        &mut self,
+        alloc: Global,
+        row: &[u8],
+        printed: &mut Vec<u8>,
+    ) -> Result<bool, Memory>
+        ensures taken { IfOk result (TakesAtOnce O.start O.stepped O.is_row self.old self.new row.now) }
+        ensures err { OnErr result (self.new ≡ self.old) }
+    {
+        if self.is_full() {
+            return Ok(false);
+        }
+        let Some((request, at)) = O::read_request(alloc, row)? else {
+            return Ok(false);
+        };
+        let Request { id, day, command } = request;
+        if self.has(&id) {
+            return Ok(false);
+        }
+        copy_front(row, at, printed)?;
+        let mut command = command;
+        self.repeat(id, day, &mut command, row, printed)
+    }
+
     /// Takes a row behind the entries. Where it's bad, and after want of memory, all is as before.
-    fn take(&mut self, alloc: Global, row: &[u8]) -> Result<bool, Memory>
+    fn take(
+        &mut self,
+        alloc: Global,
+        row: &[u8],
+        printed: &mut Vec<u8>,
+    ) -> Result<bool, Memory>
+        ensures taken { IfOk result (Takes O.start O.stepped O.is_row self.old self.new row.now) }
+        ensures err { OnErr result (self.new ≡ self.old) }
+    {
+        if self.take_repeated(alloc, row, printed)? {
+            return Ok(true);
+        }
+        self.take_whole(alloc, row)
+    }
+
+    /// Takes a row behind the entries, of which all is read. Where it's bad, and after want of memory, all is as before.
+    fn take_whole(&mut self, alloc: Global, row: &[u8]) -> Result<bool, Memory>
         ensures taken { IfOk result (Takes O.start O.stepped O.is_row self.old self.new row.now) }
         ensures err { OnErr result (self.new ≡ self.old) }
     {
@@ -75,6 +170,7 @@ impl<O: Object> Past<O> {
         keeper: &mut K,
         at: u64,
         row: &mut Vec<u8>,
+        printed: &mut Vec<u8>,
     ) -> Result<(), OpenFault>
         requires { at ≡ length self.old.entries }
         ensures rows { KeepsRows (K.rows keeper.old) (K.rows keeper.new) }
@@ -86,7 +182,7 @@ impl<O: Object> Past<O> {
         if !keeper.row(at, row)? {
             return Err(OpenFault::BadEntry(number));
         }
-        if self.take(alloc, row.as_slice())? {
+        if self.take(alloc, row.as_slice(), printed)? {
             Ok(())
         } else {
             Err(OpenFault::BadEntry(number))
@@ -106,8 +202,9 @@ impl<O: Object> Past<O> {
         let count = keeper.len()?;
         let mut past = Past::new(alloc)?;
         let mut row = Vec::new(alloc);
+        let mut printed = Vec::new(alloc);
         for at in 0..count {
-            past.take_next(alloc, keeper, at, &mut row)?;
+            past.take_next(alloc, keeper, at, &mut row, &mut printed)?;
         }
         Ok(past)
     }

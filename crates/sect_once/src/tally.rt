@@ -5,7 +5,7 @@ ghost use Rattle.sect_base.specs.declared.limit.Caller.{Caller};
 ghost use Rattle.sect_once.specs.declared.entry.Entry.{Entry};
 ghost use Rattle.sect_once.specs.Tallies.{IsSumText, IsTallyRequest, IsTallyRow, MayAsk, caller_number, caller_tag, tallied, tally_entry};
 
-use crate::entry::Entry;
+use crate::entry::{Entry, Request};
 use crate::object::Object;
 use sect_base::{Caller, Day, Id, Memory, StudentId};
 use std::alloc::Global;
@@ -95,6 +95,14 @@ impl Object for Tally {
         }
     }
 
+    fn read_request(_alloc: Global, row: &[u8]) -> Result<Option<(Request<u8>, usize)>, Memory> {
+        if row.len() == 26 {
+            Ok(request_in(row))
+        } else {
+            Ok(None)
+        }
+    }
+
     ghost use Rattle.sect_once.specs.TallyLaws.{tally_next_has_row, tally_one_entry, tally_one_row, tally_reads_row};
 
     ghost one_row = { tally_one_row };
@@ -104,6 +112,21 @@ impl Object for Tally {
     ghost reads_row = { tally_reads_row };
 
     ghost next_has_row = { tally_next_has_row };
+}
+
+/// The request of a row of the right length, and the place behind it.
+fn request_in(row: &[u8]) -> Option<(Request<u8>, usize)>
+    requires { length row.now ≡ 26 }
+    ensures text { IfSome result (λ r. (r.1 ≤ length row.now) × IsTallyRequest r.0.id r.0.day r.0.command (take r.1 row.now)) }
+    ensures askable { IfSome result (λ r. MayAsk r.0.id r.0.day r.0.command) }
+{
+    let entry = entry_of(row)?;
+    let request = Request {
+        id: entry.id,
+        day: entry.day,
+        command: entry.command,
+    };
+    Some((request, 18))
 }
 
 /// The letter of a caller.

@@ -6,6 +6,7 @@ pub mod Found
 pub mod LineLaws
 pub mod PartLaws
 pub mod ReplyLaws
+pub mod RequestText
 pub mod RowLaws
 pub mod RowSteps
 pub mod Rows

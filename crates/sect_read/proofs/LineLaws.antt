@@ -11,6 +11,7 @@ use Rattle.sect_command.specs.declared.command.Command.TheVariants as commands
 use Rattle.sect_command.specs.declared.reply.Reply.{Reply}
 use Rattle.sect_base.specs.declared.choice.Want.{Want}
 use Rattle.sect_once.specs.declared.entry.Entry.{Entry}
+use Rattle.sect_once.specs.declared.entry.Request.{Request}
 use Rattle.sect_words.specs.Parts.{pieces}
 use Rattle.sect_words.specs.Days.{day_text}
 use Rattle.sect_words.specs.Words.{caller_text}
@@ -21,14 +22,14 @@ use Rattle.sect_read.specs.declared.line.LineAsk.{LineAsk}
 use Rattle.sect_read.specs.declared.verb.Verb.{Verb}
 use Rattle.sect_read.specs.declared.fault.WireFault.{WireFault}
 use Rattle.sect_read.specs.declared.fault.WireFault.TheVariants as wire
-use Rattle.sect_read.specs.Fits.{FitsDay, FitsOptional, FitsId, FitsCommand, FitsEntry, FitsList, FitsWant}
+use Rattle.sect_read.specs.Fits.{FitsDay, FitsOptional, FitsId, FitsCommand, FitsRequest, FitsEntry, FitsList, FitsWant}
 use Rattle.sect_read.specs.Lines.{May, IsTake, AreEach, IsCommand, IsLine, HasUnknownVerb, day_words}
 use Rattle.sect_words.specs.Reading.{◌>>=◌, word_at, key_at, mark_at, with_rest, later_parts, whole, begins}
 use Rattle.sect_words.specs.ReadingWords.{day_of}
 use Rattle.sect_read.specs.ReadingCommands.{verb_text, verb_of, arguments_at, command_at}
 use Rattle.sect_read.specs.ReadingReplies.{reply_at}
-use Rattle.sect_read.specs.ReadingLines.{at_of, day_behind, line_day_at, id_at, front_at, asked, asked_by, asked_behind, line_at, line_of, agrees, entry_if, row_at}
-use Rattle.sect_read.proofs.Steps.{Takes, Any, quiet_end, quiet_equals, word_step, words_step, key_step, bind_found, if_found, end_step, word_then, words_then, word_back, words_back, whole_found, rest_found, mark_found, mark_again}
+use Rattle.sect_read.specs.ReadingLines.{at_of, day_behind, line_day_at, id_at, front_at, asked, asked_by, asked_behind, line_at, line_of, agrees, request_if, request_at, row_at}
+use Rattle.sect_read.proofs.Steps.{Takes, Any, Quiet, quiet_end, quiet_equals, word_step, words_step, key_step, bind_found, if_found, end_step, word_then, words_then, word_back, words_back, whole_found, rest_found, mark_found, mark_again}
 use Rattle.sect_read.proofs.WordLaws.{exact_u64}
 use Rattle.sect_read.proofs.ValueLaws.{exact_day, exact_caller}
 use Rattle.sect_read.proofs.CommandLaws.{regroup, arguments_found, command_back, verb_found, verb_again, command_found, command_again}
@@ -227,48 +228,63 @@ same_agrees : (a : Bool) → agrees a a ≡ true
 same_agrees true = refl
 same_agrees false = refl
 
--- what stands behind the front of a row
-row_rest_is : (e : Entry Command Reply) (r1 r2 r3 r4 r5 : List (List ℕ)) → r1 ≡ id_words e.id ++ r2 → r2 ≡ command_words e.command ++ r3 → r3 ≡ (61 ∷ []) ∷ r4 → r4 ≡ reply_words e.reply ++ r5
-    → r1 ≡ row_rest e ++ r5
-row_rest_is e r1 r2 r3 r4 r5 a b c d =
-    a ∙ ap (λ (vs : List (List ℕ)). id_words e.id ++ vs) (b ∙ ap (λ (vs : List (List ℕ)). command_words e.command ++ vs) (c ∙ ap (λ (vs : List (List ℕ)). (61 ∷ []) ∷ vs) d))
-    ∙ sym (regroup (id_words e.id) (command_words e.command) ((61 ∷ []) ∷ reply_words e.reply) r5)
-
 -- the front of a row and what follows it
 front_is : (marked : Bool) (day : ℕ) (rest : List (List ℕ)) → mark_words (codes "2") marked ++ (day_text day ∷ rest) ≡ row_front marked day ++ rest
 front_is true day rest = refl
 front_is false day rest = refl
 
-end_by : (e x : Entry Command Reply) (r rest ws : List (List ℕ)) → e ≡ x → r ≡ rest → FitsEntry e → ws ≡ row_words e ++ r → FitsEntry x × (ws ≡ row_words x ++ rest)
-end_by e x r rest ws same left fits is = (subst FitsEntry same fits, is ∙ (λ i. row_words (same i) ++ left i))
+-- the words of a request in a row
+abbrev pub request_words : Request Command → List (List ℕ)
+request_words r = row_front (is_marked r.command) r.day ++ (id_words r.id ++ command_words r.command)
 
-row_found : (ws : List (List ℕ)) (x : Entry Command Reply) (rest : List (List ℕ)) → row_at ws ≡ Some (x, rest) → FitsEntry x × (ws ≡ row_words x ++ rest)
-unfolding row_at
-row_found ws x rest e =
+request_by : (r x : Request Command) (left rest ws : List (List ℕ)) → r ≡ x → left ≡ rest → FitsRequest r → ws ≡ request_words r ++ left → FitsRequest x × (ws ≡ request_words x ++ rest)
+request_by r x left rest ws same ends fits is = (subst FitsRequest same fits, is ∙ (λ i. request_words (same i) ++ ends i))
+
+pub request_found : (ws : List (List ℕ)) (x : Request Command) (rest : List (List ℕ)) → request_at ws ≡ Some (x, rest) → FitsRequest x × (ws ≡ request_words x ++ rest)
+unfolding request_at
+request_found ws x rest e =
     let mark = mark_at (codes "2") ws in
     word_step exact_day mark.1 _ _ e (λ day r1 f1 e1 p.
     words_step takes_id r1 _ _ p (λ id r2 f2 e2 p.
     bind_found (command_at false r2) _ _ p (λ command is3 p.
-    key_step (codes "=") command.1 _ _ p (λ r4 e4 p.
-    words_step takes_reply r4 _ _ p (λ reply r5 f5 e5 p.
-    let entry : Entry Command Reply = record { id = id; day = day; command = command.0; reply = reply } in
-    let taken = rest_found r5 (entry_if (agrees mark.0 (is_marked command.0)) entry) x rest p in
-    let test = cond_some (agrees mark.0 (is_marked command.0)) entry x taken.0 in
+    let request : Request Command = record { id = id; day = day; command = command.0 } in
+    let taken = rest_found command.1 (request_if (agrees mark.0 (is_marked command.0)) request) x rest p in
+    let test = cond_some (agrees mark.0 (is_marked command.0)) request x taken.0 in
     let c = command_found false r2 command.0 command.1 is3 in
     let printed = printed_words command.0 c.0 c.1 in
-    let behind : r1 ≡ row_rest entry ++ r5 = row_rest_is entry r1 r2 command.1 r4 r5 e2 (c.2 ∙ ap (λ (vs : List (List ℕ)). vs ++ command.1) printed.1) e4 e5 in
-    let whole : ws ≡ row_words entry ++ r5 =
+    let parts = id_words id ++ command_words command.0 in
+    let behind : r1 ≡ parts ++ command.1 =
+    e2 ∙ ap (λ (vs : List (List ℕ)). id_words id ++ vs) (c.2 ∙ ap (λ (vs : List (List ℕ)). vs ++ command.1) printed.1) ∙ sym (append_assoc (id_words id) (command_words command.0) command.1) in
+    let whole : ws ≡ request_words request ++ command.1 =
     mark_found (codes "2") ws ∙ ap (λ (vs : List (List ℕ)). mark_words (codes "2") mark.0 ++ vs) (word_then _ mark.1 r1 _ e1 behind)
-    ∙ front_is mark.0 day (row_rest entry ++ r5) ∙ ap (λ b. row_front b day ++ (row_rest entry ++ r5)) (agrees_same mark.0 (is_marked command.0) test.0)
-    ∙ sym (append_assoc (row_front (is_marked command.0) day) (row_rest entry) r5) in
-    end_by entry x r5 rest ws test.1 taken.1 (f1, f2, printed.0, f5) whole)))))
+    ∙ front_is mark.0 day (parts ++ command.1) ∙ ap (λ b. row_front b day ++ (parts ++ command.1)) (agrees_same mark.0 (is_marked command.0) test.0)
+    ∙ sym (append_assoc (row_front (is_marked command.0) day) parts command.1) in
+    request_by request x command.1 rest ws test.1 taken.1 (f1, f2, printed.0) whole)))
 
-row_apart : (x : Entry Command Reply) (rest : List (List ℕ))
-    → row_words x ++ rest ≡ mark_words (codes "2") (is_marked x.command) ++ (day_text x.day ∷ (id_words x.id ++ (command_words x.command ++ ((61 ∷ []) ∷ (reply_words x.reply ++ rest)))))
+-- the request of an entry
+abbrev asked_in : Entry Command Reply → Request Command
+asked_in e = record { id = e.id; day = e.day; command = e.command }
+
+-- a row is the request, `=` and the reply
+row_apart : (x : Entry Command Reply) (rest : List (List ℕ)) → row_words x ++ rest ≡ request_words (asked_in x) ++ ((61 ∷ []) ∷ (reply_words x.reply ++ rest))
 row_apart x rest =
-    append_assoc (row_front (is_marked x.command) x.day) (row_rest x) rest
-    ∙ ap (λ (vs : List (List ℕ)). row_front (is_marked x.command) x.day ++ vs) (regroup (id_words x.id) (command_words x.command) ((61 ∷ []) ∷ reply_words x.reply) rest)
-    ∙ sym (front_is (is_marked x.command) x.day (id_words x.id ++ (command_words x.command ++ ((61 ∷ []) ∷ (reply_words x.reply ++ rest)))))
+    let front = row_front (is_marked x.command) x.day in
+    let behind = (61 ∷ []) ∷ (reply_words x.reply ++ rest) in
+    append_assoc front (row_rest x) rest
+    ∙ ap (λ (vs : List (List ℕ)). front ++ vs) (regroup (id_words x.id) (command_words x.command) ((61 ∷ []) ∷ reply_words x.reply) rest ∙ sym (append_assoc (id_words x.id) (command_words x.command) behind))
+    ∙ sym (append_assoc front (id_words x.id ++ command_words x.command) behind)
+
+row_found : (ws : List (List ℕ)) (x : Entry Command Reply) (rest : List (List ℕ)) → row_at ws ≡ Some (x, rest) → FitsEntry x × (ws ≡ row_words x ++ rest)
+unfolding row_at
+row_found ws x rest e =
+    bind_found (request_at ws) _ _ e (λ request is p.
+    key_step (codes "=") request.1 _ _ p (λ r4 e4 p.
+    words_step takes_reply r4 _ _ p (λ reply r5 f5 e5 p.
+    let entry : Entry Command Reply = record { id = request.0.id; day = request.0.day; command = request.0.command; reply = reply } in
+    let asked = request_found ws request.0 request.1 is in
+    let whole : ws ≡ row_words entry ++ r5 =
+    asked.1 ∙ ap (λ (vs : List (List ℕ)). request_words request.0 ++ vs) (e4 ∙ ap (λ (vs : List (List ℕ)). (61 ∷ []) ∷ vs) e5) ∙ sym (row_apart entry r5) in
+    end_step entry x r5 rest p (λ y r. FitsEntry y × (ws ≡ row_words y ++ r)) ((asked.0.0, asked.0.1, asked.0.2, f5), whole))))
 
 ten_bytes : (year month date : ℕ) → bytes_eq (date_text year month date) (50 ∷ []) ≡ false
 ten_bytes year month date = and_right ((48 + year / 100 / 10) == 50) _ refl
@@ -277,22 +293,34 @@ ten_bytes year month date = and_right ((48 + year / 100 / 10) == 50) _ refl
 no_two : (day : ℕ) (rest : List (List ℕ)) → FitsDay day → begins (codes "2") (day_text day ∷ rest) ≡ false
 no_two day rest fits = let is = has_day day fits in ap (λ (text : List ℕ). bytes_eq text (50 ∷ [])) is.is_text ∙ ten_bytes is.year is.month is.date
 
+request_again : (x : Request Command) (rest : List (List ℕ)) → FitsRequest x → Quiet rest → request_at (request_words x ++ rest) ≡ Some (x, rest)
+unfolding request_at
+request_again x rest fits quiet =
+    let parts = command_words x.command ++ rest in
+    let marked = is_marked x.command in
+    let apart : request_words x ++ rest ≡ mark_words (codes "2") marked ++ (day_text x.day ∷ (id_words x.id ++ parts)) =
+    append_assoc (row_front marked x.day) (id_words x.id ++ command_words x.command) rest
+    ∙ ap (λ (vs : List (List ℕ)). row_front marked x.day ++ vs) (append_assoc (id_words x.id) (command_words x.command) rest)
+    ∙ sym (front_is marked x.day (id_words x.id ++ parts)) in
+    let mark = mark_again (codes "2") marked (day_text x.day ∷ (id_words x.id ++ parts)) (no_two x.day (id_words x.id ++ parts) fits.0) in
+    ap request_at apart
+    ∙ ap (λ (m : Bool × List (List ℕ)). word_at day_of m.1 >>= λ day. id_at day.1 >>= λ id. command_at false id.1 >>= λ command.
+    with_rest command.1 (request_if (agrees m.0 (is_marked command.0)) (record { id = id.0; day = day.0; command = command.0 }))) mark
+    ∙ word_back exact_day x.day _ _ _ fits.0 (
+    words_back takes_id x.id parts _ _ fits.1 tt (
+    ap (λ o. o >>= λ command. with_rest command.1 (request_if (agrees marked (is_marked command.0)) (record { id = x.id; day = x.day; command = command.0 })))
+    (command_again false x.command (command_words x.command) rest (words_printed false x.command fits.2) quiet)
+    ∙ ap (λ b. with_rest rest (request_if b x)) (same_agrees marked)))
+
 row_again : (x : Entry Command Reply) (rest : List (List ℕ)) → FitsEntry x → IsEnd rest → row_at (row_words x ++ rest) ≡ Some (x, rest)
 unfolding row_at
 row_again x rest fits stop =
-    let behind = (61 ∷ []) ∷ (reply_words x.reply ++ rest) in
-    let parts = command_words x.command ++ behind in
-    let marked = is_marked x.command in
-    let apart : row_words x ++ rest ≡ mark_words (codes "2") marked ++ (day_text x.day ∷ (id_words x.id ++ parts)) = row_apart x rest in
-    let mark = mark_again (codes "2") marked (day_text x.day ∷ (id_words x.id ++ parts)) (no_two x.day (id_words x.id ++ parts) fits.0) in
-    ap row_at apart
-    ∙ ap (λ (m : Bool × List (List ℕ)). word_at day_of m.1 >>= λ day. id_at day.1 >>= λ id. command_at false id.1 >>= λ command. key_at (codes "=") command.1 >>= λ key. reply_at key >>= λ reply.
-    with_rest reply.1 (entry_if (agrees m.0 (is_marked command.0)) (record { id = id.0; day = day.0; command = command.0; reply = reply.0 }))) mark
-    ∙ word_back exact_day x.day _ _ _ fits.0 (
-    words_back takes_id x.id parts _ _ fits.1 tt (
-    ap (λ o. o >>= λ command. key_at (codes "=") command.1 >>= λ key. reply_at key >>= λ reply. with_rest reply.1 (entry_if (agrees marked (is_marked command.0)) (record { id = x.id; day = x.day; command = command.0; reply = reply.0 })))
-    (command_again false x.command (command_words x.command) behind (words_printed false x.command fits.2) (quiet_equals (reply_words x.reply ++ rest)))
-    ∙ words_back takes_reply x.reply rest _ _ fits.3 stop (ap (λ b. with_rest rest (entry_if b x)) (same_agrees marked))))
+    let behind = reply_words x.reply ++ rest in
+    ap row_at (row_apart x rest)
+    ∙ ap (λ o. o >>= λ request. key_at (codes "=") request.1 >>= λ key. reply_at key >>= λ reply.
+    Some (record { id = request.0.id; day = request.0.day; command = request.0.command; reply = reply.0 }, reply.1))
+    (request_again (asked_in x) ((61 ∷ []) ∷ behind) (fits.0, fits.1, fits.2) (quiet_equals behind))
+    ∙ words_back takes_reply x.reply rest _ _ fits.3 stop refl
 
 -- rows are read exactly
 pub takes_row : Takes row_at FitsEntry row_words IsEnd

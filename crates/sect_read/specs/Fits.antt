@@ -58,6 +58,7 @@ use Rattle.sect_command.specs.declared.reply.Refusal.TheVariants as refusals
 use Rattle.sect_command.specs.declared.reply.RowFault.{RowFault}
 use Rattle.sect_command.specs.declared.reply.RowFault.TheVariants as faults
 use Rattle.sect_once.specs.declared.entry.Entry.{Entry}
+use Rattle.sect_once.specs.declared.entry.Request.{Request}
 
 -- a number of 8 bits
 abbrev pub Fits8 : ℕ → Type 0
@@ -316,6 +317,10 @@ FitsReply (replies.Batched lines) = FitsList FitsLine lines
 FitsReply (replies.Blocked visits tree) = Fits32 visits × FitsTree tree
 FitsReply (replies.Spent budget) = Fits32 budget
 FitsReply (replies.Refused refusal) = FitsRefusal refusal
+
+-- the day, the id and the command of a request have texts
+abbrev pub FitsRequest : Request Command → Type 0
+FitsRequest r = FitsDay r.day × FitsId r.id × FitsCommand r.command
 
 -- the day, the id, the command and the reply of an entry have texts
 abbrev pub FitsEntry : Entry Command Reply → Type 0

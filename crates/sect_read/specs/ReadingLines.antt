@@ -4,6 +4,7 @@ use Rattle.sect_base.specs.declared.limit.Id.{Id}
 use Rattle.sect_command.specs.declared.command.Command.{Command}
 use Rattle.sect_command.specs.declared.reply.Reply.{Reply}
 use Rattle.sect_once.specs.declared.entry.Entry.{Entry}
+use Rattle.sect_once.specs.declared.entry.Request.{Request}
 use Rattle.sect_words.specs.Parts.{pieces}
 use Rattle.sect_text.specs.Rows.{is_marked}
 use Rattle.sect_words.specs.Reading.{◌>>=◌, word_at, key_at, mark_at, with_rest, later_parts, whole}
@@ -94,19 +95,30 @@ agrees false false = true
 agrees true false = false
 agrees false true = false
 
--- the entry, where it has the mark that its command has
-abbrev pub entry_if : Bool → Entry Command Reply → Option (Entry Command Reply)
-entry_if good e = if good then Some e else None
+-- the request, where it has the mark that its command has
+abbrev pub request_if : Bool → Request Command → Option (Request Command)
+request_if good r = if good then Some r else None
 
-unfoldable pub row_at : List (List ℕ) → Option (Entry Command Reply × List (List ℕ))
-row_at parts = do
+-- a request in a row
+unfoldable pub request_at : List (List ℕ) → Option (Request Command × List (List ℕ))
+request_at parts = do
   let mark = mark_at (codes "2") parts
   day ← word_at day_of mark.1
   id ← id_at day.1
   command ← command_at false id.1
-  key ← key_at (codes "=") command.1
+  with_rest command.1 (request_if (agrees mark.0 (is_marked command.0)) (record { id = id.0; day = day.0; command = command.0 }))
+
+-- a request and its reply
+unfoldable pub row_at : List (List ℕ) → Option (Entry Command Reply × List (List ℕ))
+row_at parts = do
+  request ← request_at parts
+  key ← key_at (codes "=") request.1
   reply ← reply_at key
-  with_rest reply.1 (entry_if (agrees mark.0 (is_marked command.0)) (record { id = id.0; day = day.0; command = command.0; reply = reply.0 }))
+  Some (record { id = request.0.id; day = request.0.day; command = request.0.command; reply = reply.0 }, reply.1)
+
+-- the request of a text
+abbrev pub request_of : List ℕ → Option (Request Command)
+request_of text = whole (request_at (pieces 32 text))
 
 -- the entry of a row
 abbrev pub row_of : List ℕ → Option (Entry Command Reply)

@@ -24,5 +24,5 @@ pub use line::{
     LineAsk, LineFront, behind_at, read_command, read_line, read_line_command, read_line_front,
 };
 pub use reply::read_reply;
-pub use row::read_row;
+pub use row::{read_request, read_row};
 pub use verb::{Verb, verb_of};

@@ -1,19 +1,23 @@
 // Reading entry rows.
 
-ghost use Rattle.std.specs.Prelude.{◌≡◌, codes, IfOk, IfSome, Some};
+ghost use Rattle.std.specs.Prelude.{◌≡◌, ◌≤◌, ◌++◌, ◌∷◌, [], codes, length, take, IfOk, IfSome, Some};
 ghost use Rattle.sect_command.specs.declared.command.Command.{Command};
 ghost use Rattle.sect_command.specs.declared.reply.Reply.{Reply};
 ghost use Rattle.sect_once.specs.declared.entry.Entry.{Entry};
+ghost use Rattle.sect_once.specs.declared.entry.Request.{Request};
+ghost use Rattle.sect_text.specs.ToldRows.{IsRequestText};
+ghost use Rattle.sect_read.specs.Fits.{FitsCommand, FitsDay, FitsId};
 ghost use Rattle.sect_read.specs.Laws.{IsRow};
 ghost use Rattle.sect_words.specs.Parts.{pieces};
 ghost use Rattle.sect_words.specs.Reading.{Reads, whole, Finds};
-ghost use Rattle.sect_read.specs.ReadingLines.{id_at, row_at, row_of, agrees};
+ghost use Rattle.sect_read.specs.ReadingLines.{id_at, request_at, request_of, row_at, row_of, agrees};
 
 use crate::commands::read_command_words;
 use crate::reply::read_reply_words;
+use memchr::memchr;
 use sect_base::{Id, Memory};
 use sect_command::{Command, Reply};
-use sect_once::Entry;
+use sect_once::{Entry, Request};
 use sect_text::is_marked;
 use sect_words::{Fault, Parts};
 use std::alloc::Global;
@@ -35,26 +39,85 @@ fn agree(a: bool, b: bool) -> bool
     if a { b } else { !b }
 }
 
-/// The entry of a row: its day, its id, its command, whose mark it has, and its reply.
-#[tactic(auto, unfolding(crate::specs::ReadingLines::row_at))]
-fn read_entry(alloc: Global, words: &mut Parts) -> Result<Entry<Command, Reply>, Fault>
-    ensures { Reads result words.new (row_at words.old) }
+/// The request of a row: its day, its id and its command, whose mark it has.
+#[tactic(auto, unfolding(crate::specs::ReadingLines::request_at))]
+fn read_request_words(alloc: Global, words: &mut Parts) -> Result<Request<Command>, Fault>
+    ensures { Reads result words.new (request_at words.old) }
 {
     let marked = words.takes(b"2");
     let day = words.word(alloc)?;
     let id = read_id(alloc, words)?;
     let command = read_command_words(alloc, false, words)?;
-    words.key(b"=")?;
-    let reply = read_reply_words(alloc, words)?;
     if !agree(marked, is_marked(&command)) {
         return Err(Fault::Bad);
     }
+    Ok(Request { id, day, command })
+}
+
+/// The entry of a row: its request and its reply.
+#[tactic(auto, unfolding(crate::specs::ReadingLines::row_at))]
+fn read_entry(alloc: Global, words: &mut Parts) -> Result<Entry<Command, Reply>, Fault>
+    ensures { Reads result words.new (row_at words.old) }
+{
+    let Request { id, day, command } = read_request_words(alloc, words)?;
+    words.key(b"=")?;
+    let reply = read_reply_words(alloc, words)?;
     Ok(Entry {
         id,
         day,
         command,
         reply,
     })
+}
+
+/// The bytes of a row before its first `=` and the space there, with the place behind `=` and the next space, where both are
+/// there.
+fn request_bytes(row: &[u8]) -> Option<(&[u8], usize)>
+    ensures { IfSome result (λ r. (r.1 ≤ length row.now) × (take r.1 row.now ≡ r.0.now ++ 32 ∷ 61 ∷ 32 ∷ [])) }
+{
+    let at = memchr(b'=', row)?;
+    if at == 0 {
+        return None;
+    }
+    let (text, rest) = row.split_at(at - 1);
+    match rest {
+        [b' ', b'=', b' ', ..] => Some((text, at + 2)),
+        _ => None,
+    }
+}
+
+/// The request of a text.
+fn find_request(alloc: Global, text: &[u8]) -> Result<Option<Request<Command>>, Memory>
+    ensures { Finds result (request_of text.now) }
+{
+    let mut words = Parts::new(text, b' ');
+    let read = read_request_words(alloc, &mut words);
+    match read {
+        Ok(request) => match words.end() {
+            Ok(()) => Ok(Some(request)),
+            Err(Fault::Bad) => Ok(None),
+            Err(Fault::Memory) => Err(Memory),
+        },
+        Err(Fault::Bad) => Ok(None),
+        Err(Fault::Memory) => Err(Memory),
+    }
+}
+
+/// The request that stands before the first `=` of a row, and the place where the text of the reply begins. It takes memory.
+pub fn read_request(
+    alloc: Global,
+    row: &[u8],
+) -> Result<Option<(Request<Command>, usize)>, Memory>
+    ensures text { IfOk result (λ found. IfSome found (λ r. (r.1 ≤ length row.now) × IsRequestText r.0.id r.0.day r.0.command (take r.1 row.now))) }
+    ensures fits { IfOk result (λ found. IfSome found (λ r. FitsId r.0.id × FitsDay r.0.day × FitsCommand r.0.command)) }
+{
+    let Some((text, at)) = request_bytes(row) else {
+        return Ok(None);
+    };
+    match find_request(alloc, text)? {
+        Some(request) => Ok(Some((request, at))),
+        None => Ok(None),
+    }
 }
 
 /// The entry of a row, where it has one.

@@ -47,7 +47,7 @@ spaced_reply (replies.Spent budget) = refl
 spaced_reply (replies.Refused refusal) = refl
 
 -- the front of a row and its id, and words behind them
-behind_front : (marked : Bool) (day : ℕ) (id : Id) (words : List (List ℕ))
+pub behind_front : (marked : Bool) (day : ℕ) (id : Id) (words : List (List ℕ))
     → sentence (row_front marked day ++ (id_words id ++ words)) ≡ sentence (row_front marked day ++ id_words id) ++ behind 32 words
 behind_front true day id words = simp append_assoc
 behind_front false day id words = simp append_assoc

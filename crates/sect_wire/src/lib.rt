@@ -17,6 +17,6 @@ pub use object::TextObject;
 pub use sect_read::{
     LineAsk, WireFault, a_line_asks_one_request, a_printed_request_is_a_line_that_asks_it,
     a_printed_text_is_of_one_command, a_row_is_of_one_entry, a_text_is_of_one_reply,
-    an_entry_has_one_row, read_command, read_line, read_reply, read_row,
+    an_entry_has_one_row, read_command, read_line, read_reply, read_request, read_row,
 };
 pub use sect_text::{print_command, print_reply, print_request, print_row, print_told_reply};
