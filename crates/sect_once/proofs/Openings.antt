@@ -12,7 +12,7 @@ use Rattle.sect_once.specs.History.{acted_log, history, log_of, state_after, Act
 use Rattle.sect_once.specs.Desks.{IsSound, Standing, Trail}
 use Rattle.sect_once.specs.declared.answer.OpenFault.{OpenFault}
 use Rattle.sect_once.specs.declared.answer.OpenFault.TheVariants as shut
-use Rattle.sect_once.specs.Opening.{Follows, HasActed, IsBad, IsBadNext, IsCause, IsFirstBad, IsOpened, IsRowCause, Repeats, Resumes, Takes, TakesAtOnce, TakesNext}
+use Rattle.sect_once.specs.Opening.{Follows, HasActed, IsBad, IsBadNext, IsCause, IsFirstBad, IsOpened, IsRowCause, ActsAgain, Resumes, Takes, TakesAtOnce, TakesNext}
 use Rattle.sect_once.proofs.Logs.{get-snoc, IsReplay-append}
 use Rattle.std.proofs.lemmas.List.{take_all}
 use Rattle.sect_once.specs.declared.entry.Note.{Note}
@@ -84,18 +84,18 @@ module _ {O C R : Type 0} (start : O) (stepped : O → ℕ → Caller → C → 
   takes_from old new row e room written is_new false h = (inr (inr (e, written, inr h.0)), h.1)
 
   -- a request that is taken again is an entry that follows
-  repeats_takes : (old new : Trail O C R) (id : Id) (day : ℕ) (command : C) (row : List ℕ) → (IsFull is_row (acted_log old.entries) → ⊥) → IsNew id old.entries
-      → Repeats start stepped is_row old new id day command row true → Takes start stepped is_row old new row true
-  repeats_takes old new id day command row room is_new h = (
+  again_takes : (old new : Trail O C R) (id : Id) (day : ℕ) (command : C) (row : List ℕ) → (IsFull is_row (acted_log old.entries) → ⊥) → IsNew id old.entries
+      → ActsAgain start stepped is_row old new id day command row true → Takes start stepped is_row old new row true
+  again_takes old new id day command row room is_new h = (
     h.0,
     record { roomy = room; written = h.2; is_new = subst (λ (it : Id). IsNew it old.entries) (sym h.1) is_new; replied = h.3 },
     h.4,
   )
 
-  pub repeats_at_once : (old new : Trail O C R) (id : Id) (day : ℕ) (command : C) (row : List ℕ) → (IsFull is_row (acted_log old.entries) → ⊥) → IsNew id old.entries
-      → (b : Bool) → Repeats start stepped is_row old new id day command row b → TakesAtOnce start stepped is_row old new row b
-  repeats_at_once old new id day command row room is_new true h = repeats_takes old new id day command row room is_new h
-  repeats_at_once old new id day command row room is_new false h = h
+  pub again_at_once : (old new : Trail O C R) (id : Id) (day : ℕ) (command : C) (row : List ℕ) → (IsFull is_row (acted_log old.entries) → ⊥) → IsNew id old.entries
+      → (b : Bool) → ActsAgain start stepped is_row old new id day command row b → TakesAtOnce start stepped is_row old new row b
+  again_at_once old new id day command row room is_new true h = again_takes old new id day command row room is_new h
+  again_at_once old new id day command row room is_new false h = h
 
   pub acted_bad : (es : List (Entry C R)) (row : List ℕ) (e : Entry C R) → is_row e row → HasActed start stepped is_row e.id es → IsBad start stepped is_row es true row
   acted_bad es row e written has = inr (inr (e, written, inl has))

@@ -47,9 +47,9 @@ module _ {O C R : Type 0} (start : O) (stepped : O → ℕ → Caller → C → 
   Resumes old new e false = (IsReplied old.entries e → ⊥) × (new ≡ old)
 
   -- whether a request is taken again behind others: the row is that of its entry with the object's reply, or all is as before
-  abbrev pub Repeats : Trail O C R → Trail O C R → Id → ℕ → C → List ℕ → Bool → Type 0
-  Repeats old new id day command row true = (e : Entry C R) × (e.id ≡ id) × is_row e row × IsReplied old.entries e × (new.entries ≡ old.entries ++ e ∷ [])
-  Repeats old new id day command row false = new ≡ old
+  abbrev pub ActsAgain : Trail O C R → Trail O C R → Id → ℕ → C → List ℕ → Bool → Type 0
+  ActsAgain old new id day command row true = (e : Entry C R) × (e.id ≡ id) × is_row e row × IsReplied old.entries e × (new.entries ≡ old.entries ++ e ∷ [])
+  ActsAgain old new id day command row false = new ≡ old
 
   -- whether a row is taken behind others: it's that of an entry that follows them, or it's bad and all is as before
   abbrev pub Takes : Trail O C R → Trail O C R → List ℕ → Bool → Type 0

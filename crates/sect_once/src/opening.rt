@@ -2,7 +2,7 @@
 ghost use Rattle.std.specs.Prelude.{◌≡◌, ◌↔◌, ◌<◌, ◌≤◌, List, [], length, take, true, false, IfErr, IfOk, IsTrue, OnErr, OnOk};
 ghost use Rattle.sect_edge.specs.Keeper.{KeepsRows};
 ghost use Rattle.sect_once.specs.History.{acted_log, IsFull, IsNew, NeverFull, TellsRows};
-ghost use Rattle.sect_once.specs.Opening.{IsCause, IsRowCause, Opens, Reopens, Repeats, Resumes, Takes, TakesAtOnce, TakesNext};
+ghost use Rattle.sect_once.specs.Opening.{IsCause, IsRowCause, Opens, Reopens, ActsAgain, Resumes, Takes, TakesAtOnce, TakesNext};
 
 use crate::act::{step_in, take_back};
 use crate::answer::OpenFault;
@@ -71,7 +71,7 @@ impl<O: Object> Past<O> {
 
     /// Acts a request again, and takes its row, where that is what the entry is printed as: the buffer has the request's text, and
     /// the reply's is put behind it. Else, and after want of memory, all is as before.
-    fn repeat(
+    fn act_again(
         &mut self,
         id: Id,
         day: Day,
@@ -83,7 +83,7 @@ impl<O: Object> Past<O> {
         requires askable { O.may_ask id day command.old }
         requires text { O.is_request id day command.old printed.old.items }
         requires new { IsNew id self.old.entries }
-        ensures taken { IfOk result (Repeats O.start O.stepped O.is_row self.old self.new id day command.old row.now) }
+        ensures taken { IfOk result (ActsAgain O.start O.stepped O.is_row self.old self.new id day command.old row.now) }
         ensures err { OnErr result (self.new ≡ self.old) }
     {
         let (reply, undo) = step_in(&mut self.object, day, id.caller, command)?;
@@ -106,7 +106,7 @@ impl<O: Object> Past<O> {
 
     /// Takes a row behind the entries, of which no more is read than the request. Where it isn't taken so, and after want of memory,
     /// all is as before.
-    fn take_repeated(
+    fn take_by_request(
         &mut self,
         alloc: Global,
         row: &[u8],
@@ -127,20 +127,15 @@ impl<O: Object> Past<O> {
         }
         copy_front(row, at, printed)?;
         let mut command = command;
-        self.repeat(id, day, &mut command, row, printed)
+        self.act_again(id, day, &mut command, row, printed)
     }
 
     /// Takes a row behind the entries. Where it's bad, and after want of memory, all is as before.
-    fn take(
-        &mut self,
-        alloc: Global,
-        row: &[u8],
-        printed: &mut Vec<u8>,
-    ) -> Result<bool, Memory>
+    fn take(&mut self, alloc: Global, row: &[u8], printed: &mut Vec<u8>) -> Result<bool, Memory>
         ensures taken { IfOk result (Takes O.start O.stepped O.is_row self.old self.new row.now) }
         ensures err { OnErr result (self.new ≡ self.old) }
     {
-        if self.take_repeated(alloc, row, printed)? {
+        if self.take_by_request(alloc, row, printed)? {
             return Ok(true);
         }
         self.take_whole(alloc, row)

@@ -36,8 +36,7 @@ part_found text r e =
     let command = command_text r.command in
     let end : List ℕ = 32 ∷ 61 ∷ 32 ∷ [] in
     let is : text ≡ front ++ 32 ∷ command =
-    found.1 ∙ behind_front (is_marked r.command) r.day r.id (command_words r.command) ∙ ap (λ (bytes : List ℕ). front ++ bytes) (sym (spaced_command r.command)) in
-    (
+    found.1 ∙ behind_front (is_marked r.command) r.day r.id (command_words r.command) ∙ ap (λ (bytes : List ℕ). front ++ bytes) (sym (spaced_command r.command)) in (
       found.0,
       ap (λ (bytes : List ℕ). bytes ++ end) is ∙ append_assoc front (32 ∷ command) end ∙ sym (append_assoc front (32 ∷ []) (command ++ end)),
     )

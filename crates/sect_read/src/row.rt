@@ -104,10 +104,7 @@ fn find_request(alloc: Global, text: &[u8]) -> Result<Option<Request<Command>>, 
 }
 
 /// The request that stands before the first `=` of a row, and the place where the text of the reply begins. It takes memory.
-pub fn read_request(
-    alloc: Global,
-    row: &[u8],
-) -> Result<Option<(Request<Command>, usize)>, Memory>
+pub fn read_request(alloc: Global, row: &[u8]) -> Result<Option<(Request<Command>, usize)>, Memory>
     ensures text { IfOk result (λ found. IfSome found (λ r. (r.1 ≤ length row.now) × IsRequestText r.0.id r.0.day r.0.command (take r.1 row.now))) }
     ensures fits { IfOk result (λ found. IfSome found (λ r. FitsId r.0.id × FitsDay r.0.day × FitsCommand r.0.command)) }
 {

@@ -4,7 +4,7 @@ use Rattle.sect_once.specs.declared.entry.Entry.{Entry}
 use Rattle.sect_once.specs.History.{HasRow, entries_of}
 use Rattle.sect_once.proofs.Openings.{few}
 use Rattle.sect_once.proofs.Pasts.{as_many, past_added, past_resumed, past_same, row_behind}
-use Rattle.sect_once.proofs.past.Past.repeat.Goals as goal
+use Rattle.sect_once.proofs.past.Past.act_again.Goals as goal
 
 pub add-requires : goal.add-requires
 add-requires g c = let many = as_many g.O.Object.start g.O.Object.stepped g.O.Object.is_row (g.O.Object.state c.self.inside.object.value) (entries_of g.O.Object.entry_of c.self.inside.rows) c.self.inside.places c.self.inside.rows c.args.self.now c.self.invariant c.self.view_is in record { few = omega (arith, many.1) }
