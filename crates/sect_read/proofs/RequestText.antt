@@ -1,5 +1,8 @@
 -- The text of a request that is read is that which stands in a row.
-use Rattle.std.proofs.Common.{◌≡◌, ℕ, ◌+◌, List, [], ◌∷◌, ◌++◌, Some, Option, length, take, refl, ap, sym, ◌∙◌, append_assoc, append-nil}
+use Rattle.std.proofs.Common.{◌≡◌, ℕ, ◌+◌, ◌-◌, ◌≤◌, List, [], ◌∷◌, ◌++◌, Some, length, take, refl, ap, sym, ◌∙◌, append_assoc, append-nil, length-append, arith}
+use Rattle.std.specs.Prelude.{drop}
+use Rattle.std.proofs.Common.{take-append-drop}
+use Rattle.std.proofs.Math.Seq.{take-append_seam}
 use Rattle.sect_command.specs.declared.command.Command.{Command}
 use Rattle.sect_once.specs.declared.entry.Request.{Request}
 use Rattle.sect_words.specs.Parts.{joined, pieces, sentence}
@@ -13,14 +16,17 @@ use Rattle.sect_read.specs.ReadingLines.{request_at, request_of}
 use Rattle.sect_read.proofs.Steps.{whole_found}
 use Rattle.sect_read.proofs.LineLaws.{request_found, request_words}
 
--- the bytes behind a text are taken with it
-pub take-behind : {A : Type 0} (xs ys zs : List A) → take (length xs + length ys) (xs ++ (ys ++ zs)) ≡ xs ++ ys
-take-behind [] ys zs = take-all ys zs
-  where
-    take-all : {A : Type 0} (ys zs : List A) → take (length ys) (ys ++ zs) ≡ ys
-    take-all [] zs = refl
-    take-all (y ∷ ys) zs = ap (λ (vs : List _). y ∷ vs) (take-all ys zs)
-take-behind (x ∷ xs) ys zs = ap (λ (vs : List _). x ∷ vs) (take-behind xs ys zs)
+-- the bytes before ` = `, and these
+pub part_of_row : (row text rest : List ℕ) (at : ℕ) → row ≡ text ++ rest → take 3 rest ≡ 32 ∷ 61 ∷ 32 ∷ [] → (at ≡ 0 → ⊥) → length text ≡ at - 1 → 3 ≤ length rest
+    → (at + 2 ≤ length row) × (take (at + 2) row ≡ text ++ 32 ∷ 61 ∷ 32 ∷ [])
+part_of_row row text rest at is front some long three =
+    let end : List ℕ = 32 ∷ 61 ∷ 32 ∷ [] in
+    let apart : row ≡ text ++ (end ++ drop 3 rest) = is ∙ ap (λ (bytes : List ℕ). text ++ bytes) (sym (take-append-drop 3 rest) ∙ ap (λ (bytes : List ℕ). bytes ++ drop 3 rest) front) in
+    let whole : row ≡ (text ++ end) ++ drop 3 rest = apart ∙ sym (append_assoc text end (drop 3 rest)) in
+    let size = length-append text end in
+    let place : at + 2 ≡ length (text ++ end) = omega (arith, long, some, size) in
+    let sum = ap length is ∙ length-append text rest in
+    (omega (arith, sum, long, three, some), (λ i. take (place i) (whole i)) ∙ take-append_seam (text ++ end) (drop 3 rest))
 
 -- a text that is read as a request is that of its words
 text_found : (text : List ℕ) (r : Request Command) → request_of text ≡ Some r → FitsRequest r × (text ≡ sentence (request_words r))

@@ -1,6 +1,6 @@
 // Reading entry rows.
 
-ghost use Rattle.std.specs.Prelude.{◌≡◌, ◌≤◌, ◌++◌, ◌∷◌, [], codes, length, take, IfOk, IfSome, Some};
+ghost use Rattle.std.specs.Prelude.{◌≡◌, ◌≤◌, ◌++◌, ◌∷◌, [], codes, length, take, IfOk, IfSome, IsTrue, Some};
 ghost use Rattle.sect_command.specs.declared.command.Command.{Command};
 ghost use Rattle.sect_command.specs.declared.reply.Reply.{Reply};
 ghost use Rattle.sect_once.specs.declared.entry.Entry.{Entry};
@@ -70,6 +70,20 @@ fn read_entry(alloc: Global, words: &mut Parts) -> Result<Entry<Command, Reply>,
     })
 }
 
+/// Whether the bytes are `=` between spaces.
+fn is_equals(bytes: &[u8]) -> bool
+    ensures { IsTrue result → bytes.now ≡ 32 ∷ 61 ∷ 32 ∷ [] }
+{
+    bytes == b" = ".as_slice()
+}
+
+/// Whether `=` between spaces stands in front.
+fn begins_equals(bytes: &[u8]) -> bool
+    ensures { IsTrue result → (3 ≤ length bytes.now) × (take 3 bytes.now ≡ 32 ∷ 61 ∷ 32 ∷ []) }
+{
+    bytes.len() >= 3 && is_equals(&bytes[..3])
+}
+
 /// The bytes of a row before its first `=` and the space there, with the place behind `=` and the next space, where both are
 /// there.
 fn request_bytes(row: &[u8]) -> Option<(&[u8], usize)>
@@ -80,10 +94,10 @@ fn request_bytes(row: &[u8]) -> Option<(&[u8], usize)>
         return None;
     }
     let (text, rest) = row.split_at(at - 1);
-    match rest {
-        [b' ', b'=', b' ', ..] => Some((text, at + 2)),
-        _ => None,
+    if !begins_equals(rest) {
+        return None;
     }
+    Some((text, at + 2))
 }
 
 /// The request of a text.
