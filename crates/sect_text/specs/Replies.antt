@@ -1,5 +1,5 @@
 -- The words of a reply.
-use Rattle.std.specs.Prelude.{ℕ, List, [], ◌∷◌, flat_map, codes, decimal}
+use Rattle.std.specs.Prelude.{ℕ, List, [], ◌∷◌, ◌++◌, flat_map, codes, decimal}
 use Rattle.sect_base.specs.declared.choice.Choice.{Choice}
 use Rattle.sect_catalog.specs.declared.row.CatalogFault.{CatalogFault}
 use Rattle.sect_catalog.specs.declared.row.CatalogFault.TheVariants as catalog
@@ -17,7 +17,7 @@ use Rattle.sect_command.specs.declared.reply.Refusal.{Refusal}
 use Rattle.sect_command.specs.declared.reply.Refusal.TheVariants as refusals
 use Rattle.sect_command.specs.declared.reply.RowFault.{RowFault}
 use Rattle.sect_command.specs.declared.reply.RowFault.TheVariants as faults
-use Rattle.sect_words.specs.Parts.{joined, sentence}
+use Rattle.sect_words.specs.Parts.{behind, joined, sentence}
 use Rattle.sect_words.specs.Words.{choice_text}
 
 -- the fault of an offering's row: its name, and its number where it has one
@@ -74,6 +74,19 @@ result_words results.Skipped = codes "skipped" ∷ []
 -- `STUDENT.RANK RESULT`
 abbrev pub line_words : Line → List (List ℕ)
 line_words l = joined 46 (decimal l.student.0 ∷ decimal l.rank ∷ []) ∷ result_words l.result
+
+-- what became of a course request, behind a space, with each word up to the tree and the space before that
+abbrev pub result_front : LineResult → List ℕ
+result_front (results.Met choice) = behind 32 (result_words (results.Met choice))
+result_front (results.Held course) = behind 32 (result_words (results.Held course))
+result_front (results.Blocked visits tree) = behind 32 (codes "blocked" ∷ decimal visits ∷ [] ∷ [])
+result_front results.Spent = behind 32 (result_words results.Spent)
+result_front (results.Waiting ticket) = behind 32 (result_words (results.Waiting ticket))
+result_front results.Skipped = behind 32 (result_words results.Skipped)
+
+-- a line behind a space, up to its tree
+abbrev pub line_front : Line → List ℕ
+line_front l = (32 ∷ decimal l.student.0) ++ ((46 ∷ decimal l.rank) ++ result_front l.result)
 
 -- a choice alone
 abbrev pub choice_words : Choice → List (List ℕ)
