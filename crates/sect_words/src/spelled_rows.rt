@@ -187,6 +187,7 @@ pub fn put_choice(choice: &Choice, bytes: &mut [u8], end: usize) -> usize
     ensures written { drop result bytes.new ≡ choice_text choice.now ++ drop end bytes.old }
     ensures long { length bytes.new ≡ length bytes.old }
 {
+    // Its contract tells that they are six at most.
     let _ = choice.sections.len();
     let start = put_joined(b'/', choice.sections.as_slice(), bytes, end);
     let start = put_marked(b'/', choice.config.0, bytes, start);
