@@ -6,7 +6,9 @@ ghost use Rattle.sect_text.specs.Replies.{IsPiece, ends_in_tree, line_front, lin
 
 use sect_base::Memory;
 use sect_command::{Line, LineResult};
-use sect_words::{Spelled, print_bytes, put, put_bytes, put_choice, put_long, put_marked};
+use sect_words::{
+    Spelled, print_bytes, put, put_bytes, put_choice, put_long, put_marked, put_short,
+};
 
 /// How many lines are appended in one piece at most. A line takes 132 bytes at most up to its tree.
 const MOST: usize = 7;
@@ -49,7 +51,7 @@ fn put_line(line: &Line, bytes: &mut [u8], end: usize) -> usize
     ensures long { length bytes.new ≡ length bytes.old }
 {
     let start = put_result(&line.result, bytes, end);
-    let start = put_marked(b'.', u32::from(line.rank), bytes, start);
+    let start = put_short(b'.', line.rank, bytes, start);
     put_marked(b' ', line.student.0, bytes, start)
 }
 

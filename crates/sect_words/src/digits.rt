@@ -1,6 +1,6 @@
 // What is written from the last byte to the first into bytes on the stack, so that it is appended in one piece.
 
-ghost use Rattle.std.specs.Prelude.{◌≡◌, ℕ, ◌+◌, ◌*◌, ◌<◌, ◌≤◌, ◌∷◌, ◌++◌, decimal, length, drop, map};
+ghost use Rattle.std.specs.Prelude.{◌≡◌, ℕ, ◌+◌, ◌*◌, ◌≤◌, ◌∷◌, ◌++◌, decimal, length, drop, map};
 ghost use Rattle.sect_words.specs.Days.{day_text};
 ghost use Rattle.sect_words.specs.Parts.{behind};
 ghost use Rattle.sect_words.specs.Words.{caller_text, course_text};
@@ -32,25 +32,6 @@ pub fn put_bytes(word: &[u8], bytes: &mut [u8], end: usize) -> usize
     start
 }
 
-/// Writes the digits of a number below a thousand, as most are, before a place, and returns where they start.
-#[inline(always)]
-fn put_few(number: u32, bytes: &mut [u8], end: usize) -> usize
-    requires { (number < 1000) × ((3 ≤ end) × (end ≤ length bytes.old)) }
-    ensures start { (end ≤ result + 3) × (result ≤ end) }
-    ensures written { drop result bytes.new ≡ decimal number ++ drop end bytes.old }
-    ensures long { length bytes.new ≡ length bytes.old }
-{
-    let ones = put(b'0' + (number % 10) as u8, bytes, end);
-    if number < 10 {
-        return ones;
-    }
-    let tens = put(b'0' + (number / 10 % 10) as u8, bytes, ones);
-    if number < 100 {
-        return tens;
-    }
-    put(b'0' + (number / 10 / 10) as u8, bytes, tens)
-}
-
 /// Writes the number's digits before a place, and returns where they start.
 #[tactic(auto, using(sect_command::proofs::DigitCounts::twenty_digits))]
 pub fn put_long(number: u64, bytes: &mut [u8], end: usize) -> usize
@@ -59,11 +40,7 @@ pub fn put_long(number: u64, bytes: &mut [u8], end: usize) -> usize
     ensures written { drop result bytes.new ≡ decimal number ++ drop end bytes.old }
     ensures long { length bytes.new ≡ length bytes.old }
 {
-    if number < 1000 {
-        put_few(number as u32, bytes, end)
-    } else {
-        write_digits(number, bytes, end)
-    }
+    write_digits(number, bytes, end)
 }
 
 /// Writes the digits of a number of 32 bits before a place, and returns where they start.
@@ -74,11 +51,21 @@ pub(crate) fn put_number(number: u32, bytes: &mut [u8], end: usize) -> usize
     ensures written { drop result bytes.new ≡ decimal number ++ drop end bytes.old }
     ensures long { length bytes.new ≡ length bytes.old }
 {
-    if number < 1000 {
-        put_few(number, bytes, end)
-    } else {
-        write_digits(u64::from(number), bytes, end)
+    write_digits(u64::from(number), bytes, end)
+}
+
+/// Writes the mark and the digits of a small number before a place, and returns where they start.
+pub fn put_short(mark: u8, number: u8, bytes: &mut [u8], end: usize) -> usize
+    requires { (11 ≤ end) × (end ≤ length bytes.old) }
+    ensures start { (end ≤ result + 11) × (result ≤ end) }
+    ensures written { drop result bytes.new ≡ (mark ∷ decimal number) ++ drop end bytes.old }
+    ensures long { length bytes.new ≡ length bytes.old }
+{
+    if number < 10 {
+        let digit = put(b'0' + number, bytes, end);
+        return put(mark, bytes, digit);
     }
+    put_marked(mark, u32::from(number), bytes, end)
 }
 
 /// Writes the mark and the number's digits before a place, and returns where they start.

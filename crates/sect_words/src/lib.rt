@@ -15,7 +15,9 @@ mod spelled;
 mod spelled_rows;
 mod take;
 
-pub use digits::{put, put_bytes, put_caller, put_courses, put_day, put_long, put_marked};
+pub use digits::{
+    put, put_bytes, put_caller, put_courses, put_day, put_long, put_marked, put_short,
+};
 pub use fault::Fault;
 pub use number::{number_up_to, read_between, read_number};
 pub use parts::Parts;
