@@ -1,5 +1,6 @@
 -- The words of a reply.
-use Rattle.std.specs.Prelude.{ℕ, List, [], ◌∷◌, flat_map, codes, decimal}
+use Rattle.std.specs.Prelude.{◌≡◌, ℕ, ◌≤◌, ◌-◌, Bool, true, false, not, List, [], ◌∷◌, ◌++◌, flat_map, codes, decimal, length, take}
+use Rattle.std.specs.List.{list_all}
 use Rattle.sect_base.specs.declared.choice.Choice.{Choice}
 use Rattle.sect_catalog.specs.declared.row.CatalogFault.{CatalogFault}
 use Rattle.sect_catalog.specs.declared.row.CatalogFault.TheVariants as catalog
@@ -17,7 +18,7 @@ use Rattle.sect_command.specs.declared.reply.Refusal.{Refusal}
 use Rattle.sect_command.specs.declared.reply.Refusal.TheVariants as refusals
 use Rattle.sect_command.specs.declared.reply.RowFault.{RowFault}
 use Rattle.sect_command.specs.declared.reply.RowFault.TheVariants as faults
-use Rattle.sect_words.specs.Parts.{joined, sentence}
+use Rattle.sect_words.specs.Parts.{behind, joined, sentence}
 use Rattle.sect_words.specs.Words.{choice_text}
 
 -- the fault of an offering's row: its name, and its number where it has one
@@ -74,6 +75,48 @@ result_words results.Skipped = codes "skipped" ∷ []
 -- `STUDENT.RANK RESULT`
 abbrev pub line_words : Line → List (List ℕ)
 line_words l = joined 46 (decimal l.student.0 ∷ decimal l.rank ∷ []) ∷ result_words l.result
+
+-- what became of a course request, behind a space, with each word up to the tree and the space before that
+abbrev pub result_front : LineResult → List ℕ
+result_front (results.Met choice) = behind 32 (result_words (results.Met choice))
+result_front (results.Held course) = behind 32 (result_words (results.Held course))
+result_front (results.Blocked visits tree) = behind 32 (codes "blocked" ∷ decimal visits ∷ [] ∷ [])
+result_front results.Spent = behind 32 (result_words results.Spent)
+result_front (results.Waiting ticket) = behind 32 (result_words (results.Waiting ticket))
+result_front results.Skipped = behind 32 (result_words results.Skipped)
+
+-- whether what became of a course request ends in a tree
+abbrev pub ends_in_tree : LineResult → Bool
+ends_in_tree (results.Met choice) = false
+ends_in_tree (results.Held course) = false
+ends_in_tree (results.Blocked visits tree) = true
+ends_in_tree results.Spent = false
+ends_in_tree (results.Waiting ticket) = false
+ends_in_tree results.Skipped = false
+
+-- the tree that it ends in, or nothing
+abbrev pub tree_rest : LineResult → List ℕ
+tree_rest (results.Met choice) = []
+tree_rest (results.Held course) = []
+tree_rest (results.Blocked visits tree) = tree_text tree
+tree_rest results.Spent = []
+tree_rest (results.Waiting ticket) = []
+tree_rest results.Skipped = []
+
+-- a line behind a space, up to its tree
+abbrev pub line_front : Line → List ℕ
+line_front l = (32 ∷ decimal l.student.0) ++ ((46 ∷ decimal l.rank) ++ result_front l.result)
+
+-- the line ends in no tree
+abbrev pub is_plain : Line → Bool
+is_plain l = not (ends_in_tree l.result)
+
+-- so many of the lines are appended in one piece: one or more, seven at most, and each but the last ends in no tree
+pub record IsPiece (lines : List Line) (n : ℕ) : Type 0 where
+  pub some : 1 ≤ n
+  pub within : n ≤ length lines
+  pub few : n ≤ 7
+  pub plain : list_all is_plain (take (n - 1) lines) ≡ true
 
 -- a choice alone
 abbrev pub choice_words : Choice → List (List ℕ)

@@ -2,6 +2,7 @@
 #![tactic(auto)]
 
 mod command_text;
+mod line_text;
 mod phrase;
 mod reply_text;
 mod row_text;

@@ -2,7 +2,7 @@
 
 ghost use Rattle.std.specs.Prelude.{◌≡◌, ℕ, ◌++◌, ◌∷◌, [], OnOk, OnErr, length, take, codes, flat_map, decimal};
 ghost use Rattle.sect_command.specs.TreeText.{tree_text};
-ghost use Rattle.sect_words.specs.Parts.{behind, sentence, joined};
+ghost use Rattle.sect_words.specs.Parts.{behind, sentence};
 ghost use Rattle.sect_words.specs.Words.{choice_text};
 ghost use Rattle.sect_text.specs.Replies.{
   catalog_fault_words,
@@ -10,22 +10,22 @@ ghost use Rattle.sect_text.specs.Replies.{
   reserve_fault_words,
   row_fault_words,
   refusal_words,
-  result_words,
   line_words,
   choice_words,
   reply_words,
   reply_text,
 };
 
+use crate::line_text::print_lines;
 use crate::phrase::{
     Phrase, print_each, print_key, print_named, print_pair, print_three, print_word,
 };
-use sect_base::{Block, Choice, Memory};
+use sect_base::{Choice, Memory};
 use sect_catalog::CatalogFault;
-use sect_command::{Line, LineResult, Refusal, Reply, RowFault};
+use sect_command::{Refusal, Reply, RowFault};
 use sect_people::RequestFault;
 use sect_reserve::ReserveFault;
-use sect_words::{Spelled, print_bytes, print_marked, print_number};
+use sect_words::print_bytes;
 
 /// The fault of an offering's row.
 fn print_catalog_fault(fault: &CatalogFault, into: &mut Vec<u8>) -> Result<(), Memory>
@@ -111,62 +111,6 @@ fn print_refusal(refusal: &Refusal, into: &mut Vec<u8>) -> Result<(), Memory>
     }
 }
 
-/// How many decisions were visited, and the tree.
-fn print_blocked(visits: u32, tree: &Block, into: &mut Vec<u8>) -> Result<(), Memory>
-    ensures text { OnOk result (into.new.items ≡ into.old.items ++ behind 32 (decimal visits ∷ tree_text tree.now ∷ [])) }
-    ensures front { take (length into.old.items) into.new.items ≡ into.old.items }
-{
-    print_word(&visits, into)?;
-    print_word(tree, into)
-}
-
-/// What became of a course request.
-fn print_result(result_of: &LineResult, into: &mut Vec<u8>) -> Result<(), Memory>
-    ensures text { OnOk result (into.new.items ≡ into.old.items ++ behind 32 (result_words result_of.now)) }
-    ensures front { take (length into.old.items) into.new.items ≡ into.old.items }
-{
-    match result_of {
-        LineResult::Met(choice) => print_named(b"met", choice, into),
-        LineResult::Held(course) => print_named(b"held", course, into),
-        LineResult::Blocked(visits, tree) => {
-            print_key(b"blocked", into)?;
-            print_blocked(*visits, tree, into)
-        }
-        LineResult::Spent => print_key(b"spent", into),
-        LineResult::Waiting(ticket) => print_named(b"waiting", ticket, into),
-        LineResult::Skipped => print_key(b"skipped", into),
-    }
-}
-
-/// The request of a line, as the student and its position.
-#[derive(Clone, Copy)]
-struct Request {
-    student: u32,
-    rank: u8,
-}
-
-impl Spelled for Request {
-    ghost spelling = { λ r. joined 46 (decimal r.student ∷ decimal r.rank ∷ []) };
-
-    fn print(&self, into: &mut Vec<u8>) -> Result<(), Memory> {
-        print_number(self.student, into)?;
-        print_marked(b'.', &self.rank, into)
-    }
-}
-
-impl Phrase for Line {
-    ghost words = { line_words };
-
-    fn print_words(&self, into: &mut Vec<u8>) -> Result<(), Memory> {
-        let request = Request {
-            student: self.student.0,
-            rank: self.rank,
-        };
-        print_word(&request, into)?;
-        print_result(&self.result, into)
-    }
-}
-
 impl Phrase for Choice {
     ghost words = { choice_words };
 
@@ -192,7 +136,7 @@ pub(crate) fn print_answer_words(reply: &Reply, into: &mut Vec<u8>) -> Result<()
         Reply::Placed(ticket, choice) => print_three(b"placed", ticket, choice, into),
         Reply::Batched(lines) => {
             print_bytes(b"batched", into)?;
-            print_each(lines.as_slice(), into)
+            print_lines(lines.as_slice(), into)
         }
         Reply::Blocked(visits, tree) => print_three(b"blocked", visits, tree, into),
         Reply::Spent(budget) => print_pair(b"spent", budget, into),

@@ -102,15 +102,6 @@ audience_text a = joined 58 (audience_parts a)
 abbrev pub sections_text : List SectionId → List ℕ
 sections_text ids = joined 43 (map section_text ids)
 
--- the first section of a choice
-abbrev pub first_section_text : List SectionId → List ℕ
-first_section_text [] = []
-first_section_text (id ∷ ids) = section_text id
-
--- `COURSE/RESERVATION/CONFIG/SECTION`, where the section is the first
-abbrev pub choice_front : Choice → List ℕ
-choice_front c = joined 47 (decimal c.course.0 ∷ optional_text reservation_text c.reservation ∷ decimal c.config.0 ∷ first_section_text c.sections ∷ [])
-
 -- `COURSE/RESERVATION/CONFIG/SECTIONS`
 abbrev pub choice_text : Choice → List ℕ
 choice_text c = joined 47 (decimal c.course.0 ∷ optional_text reservation_text c.reservation ∷ decimal c.config.0 ∷ sections_text c.sections ∷ [])

@@ -15,7 +15,9 @@ mod spelled;
 mod spelled_rows;
 mod take;
 
-pub use digits::{put, put_bytes, put_caller, put_courses, put_day, put_long, put_marked};
+pub use digits::{
+    put, put_bytes, put_caller, put_courses, put_day, put_long, put_marked, put_short,
+};
 pub use fault::Fault;
 pub use number::{number_up_to, read_between, read_number};
 pub use parts::Parts;
@@ -24,3 +26,4 @@ pub use read_terms::read_meetings;
 pub use readable::{Readable, read_all, read_list};
 pub use same::same_bytes;
 pub use spelled::{Spelled, print_list, print_marked, print_whole};
+pub use spelled_rows::put_choice;

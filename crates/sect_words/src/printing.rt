@@ -50,11 +50,11 @@ pub(crate) fn print_number_after(mark: u8, number: u64, into: &mut Vec<u8>) -> R
 #[inline(always)]
 pub(crate) fn print_behind_name(
     name: &[u8],
-    bytes: &mut [u8; 64],
+    bytes: &mut [u8],
     start: usize,
     into: &mut Vec<u8>,
 ) -> Result<(), Memory>
-    requires { (16 ≤ start) × (start ≤ 64) }
+    requires { (16 ≤ start) × (start ≤ length bytes.old) }
     ensures text { OnOk result (into.new.items ≡ into.old.items ++ (name.now ++ drop start bytes.old)) }
     ensures front { take (length into.old.items) into.new.items ≡ into.old.items }
 {

@@ -1,6 +1,6 @@
 // What is printed in one word with marks in it.
 
-ghost use Rattle.std.specs.Prelude.{◌≡◌, ◌≤◌, ◌+◌, ◌++◌, ◌∷◌, [], OnOk, decimal, drop, length, map, take, codes};
+ghost use Rattle.std.specs.Prelude.{◌≡◌, ◌≤◌, ◌+◌, ◌*◌, ◌++◌, ◌∷◌, [], OnOk, decimal, drop, length, map, take, codes};
 ghost use Rattle.sect_words.specs.Parts.{behind};
 ghost use Rattle.sect_words.specs.Words.{
   course_row_text,
@@ -9,13 +9,12 @@ ghost use Rattle.sect_words.specs.Words.{
   first_major_text,
   audience_text,
   choice_text,
-  choice_front,
-  first_section_text,
+  sections_text,
   reservation_text,
   optional_text,
 };
 
-use crate::digits::{put, put_marked, put_number};
+use crate::digits::{put, put_each, put_marked, put_number};
 use crate::printing::{print_behind_name, print_bytes};
 use crate::spelled::{Spelled, print_behind, print_marked};
 use sect_base::{
@@ -165,48 +164,52 @@ fn put_reservation(
     }
 }
 
-/// Writes the mark and the first section before a place, and returns where they start.
-fn put_first_section(mark: u8, sections: &[SectionId], bytes: &mut [u8], end: usize) -> usize
-    requires { (11 ≤ end) × (end ≤ length bytes.old) }
-    ensures start { (end ≤ result + 11) × (result ≤ end) }
-    ensures written { drop result bytes.new ≡ (mark ∷ first_section_text sections.now) ++ drop end bytes.old }
+/// Writes the mark and the numbers of sections with `+` between each two before a place, and returns where they start.
+fn put_joined(mark: u8, sections: &[SectionId], bytes: &mut [u8], end: usize) -> usize
+    requires { (11 * length sections.now + 1 ≤ end) × (end ≤ length bytes.old) }
+    ensures start { (end ≤ result + 11 * length sections.now + 1) × (result ≤ end) }
+    ensures written { drop result bytes.new ≡ (mark ∷ sections_text sections.now) ++ drop end bytes.old }
     ensures long { length bytes.new ≡ length bytes.old }
 {
     match sections {
         [] => put(mark, bytes, end),
-        [first, ..] => put_marked(mark, first.0, bytes, end),
+        [first, rest @ ..] => {
+            let start = put_each(b'+', rest, bytes, end);
+            put_marked(mark, first.0, bytes, start)
+        }
     }
 }
 
-/// Writes a choice up to its first section at the end of the bytes, and returns where it starts.
-#[inline(always)]
-fn put_choice_front(choice: &Choice, bytes: &mut [u8; 64]) -> usize
-    ensures start { (17 ≤ result) × (result ≤ 64) }
-    ensures written { drop result bytes.new ≡ choice_front choice.now }
+/// Writes a choice before a place, and returns where it starts.
+pub fn put_choice(choice: &Choice, bytes: &mut [u8], end: usize) -> usize
+    requires { (100 ≤ end) × (end ≤ length bytes.old) }
+    ensures start { (end ≤ result + 100) × (result ≤ end) }
+    ensures written { drop result bytes.new ≡ choice_text choice.now ++ drop end bytes.old }
+    ensures long { length bytes.new ≡ length bytes.old }
 {
-    let start = put_first_section(b'/', choice.sections.as_slice(), bytes, 64);
+    // Its contract tells that they are six at most.
+    let _ = choice.sections.len();
+    let start = put_joined(b'/', choice.sections.as_slice(), bytes, end);
     let start = put_marked(b'/', choice.config.0, bytes, start);
     let start = put_reservation(b'/', choice.reservation, bytes, start);
     put_number(choice.course.0, bytes, start)
 }
 
-/// All up to the first section is appended in one piece.
+/// It is appended in one piece.
 impl Spelled for Choice {
     ghost spelling = { choice_text };
 
     fn print(&self, into: &mut Vec<u8>) -> Result<(), Memory> {
-        let mut bytes = [0; 64];
-        let start = put_choice_front(self, &mut bytes);
-        print_bytes(&bytes[start..], into)?;
-        print_later(self.sections.as_slice(), into)
+        let mut bytes = [0; 112];
+        let start = put_choice(self, &mut bytes, 112);
+        print_bytes(&bytes[start..], into)
     }
 
     #[inline(always)]
     fn print_named(&self, name: &[u8], mark: u8, into: &mut Vec<u8>) -> Result<(), Memory> {
-        let mut bytes = [0; 64];
-        let start = put_choice_front(self, &mut bytes);
+        let mut bytes = [0; 128];
+        let start = put_choice(self, &mut bytes, 128);
         let start = put(mark, &mut bytes, start);
-        print_behind_name(name, &mut bytes, start, into)?;
-        print_later(self.sections.as_slice(), into)
+        print_behind_name(name, &mut bytes, start, into)
     }
 }
