@@ -66,3 +66,8 @@ none-given p [] held e = sym (none held)
     none [] = refl
     none (x ∷ xs) = none xs
 none-given p (c ∷ cs) held e = let z : length (c ∷ cs) ≡ 0 = eqb-true (length (c ∷ cs)) 0 e in absurd (omega (arith, z))
+
+-- where no choice is made, none counts
+pub none-made : (p : Choice → Bool) (done : List Choice) → (length done == 0) ≡ true → 0 ≡ count_by p done
+none-made p [] e = refl
+none-made p (c ∷ cs) e = let z : length (c ∷ cs) ≡ 0 = eqb-true (length (c ∷ cs)) 0 e in absurd (omega (arith, z))

@@ -1,9 +1,8 @@
 -- The least of numbers taken one after another, and the first of rules.
-use Rattle.std.specs.Prelude.{◌≡◌, ℕ, zero, suc, ◌+◌, ◌-◌, ◌<◌, ◌≤◌, Bool, true, false, not, ◌&&◌, ◌||◌, nat_lt, nat_le, cond, List, [], ◌∷◌, ◌++◌, length, map, filter, flat_map, Option, Some, None, refl}
+use Rattle.std.specs.Prelude.{◌≡◌, ℕ, zero, suc, ◌+◌, ◌<◌, ◌≤◌, Bool, true, false, not, ◌&&◌, ◌||◌, nat_lt, nat_le, cond, List, [], ◌∷◌, ◌++◌, length, map, filter, flat_map, Option, Some, None, refl}
 use Rattle.std.specs.List.{list_any, enumerate_from, filter_map, cons_option}
 use Rattle.std.specs.Option.{option_map_or}
 use Rattle.std.proofs.Common.{sym, ◌∙◌, ap, arith, take, drop, get_or, append_assoc}
-use Rattle.std.proofs.Math.Seq.{take-length}
 use Rattle.std.proofs.lemmas.Bool.Decides.{nat_tests}
 use Rattle.std.proofs.lemmas.List.{append-nil}
 use Rattle.sect_people.specs.declared.row.Ask.TheVariants.{Course as asks_course, Free}
@@ -34,18 +33,19 @@ lesser-assoc n None b = refl
 lesser-assoc n (Some m) None = refl
 lesser-assoc n (Some m) (Some k) = least-three n m k
 
+-- nothing more leaves the least so far
+pub lesser-none : (a : Option ℕ) → a ≡ lesser_of a None
+lesser-none None = refl
+lesser-none (Some n) = refl
+
+-- one after another is all together
+pub lesser-join : (a b c : Option ℕ) → lesser_of (lesser_of a b) c ≡ lesser_of a (lesser_of b c)
+lesser-join None b c = refl
+lesser-join (Some n) b c = ap Some (sym (lesser-assoc n b c))
+
 pub least-append : (ms ns : List ℕ) → least (ms ++ ns) ≡ lesser_of (least ms) (least ns)
 least-append [] ns = refl
 least-append (m ∷ ms) ns = (λ i. Some (lesser m (least-append ms ns i))) ∙ ap Some (lesser-assoc m (least ms) (least ns))
-
--- the first doesn't pass
-pub least-skip : {X : Type 0} (f : X → ℕ) (test : X → Bool) (xs : List X) (d : X) → 1 ≤ length xs → test (get_or xs 0 d) ≡ false
-    → least (map f (filter test (take (length xs - 1) (drop 1 xs)))) ≡ least (map f (filter test xs))
-least-skip f test [] d h e = absurd (omega (arith, h))
-least-skip f test (x ∷ xs) d h e =
-    let n : length (x ∷ xs) - 1 ≡ length xs = omega arith in
-    (λ i. least (map f (filter test (take (n i) xs)))) ∙ (λ i. least (map f (filter test (take-length xs i))))
-    ∙ (λ i. least (map f (cond (sym e i) (x ∷ filter test xs) (filter test xs))))
 
 flat-append : {X Y : Type 0} (f : X → List Y) (xs ys : List X) → flat_map f (xs ++ ys) ≡ flat_map f xs ++ flat_map f ys
 flat-append f [] ys = refl
@@ -65,6 +65,42 @@ least-more f xs i x h e =
     (λ j. least (flat_map f (take-next xs i x h e j)))
     ∙ ap least (flat-append f (take i xs) (x ∷ []) ∙ ap (λ zs. flat_map f (take i xs) ++ zs) (append-nil (f x)))
     ∙ least-append (flat_map f (take i xs)) (f x)
+
+-- what passes of one more behind the others
+pass-more : {X : Type 0} (f : X → ℕ) (test : X → Bool) (xs : List X) (x : X) → map f (filter test (xs ++ x ∷ [])) ≡ map f (filter test xs) ++ map f (cond (test x) (x ∷ []) [])
+pass-more f test [] x = by_test (test x)
+  where
+    by_test : (b : Bool) → map f (cond b (x ∷ []) []) ≡ map f (cond b (x ∷ []) [])
+    by_test b = refl
+pass-more {X = X} f test (y ∷ ys) x = by_test (test y) (pass-more f test ys x)
+  where
+    by_test : (b : Bool) → map f (filter test (ys ++ x ∷ [])) ≡ map f (filter test ys) ++ map f (cond (test x) (x ∷ []) [])
+        → map f (cond b (y ∷ filter test (ys ++ x ∷ [])) (filter test (ys ++ x ∷ []))) ≡ map f (cond b (y ∷ filter test ys) (filter test ys)) ++ map f (cond (test x) (x ∷ []) [])
+    by_test true ih = ap (λ ns. f y ∷ ns) ih
+    by_test false ih = ih
+
+-- the least so far, and of one more
+pub least-one : {X : Type 0} (f : X → ℕ) (test : X → Bool) (xs : List X) (i : ℕ) (x : X) → i < length xs → x ≡ get_or xs i x
+    → least (map f (filter test (take (i + 1) xs))) ≡ lesser_of (least (map f (filter test (take i xs)))) (cond (test x) (Some (f x)) None)
+least-one f test xs i x h e =
+    (λ j. least (map f (filter test (take-next xs i x h e j))))
+    ∙ ap least (pass-more f test (take i xs) x)
+    ∙ least-append (map f (filter test (take i xs))) (map f (cond (test x) (x ∷ []) []))
+    ∙ ap (lesser_of (least (map f (filter test (take i xs))))) (by_test (test x))
+  where
+    by_test : (b : Bool) → least (map f (cond b (x ∷ []) [])) ≡ cond b (Some (f x)) None
+    by_test true = refl
+    by_test false = refl
+
+-- the same of what stands at a place
+pub least-got : {X : Type 0} (f : X → ℕ) (test : X → Bool) (xs : List X) (i : ℕ) (d : X) → i < length xs
+    → least (map f (filter test (take (i + 1) xs))) ≡ lesser_of (least (map f (filter test (take i xs)))) (cond (test (get_or xs i d)) (Some (f (get_or xs i d))) None)
+least-got {X = X} f test xs i d h = least-one f test xs i (get_or xs i d) h (same xs i d (get_or xs i d) h)
+  where
+    same : (xs : List X) (i : ℕ) (d e : X) → i < length xs → get_or xs i d ≡ get_or xs i e
+    same [] i d e h = absurd (omega (arith, h))
+    same (x ∷ xs) zero d e h = refl
+    same (x ∷ xs) (suc i) d e h = same xs i d e (omega (arith, h))
 
 -- what is left out counts for nothing
 pub flat-kept : {X Y : Type 0} (f : X → List Y) (p : X → Bool) (xs : List X) → flat_map f (filter (λ x. not (p x)) xs) ≡ flat_map (λ x. cond (p x) [] (f x)) xs

@@ -3,6 +3,7 @@ use Rattle.std.specs.Prelude.{◌≡◌, ℕ, ◌+◌, ◌-◌, ◌≤◌, pos, 
 use Rattle.std.specs.List.{list_all}
 use Rattle.std.specs.Option.{option_map, option_map_or, is_none}
 use Rattle.std.proofs.Common.{sym, ◌∙◌, ap, arith, zero, suc, ◌<◌, length, drop, get_or, drop-cons}
+use Rattle.std.proofs.lemmas.Bool.{eqb-true}
 use Rattle.std.proofs.lemmas.Bool.Decides.{nat_tests}
 use Rattle.std.proofs.lemmas.Int.{ints}
 use Rattle.std.proofs.lemmas.List.Sums.{sum_by-cons}
@@ -100,6 +101,11 @@ taken-end w level left rs i h = ap (takes_all w level left) (drop-past rs i h)
     drop-past [] (suc i) h = refl
     drop-past (r ∷ rs) zero h = absurd (omega (arith, h))
     drop-past (r ∷ rs) (suc i) h = drop-past rs i (omega (arith, h))
+
+-- no reservations take all of nothing alone
+pub taken-none : (w : World) (level : Level) (left : ℕ) (rs : List Reservation) → (length rs == 0) ≡ true → left == 0 ≡ takes_all w level left rs
+taken-none w level left [] e = refl
+taken-none w level left (r ∷ rs) e = let z : length (r ∷ rs) ≡ 0 = eqb-true (length (r ∷ rs)) 0 e in absurd (omega (arith, z))
 
 -- a reservation names its own offering alone
 pub own-offering : (rs : List Reservation) (id : OfferingId) → list_all (λ r. not (r.offering.0 == id.0) || r.offering.0 == id.0) rs ≡ true

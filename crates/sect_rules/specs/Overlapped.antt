@@ -1,5 +1,5 @@
 -- The least of two, where there are any.
-use Rattle.std.specs.Prelude.{ℕ, Bool, false, nat_le, ◌||◌, cond, List, [], map, filter, Option, Some, None}
+use Rattle.std.specs.Prelude.{ℕ, Bool, true, false, nat_le, nat_lt, ◌||◌, cond, List, [], map, filter, Option, Some, None}
 use Rattle.sect_base.specs.Pattern.{lists_overlap}
 use Rattle.sect_model.specs.Data.{SectionId, Choice, Reservation, Pattern}
 use Rattle.sect_model.specs.World.{World, meetings_of}
@@ -14,6 +14,10 @@ lesser n later = option_map_or (λ m. cond (nat_le n m) n m) later n
 abbrev pub lesser_of : Option ℕ → Option ℕ → Option ℕ
 lesser_of None later = later
 lesser_of (Some n) later = Some (lesser n later)
+
+-- the number is below the least so far, or is the first
+abbrev pub is_lesser : ℕ → Option ℕ → Bool
+is_lesser n so_far = option_map_or (λ m. nat_lt n m) so_far true
 
 -- the sections of a choice that these meetings overlap, where neither permits it
 abbrev pub overlapped : World → Bool → List Pattern → Choice → List ℕ

@@ -31,12 +31,20 @@ fn counts_at(world: &World, level: Level, choice: &Choice) -> bool
 }
 
 /// How many of the student's enrolments leave and count at the level. Where nothing is given up, none is looked at.
+#[inline(always)]
 pub fn counts_given(world: &World, level: Level, give: &[CourseId], student: StudentId) -> usize
     ensures { result ≡ count_by (λ e. given_up give.now e.choice.course && choice_counts world.now.world level e.choice) (held_by world.now.world student) }
 {
     if give.is_empty() {
         return 0;
     }
+    counts_leaving(world, level, give, student)
+}
+
+/// How many of the student's enrolments leave and count at the level, each of which is looked at.
+fn counts_leaving(world: &World, level: Level, give: &[CourseId], student: StudentId) -> usize
+    ensures { result ≡ count_by (λ e. given_up give.now e.choice.course && choice_counts world.now.world level e.choice) (held_by world.now.world student) }
+{
     world
         .enrolments(student)
         .iter()
@@ -44,8 +52,19 @@ pub fn counts_given(world: &World, level: Level, give: &[CourseId], student: Stu
         .count()
 }
 
-/// How many of the choices count at the level.
+/// How many of the choices count at the level. Where none is made, nothing is called.
+#[inline(always)]
 pub fn counts_made(world: &World, level: Level, done: &[Choice]) -> usize
+    ensures { result ≡ count_by (choice_counts world.now.world level) done.now }
+{
+    if done.is_empty() {
+        return 0;
+    }
+    counts_among(world, level, done)
+}
+
+/// How many of the choices count at the level, each of which is looked at.
+fn counts_among(world: &World, level: Level, done: &[Choice]) -> usize
     ensures { result ≡ count_by (choice_counts world.now.world level) done.now }
 {
     done.iter()

@@ -128,6 +128,7 @@ impl<'a> Moment<'a> {
     }
 
     /// The number of places at the level, None where it has no limit.
+    #[inline(always)]
     pub fn places(&self, level: Level) -> Option<u64>
         ensures { result ≡ places_at self.now.at level }
     {
@@ -135,6 +136,7 @@ impl<'a> Moment<'a> {
     }
 
     /// The number of enrolments at the level.
+    #[inline(always)]
     pub fn count(&self, level: Level) -> u64
         ensures { result ≡ count_of self.now.at level }
     {

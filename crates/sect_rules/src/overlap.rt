@@ -1,6 +1,6 @@
 // The least section that overlaps another one.
 
-ghost use Rattle.std.specs.Prelude.{◌≡◌, ◌++◌, map, filter, cond, flat_map, option_copied};
+ghost use Rattle.std.specs.Prelude.{◌≡◌, ◌++◌, map, filter, cond, flat_map, option_copied, Some, None};
 ghost use Rattle.std.specs.Prelude.{[], ◌||◌, false, IsTrue};
 ghost use Rattle.std.specs.List.{list_any, All};
 ghost use Rattle.std.specs.Option.{option_map_or};
@@ -10,7 +10,7 @@ ghost use Rattle.sect_model.specs.World.{meetings_of};
 ghost use Rattle.sect_model.specs.Allowed.{permits_overlap as choice_permits};
 ghost use Rattle.sect_model.specs.Rules.{least, held_overlaps, own_overlaps};
 ghost use Rattle.sect_rules.specs.Moment.{is_given as given_up};
-ghost use Rattle.sect_rules.specs.Overlapped.{lesser_of as lesser_option, overlapped, own_overlapped};
+ghost use Rattle.sect_rules.specs.Overlapped.{lesser_of as lesser_option, is_lesser, overlapped, own_overlapped};
 
 use crate::held::is_given;
 use crate::moment::Moment;
@@ -50,6 +50,27 @@ pub fn lesser_of(a: Option<u32>, b: Option<u32>) -> Option<u32>
     }
 }
 
+/// The lesser of the least so far and the number, if this one counts.
+pub fn lesser_if(so_far: Option<u32>, counts: bool, number: u32) -> Option<u32>
+    ensures { result ≡ lesser_option so_far (cond counts (Some number) None) }
+{
+    if counts {
+        lesser_of(so_far, Some(number))
+    } else {
+        so_far
+    }
+}
+
+/// Whether the number is below the least so far, or is the first.
+fn is_below(number: u32, so_far: Option<u32>) -> bool
+    ensures { result ≡ is_lesser number so_far }
+{
+    match so_far {
+        Some(least) => number < least,
+        None => true,
+    }
+}
+
 /// Whether there is a reservation, and it permits overlap.
 pub fn is_overlapping(r: Option<&Reservation>) -> bool
     ensures { result ≡ option_map_or (λ r. r.overlap) (option_copied r.entry) false }
@@ -62,6 +83,7 @@ pub fn is_overlapping(r: Option<&Reservation>) -> bool
 
 impl Moment<'_> {
     /// When a section meets.
+    #[inline(always)]
     pub fn meetings(&self, section: SectionId) -> &[Meeting]
         ensures { result.now ≡ meetings_of self.now.at section }
     {
@@ -81,20 +103,55 @@ impl Moment<'_> {
         }
     }
 
-    /// The least of the sections that the meetings overlap.
-    fn least_of(&self, meetings: &[Meeting], others: &[SectionId]) -> Option<u32>
-        ensures { result ≡ least (map (λ s. s.0) (filter (λ s. lists_overlap meetings.now (meetings_of self.now.at s)) others.now)) }
+    /// The lesser of the least so far and this section, if the meetings overlap it. A section that isn't below the least so
+    /// far isn't looked up.
+    #[inline(always)]
+    fn least_with(
+        &self,
+        meetings: &[Meeting],
+        section: &SectionId,
+        so_far: Option<u32>,
+    ) -> Option<u32>
+        ensures { result ≡ lesser_option so_far (cond (lists_overlap meetings.now (meetings_of self.now.at section.now)) (Some section.now.0) None) }
     {
-        match others {
-            [] => None,
-            [first, rest @ ..] => {
-                let later = self.least_of(meetings, rest);
-                if any_overlap(meetings, self.meetings(*first)) {
-                    lesser_of(Some(first.0), later)
-                } else {
-                    later
-                }
-            }
+        if is_below(section.0, so_far) && any_overlap(meetings, self.meetings(*section)) {
+            Some(section.0)
+        } else {
+            so_far
+        }
+    }
+
+    /// The least of the least so far and the sections that the meetings overlap.
+    fn least_of(
+        &self,
+        meetings: &[Meeting],
+        others: &[SectionId],
+        so_far: Option<u32>,
+    ) -> Option<u32>
+        ensures { result ≡ lesser_option so_far (least (map (λ s. s.0) (filter (λ s. lists_overlap meetings.now (meetings_of self.now.at s)) others.now))) }
+    {
+        let mut least = so_far;
+        for section in others {
+            least = self.least_with(meetings, section, least);
+        }
+        least
+    }
+
+    /// The lesser of the least so far and this section, if it overlaps the meetings. A section that isn't below the least so
+    /// far isn't looked up.
+    #[inline(always)]
+    fn before_with(
+        &self,
+        meetings: &[Meeting],
+        section: &SectionId,
+        so_far: Option<u32>,
+    ) -> Option<u32>
+        ensures { result ≡ lesser_option so_far (cond (lists_overlap (meetings_of self.now.at section.now) meetings.now) (Some section.now.0) None) }
+    {
+        if is_below(section.0, so_far) && any_overlap(self.meetings(*section), meetings) {
+            Some(section.0)
+        } else {
+            so_far
         }
     }
 
@@ -102,43 +159,44 @@ impl Moment<'_> {
     fn least_before(&self, meetings: &[Meeting], others: &[SectionId]) -> Option<u32>
         ensures { result ≡ least (map (λ s. s.0) (filter (λ s. lists_overlap (meetings_of self.now.at s) meetings.now) others.now)) }
     {
-        match others {
-            [] => None,
-            [first, rest @ ..] => {
-                let later = self.least_before(meetings, rest);
-                if any_overlap(self.meetings(*first), meetings) {
-                    lesser_of(Some(first.0), later)
-                } else {
-                    later
-                }
-            }
+        let mut least = None;
+        for section in others {
+            least = self.before_with(meetings, section, least);
         }
+        least
     }
 
-    /// The least section of the choice that the meetings overlap, where neither permits it.
-    fn least_in(&self, permitted: bool, meetings: &[Meeting], choice: &Choice) -> Option<u32>
-        ensures { result ≡ least (overlapped self.now.at permitted meetings.now choice.now) }
+    /// The least of the least so far and the sections of the choice that the meetings overlap, where neither permits it.
+    fn least_in(
+        &self,
+        permitted: bool,
+        meetings: &[Meeting],
+        choice: &Choice,
+        so_far: Option<u32>,
+    ) -> Option<u32>
+        ensures { result ≡ lesser_option so_far (least (overlapped self.now.at permitted meetings.now choice.now)) }
     {
         if permitted || self.permits_overlap(choice) {
-            return None;
+            return so_far;
         }
-        self.least_of(meetings, choice.sections.as_slice())
+        self.least_of(meetings, choice.sections.as_slice(), so_far)
     }
 
-    /// The least section of the enrolment that the meetings overlap, where it stays.
+    /// The least of the least so far and the sections of the enrolment that the meetings overlap, where it stays.
     fn least_where_kept(
         &self,
         permitted: bool,
         meetings: &[Meeting],
         give: &[CourseId],
         choice: &Choice,
+        so_far: Option<u32>,
     ) -> Option<u32>
-        ensures { result ≡ least (cond (given_up give.now choice.now.course) [] (overlapped self.now.at permitted meetings.now choice.now)) }
+        ensures { result ≡ lesser_option so_far (least (cond (given_up give.now choice.now.course) [] (overlapped self.now.at permitted meetings.now choice.now))) }
     {
         if is_given(give, choice.course) {
-            None
+            so_far
         } else {
-            self.least_in(permitted, meetings, choice)
+            self.least_in(permitted, meetings, choice, so_far)
         }
     }
 
@@ -155,8 +213,7 @@ impl Moment<'_> {
     {
         let mut least = None;
         for e in held {
-            let later = self.least_where_kept(permitted, meetings, give, &e.choice);
-            least = lesser_of(least, later);
+            least = self.least_where_kept(permitted, meetings, give, &e.choice, least);
         }
         least
     }
@@ -167,7 +224,7 @@ impl Moment<'_> {
     {
         let mut least = None;
         for choice in done {
-            least = lesser_of(least, self.least_in(permitted, meetings, choice));
+            least = self.least_in(permitted, meetings, choice, least);
         }
         least
     }

@@ -11,7 +11,7 @@ ghost use Rattle.sect_model.specs.Rules.{first_broken, least, chosen_rules, none
 
 use crate::ground::Ground;
 use crate::moment::Moment;
-use crate::overlap::lesser_of;
+use crate::overlap::lesser_if;
 use crate::reserved::{is_over, limited};
 use sect_base::{CourseId, Level, Rule};
 use sect_catalog::OfferingRow;
@@ -43,17 +43,12 @@ impl Moment<'_> {
     fn least_must(&self, course: CourseId, rows: &[Reservation]) -> Option<u32>
         ensures { result ≡ least (map (λ r. r.id.0) (filter (must_be_used self.now.at self.now.student course) rows.now)) }
     {
-        match rows {
-            [] => None,
-            [first, rest @ ..] => {
-                let later = self.least_must(course, rest);
-                if self.must_use(course, first) {
-                    lesser_of(Some(first.id.0), later)
-                } else {
-                    later
-                }
-            }
+        let mut least = None;
+        for r in rows {
+            let must = self.must_use(course, r);
+            least = lesser_if(least, must, r.id.0);
         }
+        least
     }
 
     /// Whether the reservation is used as often as its limit says.

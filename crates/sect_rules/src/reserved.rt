@@ -7,7 +7,7 @@ ghost use Rattle.sect_model.specs.Counts.{permits_over, count_of};
 ghost use Rattle.sect_model.specs.Allowed.{reservations_of};
 ghost use Rattle.sect_model.specs.Space.{places_at, names as level_named, named_by, space_of};
 ghost use Rattle.sect_model.specs.Rules.{is_full as full_at, is_kept as kept_at};
-ghost use Rattle.sect_rules.specs.Reserved.{held_back as back_at, are_own};
+ghost use Rattle.sect_rules.specs.Reserved.{held_back as back_at, takes_all as all_taken, are_own};
 
 use crate::moment::Moment;
 use sect_base::{Level, Limit, OfferingId};
@@ -40,6 +40,7 @@ const OPEN: Closed = Closed {
 
 impl Moment<'_> {
     /// Whether a level with a limit has no place left.
+    #[inline(always)]
     pub fn is_full(&self, level: Level) -> bool
         ensures { result ≡ full_at self.now.at level }
     {
@@ -61,6 +62,7 @@ impl Moment<'_> {
     }
 
     /// Whether a level with so many places, of this offering with these reservations, has no unreserved space.
+    #[inline(always)]
     fn is_taken(
         &self,
         offering: OfferingId,
@@ -75,7 +77,26 @@ impl Moment<'_> {
         ensures { result ≡ int_le (space_of self.now.at level places) (pos 0) }
     {
         let _ = offering;
-        let mut left = places.saturating_sub(count);
+        self.takes_all(rows, level, places.saturating_sub(count))
+    }
+
+    /// Whether the reservations hold back all of so many places that are left at the level. Where there are none, nothing is
+    /// called.
+    #[inline(always)]
+    fn takes_all(&self, rows: &[Reservation], level: Level, left: u64) -> bool
+        ensures { result ≡ all_taken self.now.at level left rows.now }
+    {
+        if rows.is_empty() {
+            return left == 0;
+        }
+        self.takes_each(rows, level, left)
+    }
+
+    /// Whether the reservations, one after another, hold back all of so many places that are left at the level.
+    fn takes_each(&self, rows: &[Reservation], level: Level, places: u64) -> bool
+        ensures { result ≡ all_taken self.now.at level places rows.now }
+    {
+        let mut left = places;
         for r in rows {
             match self.held_back(r, level) {
                 Some(places) => left = left.saturating_sub(places),
@@ -87,6 +108,7 @@ impl Moment<'_> {
 
     /// What closes a level of this offering, with so many places, to a choice by a reservation that doesn't permit over
     /// limit, or by none.
+    #[inline(always)]
     fn closed_in(
         &self,
         offering: OfferingId,
@@ -113,6 +135,7 @@ impl Moment<'_> {
 
     /// What closes a level of this offering to a choice by the reservation, or by none. Its places and its enrolments are
     /// asked for once.
+    #[inline(always)]
     pub fn closed(
         &self,
         offering: OfferingId,

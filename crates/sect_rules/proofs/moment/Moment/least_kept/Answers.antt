@@ -1,5 +1,6 @@
 -- one more enrolment
 use Rattle.std.proofs.Common.{sym, ◌∙◌, cond, []}
+use Rattle.sect_model.specs.Rules.{least}
 use Rattle.sect_rules.specs.Moment.{is_given}
 use Rattle.sect_rules.specs.Overlapped.{lesser_of, overlapped}
 use Rattle.sect_rules.proofs.LeastLemmas.{least-more}
@@ -7,6 +8,7 @@ use Rattle.sect_rules.proofs.moment.Moment.least_kept.Goals as goal
 
 pub loop-e-preserved : goal.loop-e-preserved
 loop-e-preserved c =
-    c.lesser_of-least.ensures
-    ∙ (λ i. lesser_of (c.loop-e.invariant i) (c.least_where_kept-later.ensures i))
-    ∙ sym (least-more (λ e. cond (is_given c.args.give.now e.choice.course) [] (overlapped c.args.self.now.at c.args.permitted c.args.meetings.now e.choice)) c.args.held.now c.loop-e.e-index c.e-item.result c.loop-e-test.true c.e-item.is)
+    let a = c.args in
+    c.least_where_kept-least.ensures
+    ∙ (λ i. lesser_of (c.loop-e.invariant i) (least (cond (is_given a.give.now c.e-item.result.choice.course) [] (overlapped a.self.now.at a.permitted a.meetings.now c.e-item.result.choice))))
+    ∙ sym (least-more (λ e. cond (is_given a.give.now e.choice.course) [] (overlapped a.self.now.at a.permitted a.meetings.now e.choice)) a.held.now c.loop-e.e-index c.e-item.result c.loop-e-test.true c.e-item.is)
