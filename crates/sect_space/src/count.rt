@@ -11,6 +11,7 @@ use sect_model::Enrolment;
 
 impl World {
     /// The number of enrolments at the level. It takes no memory.
+    #[inline(always)]
     pub fn count(&self, level: Level) -> u32
         ensures { result ≡ count_of self.now.world level }
     {

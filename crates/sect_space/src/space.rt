@@ -38,6 +38,7 @@ impl World {
 
     /// The places at a level, for an offering the sum over its configurations. None exactly where the level has no limit
     /// or isn't known. It takes no memory.
+    #[inline(always)]
     pub fn places(&self, level: Level) -> Option<u64>
         ensures value { result ≡ places_at self.now.world level }
         ensures bound { IfSome result (λ n. n ≤ 42949672950) }
