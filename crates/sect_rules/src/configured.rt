@@ -142,11 +142,11 @@ impl<'a> Configured<'a> {
         requires { length self.now.sections < 6 }
         ensures { result ≡ completed_by self.now.by.on.wanted.world (config_path self.now) section }
     {
-        let mut sections = self.sections;
-        sections.push(section);
-        if self.subparts.len() > sections.len() {
+        if self.subparts.len() > self.sections.len() + 1 {
             return None;
         }
+        let mut sections = self.sections;
+        sections.push(section);
         Some(Choice {
             course: self.by.on().course(),
             reservation: self.by.id(),

@@ -51,6 +51,7 @@ impl<'a> Parted<'a> {
     }
 
     /// The reservation at a place, or none.
+    #[inline(always)]
     pub fn get(&self, i: usize) -> Option<Option<&'a Reservation>>
         ensures value { option_map (λ row. by_reservation (its_id row)) result ≡ slice_get (reservation_options self.now) i }
         ensures among { IfSome result (λ row. IfSome row (λ r. Contains self.now r.now)) }
@@ -73,6 +74,7 @@ pub fn id_of(row: Option<&Reservation>) -> Option<ReservationId>
 }
 
 /// The reservation at a place, where the reservations are options as they stand, or none.
+#[inline(always)]
 fn plain_option(rows: &[Reservation], i: usize) -> Option<Option<&Reservation>>
     requires { IsTrue (are_plain rows.now) }
     ensures value { option_map (λ row. by_reservation (its_id row)) result ≡ slice_get (reservation_options rows.now) i }
@@ -106,6 +108,7 @@ fn mixed_option(rows: &[Reservation], musts: usize, i: usize) -> Option<Option<&
 }
 
 /// The reservation at a place, as an option.
+#[inline(always)]
 fn row_option(rows: &[Reservation], i: usize) -> Option<Option<&Reservation>>
     ensures value { option_map (λ row. by_reservation (its_id row)) result ≡ slice_get (map (λ r. by_reservation (Some r.id)) rows.now) i }
     ensures among { IfSome result (λ row. IfSome row (λ r. Contains rows.now r.now)) }

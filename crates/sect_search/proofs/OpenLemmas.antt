@@ -11,12 +11,12 @@ use Rattle.sect_model.specs.World.{World}
 use Rattle.sect_model.specs.Choice.{subparts_of}
 use Rattle.sect_model.specs.Covers.{cover_each}
 use Rattle.sect_model.specs.Path.{Path, options_at, want_at, extend, is_complete}
-use Rattle.sect_model.specs.Search.{found, refuted, search_pick, search_from}
+use Rattle.sect_model.specs.Search.{found, search_from}
 use Rattle.sect_rules.specs.Completed.{opened, completed_by}
 use Rattle.sect_rules.specs.Wanted.{Configured, config_path}
 use Rattle.sect_rules.proofs.OwnLemmas.{done-few}
 use Rattle.sect_search.specs.Covered.{covered}
-use Rattle.sect_search.specs.Told.{as_one, go_from}
+use Rattle.sect_search.specs.Told.{go_from}
 
 not_past : (m n : ℕ) → n < m → nat_le m n ≡ false
 not_past m n h = grind (arith, nat_tests, h)
@@ -56,11 +56,11 @@ want-after mv done choice want h = (λ i. slice_get mv.take (one-longer done cho
 pub whole-from : (w : World) (mv : Move) (done : List Choice) (choice : Choice) (n left : ℕ) → slice_get mv.take (length done + 1) ≡ None
     → found (done ++ choice ∷ []) left ≡ go_from w mv (opened (done ++ choice ∷ [])) n left
 whole-from w mv done choice n left h =
-    λ i. search_pick None (sym (whole-after mv done choice h) i) (done ++ choice ∷ []) (search_from w mv n (opened (done ++ choice ∷ []))) (λ left. refuted [] left) left
+    λ i. cond (sym (whole-after mv done choice h) i) (found (done ++ choice ∷ []) left) (search_from w mv n (opened (done ++ choice ∷ [])) left)
 
 -- a path that isn't complete is followed by the search below it
-pub went-on : (w : World) (mv : Move) (p : Path) (n left : ℕ) → is_complete mv p ≡ false → as_one w mv p n left ≡ go_from w mv p n left
-went-on w mv p n left h = λ i. search_pick None (sym h i) p.done (search_from w mv n p) (λ left. refuted [] left) left
+pub went-on : (w : World) (mv : Move) (p : Path) (n left : ℕ) → is_complete mv p ≡ false → search_from w mv n p left ≡ go_from w mv p n left
+went-on w mv p n left h = λ i. cond (sym h i) (found p.done left) (search_from w mv n p left)
 
 -- what is said of a path that isn't complete
 pub covered-open : (w : World) (mv : Move) (p : Path) (trees : List Tree) → is_complete mv p ≡ false → cover_each w mv p (options_at w mv p) (trees_of trees) ≡ covered w mv p trees

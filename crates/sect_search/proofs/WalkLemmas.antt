@@ -1,5 +1,5 @@
 -- The options of a path taken in turn, with the trees of those in front.
-use Rattle.std.specs.Prelude.{◌≡◌, ℕ, zero, suc, ◌+◌, ◌-◌, ◌<◌, Bool, true, false, List, [], ◌∷◌, ◌++◌, Option, Some, None, slice_get, length, ◌≤◌, refl}
+use Rattle.std.specs.Prelude.{◌≡◌, ℕ, zero, suc, ◌+◌, ◌-◌, ◌<◌, Bool, true, false, cond, List, [], ◌∷◌, ◌++◌, Option, Some, None, slice_get, length, ◌≤◌, refl}
 use Rattle.std.proofs.Common.{sym, ◌∙◌, ap, arith, take, drop}
 use Rattle.sect_base.specs.Tree.{Tree, trees_of}
 use Rattle.sect_model.specs.Data.{Choice, Move, Rule}
@@ -8,7 +8,7 @@ use Rattle.sect_model.specs.World.{World}
 use Rattle.sect_model.specs.Path.{Path, options_at, extend, is_complete}
 use Rattle.sect_model.specs.Rules.{leaf_of}
 use Rattle.sect_model.specs.Search.{Searched, found, refuted, spent, behind_tree, or_later, search_pick, search_options, search_from}
-use Rattle.sect_search.specs.Texts.{HasNumbers, HaveNumbers}
+use Rattle.sect_search.specs.Texts.{HaveNumbers}
 use Rattle.sect_search.specs.Told.{with_trees, then_later}
 
 -- with nothing behind
@@ -24,10 +24,10 @@ pub with-spent : (ts : List Tree) → with_trees ts spent ≡ spent
 with-spent [] = refl
 with-spent (t ∷ ts) = ap (behind_tree t) (with-spent ts)
 
--- one tree more in front
-pub with-more : (ts : List Tree) (t : Tree) (r : Searched) → with_trees (ts ++ t ∷ []) r ≡ with_trees ts (behind_tree t r)
-with-more [] t r = refl
-with-more (u ∷ ts) t r = ap (behind_tree u) (with-more ts t r)
+-- trees more in front
+pub with-both : (ts us : List Tree) (r : Searched) → with_trees (ts ++ us) r ≡ with_trees ts (with_trees us r)
+with-both [] us r = refl
+with-both (t ∷ ts) us r = ap (behind_tree t) (with-both ts us r)
 
 or-later : (later : ℕ → Searched) (x : Searched) → or_later later x ≡ then_later later (or_later (λ left. refuted [] left) x)
 or-later later (found choices left) = refl
@@ -59,28 +59,54 @@ drop-none [] (suc i) h = refl
 drop-none (y ∷ ys) zero h = cc
 drop-none (y ∷ ys) (suc i) h = drop-none ys i h
 
--- one tree more behind
-pub more-numbers : (ts : List Tree) (t : Tree) → HaveNumbers (trees_of ts) → HasNumbers t → HaveNumbers (trees_of (ts ++ t ∷ []))
-more-numbers [] t h k = (k, tt)
-more-numbers (u ∷ us) t h k = (h.0, more-numbers us t h.1 k)
+-- trees more behind
+pub both-numbers : (ts us : List Tree) → HaveNumbers (trees_of ts) → HaveNumbers (trees_of us) → HaveNumbers (trees_of (ts ++ us))
+both-numbers [] us h k = k
+both-numbers (t ∷ ts) us h k = (h.0, both-numbers ts us h.1 k)
 
--- one more on the stack
-pub take-more : {X : Type 0} (xs : List X) (n : ℕ) (x : X) → n ≤ length xs → take n (xs ++ x ∷ []) ≡ take n xs
-take-more [] zero x h = refl
-take-more [] (suc n) x h = absurd (omega (arith, h))
-take-more (y ∷ ys) zero x h = refl
-take-more (y ∷ ys) (suc n) x h = ap (λ zs. y ∷ zs) (take-more ys n x (omega (arith, h)))
+-- what lies over what lay on the stack before
+module _ {X : Type 0} where
+  front-back : (n : ℕ) (xs : List X) → xs ≡ take n xs ++ drop n xs
+  front-back zero [] = refl
+  front-back zero (x ∷ xs) = refl
+  front-back (suc n) [] = refl
+  front-back (suc n) (x ∷ xs) = ap (λ ys. x ∷ ys) (front-back n xs)
 
-pub drop-more : {X : Type 0} (xs : List X) (n : ℕ) (x : X) → n ≤ length xs → drop n (xs ++ x ∷ []) ≡ drop n xs ++ x ∷ []
-drop-more [] zero x h = refl
-drop-more [] (suc n) x h = absurd (omega (arith, h))
-drop-more (y ∷ ys) zero x h = refl
-drop-more (y ∷ ys) (suc n) x h = drop-more ys n x (omega (arith, h))
+  pub drop-front : (xs ys : List X) → drop (length xs) (xs ++ ys) ≡ ys
+  drop-front [] [] = refl
+  drop-front [] (y ∷ ys) = refl
+  drop-front (x ∷ xs) ys = drop-front xs ys
 
-pub longer-more : {X : Type 0} (xs : List X) (n : ℕ) (x : X) → n ≤ length xs → n ≤ length (xs ++ x ∷ [])
-longer-more [] n x h = omega (arith, h)
-longer-more (y ∷ ys) zero x h = omega arith
-longer-more (y ∷ ys) (suc n) x h = let more = longer-more ys n x (omega (arith, h)) in omega (arith, more)
+  pub take-front : (xs ys : List X) → take (length xs) (xs ++ ys) ≡ xs
+  take-front [] [] = refl
+  take-front [] (y ∷ ys) = refl
+  take-front (x ∷ xs) ys = ap (λ zs. x ∷ zs) (take-front xs ys)
+
+  both-append : (xs ys zs : List X) → (xs ++ ys) ++ zs ≡ xs ++ (ys ++ zs)
+  both-append [] ys zs = refl
+  both-append (x ∷ xs) ys zs = ap (λ us. x ∷ us) (both-append xs ys zs)
+
+  over-both : (xs ys zs : List X) → take (length xs) ys ≡ xs → take (length ys) zs ≡ ys → zs ≡ xs ++ (drop (length xs) ys ++ drop (length ys) zs)
+  over-both xs ys zs h k =
+      front-back (length ys) zs
+      ∙ ap (λ us. us ++ drop (length ys) zs) (k ∙ front-back (length xs) ys ∙ ap (λ us. us ++ drop (length xs) ys) h)
+      ∙ both-append xs (drop (length xs) ys) (drop (length ys) zs)
+
+  -- more on the stack
+  pub own-both : (xs ys zs : List X) → take (length xs) ys ≡ xs → take (length ys) zs ≡ ys → drop (length xs) zs ≡ drop (length xs) ys ++ drop (length ys) zs
+  own-both xs ys zs h k = ap (drop (length xs)) (over-both xs ys zs h k) ∙ drop-front xs (drop (length xs) ys ++ drop (length ys) zs)
+
+  pub kept-both : (xs ys zs : List X) → take (length xs) ys ≡ xs → take (length ys) zs ≡ ys → take (length xs) zs ≡ xs
+  kept-both xs ys zs h k = ap (take (length xs)) (over-both xs ys zs h k) ∙ take-front xs (drop (length xs) ys ++ drop (length ys) zs)
+
+  -- what lay on the stack before isn't longer
+  pub kept-room : (xs ys : List X) → take (length xs) ys ≡ xs → length xs ≤ length ys
+  kept-room [] ys h = omega arith
+  kept-room (x ∷ xs) [] h = cc
+  kept-room (x ∷ xs) (y ∷ ys) h = let more = kept-room xs ys (tails y x (take (length xs) ys) xs h) in omega (arith, more)
+    where
+      tails : (a b : X) (us vs : List X) → a ∷ us ≡ b ∷ vs → us ≡ vs
+      tails a b us vs e = cc
 
 -- below a path with some decision left
 pub search-some : (w : World) (mv : Move) (n : ℕ) (p : Path) (left : ℕ) → 0 < n → search_from w mv n p left ≡ search_options w mv (search_from w mv (n - 1)) p (options_at w mv p) left
@@ -126,8 +152,14 @@ module _ (w : World) (mv : Move) (rest : Path → ℕ → Searched) (p : Path) (
   from-over trees at left before pick h e f =
       from-one trees at left before pick h e ∙ ap (λ r. with_trees trees (then_later (search_options w mv rest p (drop (at + 1) options)) r)) (sym f) ∙ with-spent trees
 
-  pub from-next : (trees : List Tree) (at left before after : ℕ) (pick : Pick) (tree : Tree) → slice_get options at ≡ Some pick → before ≡ suc left
-      → refuted (tree ∷ []) after ≡ one pick left → from trees at before ≡ from (trees ++ tree ∷ []) (at + 1) after
-  from-next trees at left before after pick tree h e f =
+  pub from-next : (trees own : List Tree) (at left before after : ℕ) (pick : Pick) → slice_get options at ≡ Some pick → before ≡ suc left
+      → refuted own after ≡ one pick left → from trees at before ≡ from (trees ++ own) (at + 1) after
+  from-next trees own at left before after pick h e f =
       from-one trees at left before pick h e ∙ ap (λ r. with_trees trees (then_later (search_options w mv rest p (drop (at + 1) options)) r)) (sym f)
-      ∙ sym (with-more trees tree (search_options w mv rest p (drop (at + 1) options) after))
+      ∙ sym (with-both trees own (search_options w mv rest p (drop (at + 1) options) after))
+
+-- what follows an option, put into one tree where it is refuted
+pub one-tree : (whole : Bool) (done : List Choice) (inner : ℕ → Searched) (left : ℕ)
+    → search_pick None whole done inner (λ left. refuted [] left) left ≡ or_later (λ left. refuted [] left) (cond whole (found done left) (inner left))
+one-tree true done inner left = refl
+one-tree false done inner left = refl

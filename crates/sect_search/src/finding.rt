@@ -9,11 +9,11 @@ ghost use Rattle.sect_model.specs.Visits.{most_decisions};
 ghost use Rattle.sect_search.specs.Texts.{IsTold, IsToldIn};
 ghost use Rattle.sect_search.specs.Told.{OutcomeNumbers};
 
-use crate::searched::Searched;
-use crate::walk::below;
-use sect_base::{Budget, Items, Memory, Move, Steps};
+use crate::searched::{Searched, Walk};
+use crate::walk::below_want;
+use sect_base::{Block, Budget, Items, Memory, Move, Steps};
 use sect_model::Outcome;
-use sect_rules::{Due, LentMove, Wanted};
+use sect_rules::{LentMove, Wanted};
 use sect_space::World;
 use std::alloc::Global;
 use std::sync::ledger::Ledger;
@@ -92,18 +92,20 @@ fn find<const N: usize>(
         None => Ok(Outcome::Found(Items::from_vec(Vec::new(alloc)), 0)),
         Some(want) => {
             let wanted = Wanted::new(world, mv, &[], want);
-            let mut left = budget.get();
-            let mut trees = Vec::new(alloc);
-            let searched = below::<N>(
-                alloc,
-                Due::Course(&wanted),
-                decisions(mv),
-                &mut left,
-                &mut trees,
-            )?;
+            let mut walk = Walk {
+                left: budget.get(),
+                trees: Vec::new(alloc),
+                choices: Items::from_vec(Vec::new(alloc)),
+            };
+            let searched = below_want::<N>(alloc, &wanted, decisions(mv), &mut walk)?;
+            let Walk {
+                left,
+                trees,
+                choices,
+            } = walk;
             Ok(match searched {
-                Searched::Found(choices) => Outcome::Found(choices, budget.get() - left),
-                Searched::Refuted(tree) => Outcome::Blocked(tree, budget.get() - left),
+                Searched::Found => Outcome::Found(choices, budget.get() - left),
+                Searched::Refuted => Outcome::Blocked(Block::split(trees), budget.get() - left),
                 Searched::Spent => Outcome::Spent(budget.get()),
             })
         }

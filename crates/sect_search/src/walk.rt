@@ -1,132 +1,219 @@
 // One walk, depth first: each option that is looked at takes one from the budget, and below a
 // decision that breaks a rule nothing is looked at. The tree is made on the way back: the trees of
-// the options refuted so far lie on one stack, and a node that is refuted takes its own off it.
+// the options refuted so far lie on one stack, and those of a node that is refuted are put into one there.
 
-ghost use Rattle.std.specs.Prelude.{◌≡◌, ◌-◌, ◌≤◌, ◌<◌, ◌++◌, ◌∷◌, [], length, take, drop, Contains, IfOk, OnOk};
+ghost use Rattle.std.specs.Prelude.{◌≡◌, ◌≤◌, ◌<◌, ◌++◌, ◌∷◌, [], length, take, drop, Contains, IfOk, OnOk};
+ghost use Rattle.sect_base.specs.Tree.{broken as broken_leaf, split, trees_of};
 ghost use Rattle.sect_model.specs.Path.{options_at};
+ghost use Rattle.sect_model.specs.Search.{search_from};
 ghost use Rattle.sect_model.specs.Stands.{MoveStands};
 ghost use Rattle.sect_rules.specs.Completed.{opened};
 ghost use Rattle.sect_rules.specs.Due.{place_of, place_at, pick_at, IsStep};
-ghost use Rattle.sect_search.specs.Told.{told, look, behind, as_one, go_from, ToldNumbers, LeavesTrees};
+ghost use Rattle.sect_rules.specs.Wanted.{course_path, joined_path, config_path};
+ghost use Rattle.sect_search.specs.Told.{told, own, look, behind, go_from, ToldNumbers, LeavesTrees};
 
-use crate::searched::Searched;
-use sect_base::{Block, Choice, Items, Memory};
+use crate::searched::{Searched, Walk};
+use sect_base::{Block, Choice, Items, Memory, Rule};
 use sect_rules::{Configured, Due, Joined, OnCourse, PathOf, Step, Wanted, broken, step_at};
 use std::alloc::Global;
 
-/// The search below a node, of at most so many decisions, with its trees in one and with what is left of the budget. The trees
-/// of the options refuted so far lie on the stack over those that it had.
+/// The search below a want, of at most so many decisions, with what is left of the budget. The trees of its options, where all
+/// are refuted, lie on the stack over those that it had.
 #[cycle(walking)]
-pub fn below<const N: usize>(
+pub fn below_want<const N: usize>(
+    alloc: Global,
+    wanted: &Wanted,
+    decisions: u32,
+    walk: &mut Walk,
+) -> Result<Searched, Memory>
+    requires stands { MoveStands wanted.now.world wanted.now.mv }
+    requires room { length wanted.now.mv.take ≤ N }
+    requires limit { N ≤ 20 }
+    ensures found { IfOk result (λ r. told r walk.new.choices (own walk.old.trees.items walk.new.trees.items) walk.new.left
+        ≡ search_from wanted.now.world wanted.now.mv decisions (opened wanted.now.done) walk.old.left) }
+    ensures numbers { IfOk result (ToldNumbers (own walk.old.trees.items walk.new.trees.items)) }
+    ensures less { walk.new.left ≤ walk.old.left }
+    ensures kept { IfOk result (LeavesTrees walk.old.trees.items walk.new.trees.items) }
+{
+    below::<N>(alloc, Due::Course(&*wanted), decisions, walk)
+}
+
+/// The same below a course.
+#[cycle(walking)]
+fn below_course<const N: usize>(
+    alloc: Global,
+    on: &OnCourse,
+    decisions: u32,
+    walk: &mut Walk,
+) -> Result<Searched, Memory>
+    requires stands { MoveStands on.now.wanted.world on.now.wanted.mv }
+    requires room { length on.now.wanted.mv.take ≤ N }
+    requires limit { N ≤ 20 }
+    ensures found { IfOk result (λ r. told r walk.new.choices (own walk.old.trees.items walk.new.trees.items) walk.new.left
+        ≡ search_from on.now.wanted.world on.now.wanted.mv decisions (course_path on.now) walk.old.left) }
+    ensures numbers { IfOk result (ToldNumbers (own walk.old.trees.items walk.new.trees.items)) }
+    ensures less { walk.new.left ≤ walk.old.left }
+    ensures kept { IfOk result (LeavesTrees walk.old.trees.items walk.new.trees.items) }
+{
+    below::<N>(alloc, Due::Reservation(&*on), decisions, walk)
+}
+
+/// The same below a reservation, or none.
+#[cycle(walking)]
+fn below_reservation<const N: usize>(
+    alloc: Global,
+    by: &Joined,
+    decisions: u32,
+    walk: &mut Walk,
+) -> Result<Searched, Memory>
+    requires stands { MoveStands by.now.on.wanted.world by.now.on.wanted.mv }
+    requires room { length by.now.on.wanted.mv.take ≤ N }
+    requires limit { N ≤ 20 }
+    ensures found { IfOk result (λ r. told r walk.new.choices (own walk.old.trees.items walk.new.trees.items) walk.new.left
+        ≡ search_from by.now.on.wanted.world by.now.on.wanted.mv decisions (joined_path by.now) walk.old.left) }
+    ensures numbers { IfOk result (ToldNumbers (own walk.old.trees.items walk.new.trees.items)) }
+    ensures less { walk.new.left ≤ walk.old.left }
+    ensures kept { IfOk result (LeavesTrees walk.old.trees.items walk.new.trees.items) }
+{
+    below::<N>(alloc, Due::Config(&*by), decisions, walk)
+}
+
+/// The same below a configuration with some sections.
+#[cycle(walking)]
+fn below_config<const N: usize>(
+    alloc: Global,
+    inside: &Configured,
+    decisions: u32,
+    walk: &mut Walk,
+) -> Result<Searched, Memory>
+    requires stands { MoveStands inside.now.by.on.wanted.world inside.now.by.on.wanted.mv }
+    requires room { length inside.now.by.on.wanted.mv.take ≤ N }
+    requires limit { N ≤ 20 }
+    ensures found { IfOk result (λ r. told r walk.new.choices (own walk.old.trees.items walk.new.trees.items) walk.new.left
+        ≡ search_from inside.now.by.on.wanted.world inside.now.by.on.wanted.mv decisions (config_path inside.now) walk.old.left) }
+    ensures numbers { IfOk result (ToldNumbers (own walk.old.trees.items walk.new.trees.items)) }
+    ensures less { walk.new.left ≤ walk.old.left }
+    ensures kept { IfOk result (LeavesTrees walk.old.trees.items walk.new.trees.items) }
+{
+    below::<N>(alloc, Due::Section(&*inside), decisions, walk)
+}
+
+/// The same below any node. It becomes a loop of its own in each of those above, where the kind of node is known.
+#[cycle(walking)]
+#[inline(always)]
+fn below<const N: usize>(
     alloc: Global,
     due: Due,
     decisions: u32,
-    left: &mut u32,
-    trees: &mut Vec<Block>,
+    walk: &mut Walk,
 ) -> Result<Searched, Memory>
     requires stands { MoveStands (place_of due).world (place_of due).mv }
     requires room { length (place_of due).mv.take ≤ N }
     requires limit { N ≤ 20 }
-    ensures found { IfOk result (λ r. told r left.new ≡ as_one (place_of due.entry).world (place_of due.entry).mv (place_of due.entry).path decisions left.old) }
-    ensures numbers { IfOk result ToldNumbers }
-    ensures less { left.new ≤ left.old }
-    ensures kept { IfOk result (LeavesTrees trees.old.items trees.new.items) }
+    ensures found { IfOk result (λ r. told r walk.new.choices (own walk.old.trees.items walk.new.trees.items) walk.new.left
+        ≡ search_from (place_of due.entry).world (place_of due.entry).mv decisions (place_of due.entry).path walk.old.left) }
+    ensures numbers { IfOk result (ToldNumbers (own walk.old.trees.items walk.new.trees.items)) }
+    ensures less { walk.new.left ≤ walk.old.left }
+    ensures kept { IfOk result (LeavesTrees walk.old.trees.items walk.new.trees.items) }
 {
     if decisions == 0 {
-        return Ok(Searched::Refuted(Block::split(Vec::new(alloc))));
+        return Ok(Searched::Refuted);
     }
-    let budget = *left;
-    let base = trees.len();
+    let budget = walk.left;
     let mut at = 0;
     'options: while let Some(step) = step_at(due, at) {
-        if *left == 0 {
+        if walk.left == 0 {
             return Ok(Searched::Spent);
         }
-        *left -= 1;
-        match visit::<N>(alloc, step, decisions - 1, left, trees)? {
-            Searched::Found(choices) => return Ok(Searched::Found(choices)),
-            Searched::Refuted(tree) => on_stack(trees, tree)?,
+        walk.left -= 1;
+        match visit::<N>(alloc, step, decisions - 1, walk)? {
+            Searched::Found => return Ok(Searched::Found),
+            Searched::Refuted => {}
             Searched::Spent => return Ok(Searched::Spent),
         }
         at += 1;
     }
-    let own = off_stack(alloc, trees, base)?;
-    Ok(Searched::Refuted(Block::split(own)))
+    Ok(Searched::Refuted)
 }
 
-/// A look at one option: it breaks a rule, or the search goes on behind it, with at most so many decisions more.
+/// A look at one option: it breaks a rule, or the search goes on behind it, with at most so many decisions more. Where it is
+/// refuted, its tree lies on the stack.
 #[cycle(walking)]
+#[inline(always)]
 fn visit<const N: usize>(
     alloc: Global,
     step: Step,
     decisions: u32,
-    left: &mut u32,
-    trees: &mut Vec<Block>,
+    walk: &mut Walk,
 ) -> Result<Searched, Memory>
     requires stands { MoveStands (place_at step).world (place_at step).mv }
     requires room { length (place_at step).mv.take ≤ N }
     requires limit { N ≤ 20 }
     requires option { Contains (options_at (place_at step).world (place_at step).mv (place_at step).path) (pick_at step) }
     requires row { IsStep step }
-    ensures found { IfOk result (λ r. told r left.new ≡ look (place_at step.entry) (pick_at step.entry) decisions left.old) }
-    ensures numbers { IfOk result ToldNumbers }
-    ensures less { left.new ≤ left.old }
-    ensures kept { IfOk result (LeavesTrees trees.old.items trees.new.items) }
+    ensures found { IfOk result (λ r. told r walk.new.choices (own walk.old.trees.items walk.new.trees.items) walk.new.left
+        ≡ look (place_at step.entry) (pick_at step.entry) decisions walk.old.left) }
+    ensures numbers { IfOk result (ToldNumbers (own walk.old.trees.items walk.new.trees.items)) }
+    ensures less { walk.new.left ≤ walk.old.left }
+    ensures kept { IfOk result (LeavesTrees walk.old.trees.items walk.new.trees.items) }
 {
-    match broken(step) {
-        Some((rule, number)) => Ok(Searched::Refuted(Block::broken(rule, number))),
-        None => go_behind::<N>(alloc, step, decisions, left, trees),
+    if let Some((rule, number)) = broken(step) {
+        put_leaf(&mut walk.trees, rule, number)?;
+        return Ok(Searched::Refuted);
+    }
+    let base = height(&walk.trees);
+    match go_behind::<N>(alloc, step, decisions, walk)? {
+        Searched::Found => Ok(Searched::Found),
+        Searched::Refuted => {
+            put_split(alloc, &mut walk.trees, base)?;
+            Ok(Searched::Refuted)
+        }
+        Searched::Spent => Ok(Searched::Spent),
     }
 }
 
-/// What follows an option that breaks no rule.
+/// What follows an option that breaks no rule. Where all of that is refuted, its trees lie on the stack.
 #[cycle(walking)]
+#[inline(always)]
 fn go_behind<const N: usize>(
     alloc: Global,
     step: Step,
     decisions: u32,
-    left: &mut u32,
-    trees: &mut Vec<Block>,
+    walk: &mut Walk,
 ) -> Result<Searched, Memory>
     requires stands { MoveStands (place_at step).world (place_at step).mv }
     requires room { length (place_at step).mv.take ≤ N }
     requires limit { N ≤ 20 }
     requires option { Contains (options_at (place_at step).world (place_at step).mv (place_at step).path) (pick_at step) }
     requires row { IsStep step }
-    ensures found { IfOk result (λ r. told r left.new ≡ behind (place_at step.entry) (pick_at step.entry) decisions left.old) }
-    ensures numbers { IfOk result ToldNumbers }
-    ensures less { left.new ≤ left.old }
-    ensures kept { IfOk result (LeavesTrees trees.old.items trees.new.items) }
+    ensures found { IfOk result (λ r. told r walk.new.choices (own walk.old.trees.items walk.new.trees.items) walk.new.left
+        ≡ behind (place_at step.entry) (pick_at step.entry) decisions walk.old.left) }
+    ensures numbers { IfOk result (ToldNumbers (own walk.old.trees.items walk.new.trees.items)) }
+    ensures less { walk.new.left ≤ walk.old.left }
+    ensures kept { IfOk result (LeavesTrees walk.old.trees.items walk.new.trees.items) }
 {
     match step {
         Step::Course(wanted, course) => {
             let on = OnCourse::new(wanted, course);
-            below::<N>(alloc, Due::Reservation(&on), decisions, left, trees)
+            below_course::<N>(alloc, &on, decisions, walk)
         }
         Step::Reservation(on, row) => {
             let by = Joined::new(on, row);
-            below::<N>(alloc, Due::Config(&by), decisions, left, trees)
+            below_reservation::<N>(alloc, &by, decisions, walk)
         }
         Step::Config(by, row) => {
             let inside = Configured::new(by, row);
-            below::<N>(alloc, Due::Section(&inside), decisions, left, trees)
+            below_config::<N>(alloc, &inside, decisions, walk)
         }
         Step::Section(inside, row) => {
             inside.recall_room(row.id);
             match inside.completed(row.id) {
                 Some(choice) => {
-                    ended::<N>(
-                        alloc,
-                        inside.by().on().wanted(),
-                        choice,
-                        decisions,
-                        left,
-                        trees,
-                    )
+                    ended::<N>(alloc, inside.by().on().wanted(), choice, decisions, walk)
                 }
                 None => {
                     let next = inside.behind(row.id);
-                    below::<N>(alloc, Due::Section(&next), decisions, left, trees)
+                    below_config::<N>(alloc, &next, decisions, walk)
                 }
             }
         }
@@ -140,16 +227,16 @@ fn ended<const N: usize>(
     wanted: &Wanted,
     choice: Choice,
     decisions: u32,
-    left: &mut u32,
-    trees: &mut Vec<Block>,
+    walk: &mut Walk,
 ) -> Result<Searched, Memory>
     requires stands { MoveStands wanted.now.world wanted.now.mv }
     requires room { length wanted.now.mv.take ≤ N }
     requires limit { N ≤ 20 }
-    ensures found { IfOk result (λ r. told r left.new ≡ go_from wanted.now.world wanted.now.mv (opened (wanted.now.done ++ choice ∷ [])) decisions left.old) }
-    ensures numbers { IfOk result ToldNumbers }
-    ensures less { left.new ≤ left.old }
-    ensures kept { IfOk result (LeavesTrees trees.old.items trees.new.items) }
+    ensures found { IfOk result (λ r. told r walk.new.choices (own walk.old.trees.items walk.new.trees.items) walk.new.left
+        ≡ go_from wanted.now.world wanted.now.mv (opened (wanted.now.done ++ choice ∷ [])) decisions walk.old.left) }
+    ensures numbers { IfOk result (ToldNumbers (own walk.old.trees.items walk.new.trees.items)) }
+    ensures less { walk.new.left ≤ walk.old.left }
+    ensures kept { IfOk result (LeavesTrees walk.old.trees.items walk.new.trees.items) }
 {
     wanted.recall_left();
     let mv = wanted.mv();
@@ -157,23 +244,42 @@ fn ended<const N: usize>(
     match mv.want(done.len() + 1) {
         None => {
             let choices = with_choice(alloc, done, choice)?;
-            Ok(Searched::Found(choices))
+            walk.choices = choices;
+            Ok(Searched::Found)
         }
         Some(want) => {
             let path = PathOf::<N>::made(done, choice);
             let next = Wanted::new(wanted.world(), mv, path.done(), want);
-            below::<N>(alloc, Due::Course(&next), decisions, left, trees)
+            below_want::<N>(alloc, &next, decisions, walk)
         }
     }
 }
 
-/// The tree, put on the stack. Room is made first, so that nothing is handed back.
+/// How many trees lie on the stack.
 #[inline(always)]
-fn on_stack(trees: &mut Vec<Block>, tree: Block) -> Result<(), Memory>
-    ensures { OnOk result (trees.new.items ≡ trees.old.items ++ tree ∷ []) }
+fn height(trees: &Vec<Block>) -> usize
+    ensures { result ≡ length trees.now.items }
+{
+    trees.len()
+}
+
+/// A broken rule, put on the stack. Room is made first, so that nothing is handed back.
+#[inline(always)]
+fn put_leaf(trees: &mut Vec<Block>, rule: Rule, number: u32) -> Result<(), Memory>
+    ensures { OnOk result (trees.new.items ≡ trees.old.items ++ broken_leaf rule number ∷ []) }
 {
     trees.reserve(1)?;
-    trees.push_reserved(tree);
+    trees.push_reserved(Block::broken(rule, number));
+    Ok(())
+}
+
+/// The trees from a place on, put into one, which takes their place on the stack.
+fn put_split(alloc: Global, trees: &mut Vec<Block>, base: usize) -> Result<(), Memory>
+    requires { base ≤ length trees.old.items }
+    ensures { OnOk result (trees.new.items ≡ take base trees.old.items ++ split (trees_of (drop base trees.old.items)) ∷ []) }
+{
+    let own = off_stack(alloc, trees, base)?;
+    trees.push(Block::split(own))?;
     Ok(())
 }
 
