@@ -28,7 +28,6 @@ use sect_base::{Items, Memory, StudentId};
 use sect_batch::{batch, is_unmet};
 use sect_command::{Line, LineResult};
 use sect_people::{Ask, CourseAsk};
-use sect_refuse::ticket_of;
 use sect_search::want_of;
 use sect_space::{Undo, World};
 use sect_wait::{Queue, QueueUndo};
@@ -214,7 +213,7 @@ fn ticket_or_join(
     ensures since { QueueSince queue.old.queue queue_undo.old queue.new.queue queue_undo.new }
     ensures undoable { QueueUndoable queue.new queue_undo.new }
 {
-    match ticket_of(queue.entries(), line.student, ask.courses.as_slice()) {
+    match queue.waiting_ticket(line.student, ask.courses.as_slice()) {
         Some(ticket) => Ok(ticket),
         None => {
             let want = want_of(alloc, ask, line.rank)?;

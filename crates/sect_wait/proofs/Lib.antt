@@ -4,6 +4,7 @@ pub mod IndexLemmas
 pub mod MarkLemmas
 pub mod NeedLemmas
 pub mod NextLemmas
+pub mod NobodyLemmas
 pub mod NoteLemmas
 pub mod OnlyLemmas
 pub mod OpenedLemmas

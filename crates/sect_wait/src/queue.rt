@@ -11,9 +11,12 @@ ghost use Rattle.std.specs.Prelude.{
   length,
   take,
   drop,
+  false,
   insert,
   find,
   position,
+  map,
+  filter,
   option_copied,
   Some,
   IfOk,
@@ -24,7 +27,11 @@ ghost use Rattle.std.specs.Prelude.{
 ghost use Rattle.std.specs.Vec.{vec_len, vec_capacity};
 ghost use Rattle.std.specs.List.{list_any};
 ghost use Rattle.sect_people.specs.Index.{rank as rank_of};
+ghost use Rattle.sect_model.specs.Freer.{Among};
 ghost use Rattle.sect_model.specs.Kept.{is_ordered_by};
+ghost use Rattle.sect_model.specs.Rules.{least};
+ghost use Rattle.sect_model.specs.declared.held.Waiting.{Waiting as Entry};
+ghost use Rattle.sect_refuse.specs.Tickets.{is_shared};
 ghost use Rattle.sect_wait.specs.Queued.{empty_queue, joined, left, IsQueue};
 ghost use Rattle.sect_wait.specs.Indexed.{AreTold};
 ghost use Rattle.sect_wait.specs.Undo.{left_back, taken_back, undone, Ready, Since, Undoable};
@@ -35,6 +42,7 @@ use crate::index::Index;
 use crate::undo::QueueUndo;
 use sect_base::{CourseId, Memory, StudentId, Want};
 use sect_model::Waiting;
+use sect_refuse::ticket_of;
 use std::alloc::Global;
 use std::marker::Model;
 
@@ -191,10 +199,33 @@ impl Queue {
     }
 
     /// The tickets of a student's entries, and maybe others. None where they aren't known. It takes no memory.
+    #[inline(always)]
     pub(crate) fn of_student(&self, student: StudentId) -> Option<&[u64]>
         ensures { AreTold (λ e. student.0 == e.student.0) self.now.queue.entries (option_copied result) }
     {
         self.index.of_student(student)
+    }
+
+    /// Whether the student may wait: where not, no entry is the student's. It takes no memory.
+    fn may_have(&self, student: StudentId) -> bool
+        ensures { (e : Entry) → Among self.now.queue.entries e → result ≡ false → student.0 == e.student.0 ≡ false }
+    {
+        match self.of_student(student) {
+            Some(tickets) => !tickets.is_empty(),
+            None => true,
+        }
+    }
+
+    /// The least ticket of the student's entries that share a course, None where there are none. The entries are looked
+    /// through where some may be the student's. It takes no memory.
+    pub fn waiting_ticket(&self, student: StudentId, courses: &[CourseId]) -> Option<u64>
+        ensures { result ≡ least (map (λ e. e.ticket) (filter (is_shared student courses.now) self.now.queue.entries)) }
+    {
+        if self.may_have(student) {
+            ticket_of(self.entries(), student, courses)
+        } else {
+            None
+        }
     }
 
     /// The tickets of the entries that want a course, and maybe others. None where they aren't known. It takes no memory.
