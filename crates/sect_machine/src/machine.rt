@@ -11,7 +11,7 @@ ghost use Rattle.sect_model.specs.World.{State};
 
 use crate::stepping::step;
 use crate::told::ToldStep;
-use crate::undo::MachineUndo;
+use crate::undo::{MachineUndo, take_room};
 use sect_base::{Caller, Day, Memory, Steps};
 use sect_command::{Command, Query, Reply, View};
 use sect_space::World;
@@ -23,12 +23,13 @@ use std::sync::ledger::{Blank, Ledger};
 
 /// The world and those who wait, none of whom can be placed, and which of them must be tried again: the others have no
 /// move. No limit is passed, and no student holds what may not be held
-/// together. Contracts see both, with the room of their lists.
+/// together. Contracts see both, with the room of their lists. What the last step left is kept for its room.
 pub struct Machine {
     pub(crate) alloc: Global,
     pub(crate) world: World,
     pub(crate) queue: Queue,
     pub(crate) marks: Marks,
+    pub(crate) room: Option<MachineUndo>,
 }
 
 /// It is written out, so that a caller does not prove again how each part is dropped.
@@ -39,6 +40,7 @@ impl Drop for Machine {
             world: _,
             queue: _,
             marks: _,
+            room: _,
         } = self;
     }
 }
@@ -125,6 +127,7 @@ impl Machine {
         ensures err { OnErr result (state_in self.new ≡ state_in self.old) }
     {
         self.recall_kept();
+        let room = take_room(self.alloc, &mut self.room);
         step(
             self.alloc,
             &mut self.world,
@@ -133,6 +136,7 @@ impl Machine {
             day,
             caller,
             command,
+            room,
             steps,
         )
     }
@@ -162,6 +166,13 @@ impl Machine {
         ensures { IfOk result (λ v. v ≡ looked_at (state_in self.now) query.now) }
     {
         view(self.alloc, &self.world, self.queue.entries(), query)
+    }
+
+    /// Keeps what a step left for its room. It takes no memory.
+    pub(crate) fn keep_room(&mut self, undo: MachineUndo)
+        ensures { self.new ≡ self.old }
+    {
+        self.room = Some(undo);
     }
 
     /// Takes back what a step changed. It takes no memory.

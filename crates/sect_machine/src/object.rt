@@ -66,6 +66,7 @@ impl Object for Machine {
             world: World::empty(alloc),
             queue: Queue::empty(alloc),
             marks: Marks::none(alloc),
+            room: None,
         }
     }
 
@@ -80,6 +81,10 @@ impl Object for Machine {
 
     fn undo(&mut self, undo: MachineUndo) {
         self.take_back(undo);
+    }
+
+    fn reuse(&mut self, undo: MachineUndo) {
+        self.keep_room(undo);
     }
 
     fn look(&self, query: &Query) -> Result<View, Memory> {

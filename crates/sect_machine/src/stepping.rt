@@ -33,7 +33,8 @@ use std::alloc::Global;
 use std::sync::ledger::Ledger;
 
 /// Acts a command of a caller on a day, and settles, and tells whom settling placed; each search counts one step. Where memory
-/// runs out, what was changed is taken back: world and queue are as before.
+/// runs out, what was changed is taken back: world and queue are as before. What is recorded takes the room of an earlier
+/// step's changes, which are forgotten.
 pub fn step<L: Ledger>(
     alloc: Global,
     world: &mut World,
@@ -42,6 +43,7 @@ pub fn step<L: Ledger>(
     day: Day,
     caller: Caller,
     command: &mut Command,
+    room: MachineUndo,
     steps: &mut Steps<L>,
 ) -> Result<ToldStep, Memory>
     requires resting { IsResting (state_of world.old.world queue.old.queue) }
@@ -56,8 +58,8 @@ pub fn step<L: Ledger>(
 {
     world.recall_kept();
     queue.recall_kept();
-    let mut undo = Undo::empty(alloc);
-    let mut queue_undo = QueueUndo::empty(alloc);
+    let mut undo = room;
+    undo.clear();
     let stepped = settled(
         alloc,
         world,
@@ -66,22 +68,23 @@ pub fn step<L: Ledger>(
         day,
         caller,
         command,
-        &mut undo,
-        &mut queue_undo,
+        &mut undo.world,
+        &mut undo.queue,
         steps,
     );
     match stepped {
         Ok((reply, placed)) => Ok(ToldStep {
             reply,
             placed,
-            undo: MachineUndo {
-                world: undo,
-                queue: queue_undo,
-            },
+            undo,
         }),
         Err(memory) => {
-            world.undo(undo);
-            queue.undo(queue_undo);
+            let MachineUndo {
+                world: changes,
+                queue: queue_changes,
+            } = undo;
+            world.undo(changes);
+            queue.undo(queue_changes);
             marks.mark_all();
             Err(memory)
         }

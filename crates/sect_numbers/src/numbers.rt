@@ -104,6 +104,7 @@ impl Numbers {
     }
 
     /// Counts the enrolment in or out at its course, offering, configuration, sections and reservation.
+    #[inline(always)]
     fn step(&mut self, turn: Turn, enrolment: &Enrolment, offering: Option<OfferingId>, over: bool)
         requires { Ready self.old enrolment.now offering }
         ensures { Moves self.old self.new turn enrolment.now offering over }

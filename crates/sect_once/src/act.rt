@@ -41,6 +41,13 @@ pub(crate) fn take_back<O: Object>(object: &mut Box<O>, undo: O::Undo)
     object.as_mut().undo(undo);
 }
 
+/// Gives what the last step left back to the object in its place, since the step stands.
+pub(crate) fn reuse_in<O: Object>(object: &mut Box<O>, undo: O::Undo)
+    ensures { O.state object.new.value ≡ O.state object.old.value }
+{
+    object.as_mut().reuse(undo);
+}
+
 /// Takes the row behind the others, and appends it to the keeper's. On a fault all is as before.
 fn keep<K: Keeper>(
     rows: &mut Texts,
@@ -106,7 +113,10 @@ impl<O: Object> Past<O> {
         };
         let text = row.as_slice();
         match keep(&mut self.rows, &mut self.places, keeper, id, text) {
-            Ok(()) => Ok((reply, at)),
+            Ok(()) => {
+                reuse_in(&mut self.object, undo);
+                Ok((reply, at))
+            }
             Err(fault) => {
                 take_back(&mut self.object, undo);
                 Err(fault)

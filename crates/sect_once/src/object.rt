@@ -78,6 +78,10 @@ pub trait Object: Sized {
         requires { (before : Self.State) × restores undo self.old before }
         ensures { (before : Self.State) → restores undo self.old before → state self.new ≡ before };
 
+    /// Takes over what the last step left, where that step stands, so that later steps may use its room. It takes no memory.
+    fn reuse(&mut self, undo: Self::Undo)
+        ensures { state self.new ≡ state self.old };
+
     /// Answers a query.
     fn look(&self, query: &Self::Query) -> Result<Self::View, Memory>
         ensures { IfOk result (λ v. v ≡ looked (state self.now) query.now) };

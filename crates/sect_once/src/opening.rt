@@ -4,7 +4,7 @@ ghost use Rattle.sect_edge.specs.Keeper.{KeepsRows};
 ghost use Rattle.sect_once.specs.History.{acted_log, IsFull, IsNew, NeverFull, TellsRows};
 ghost use Rattle.sect_once.specs.Opening.{IsCause, IsRowCause, Opens, Reopens, ActsAgain, Resumes, Takes, TakesAtOnce, TakesNext};
 
-use crate::act::{step_in, take_back};
+use crate::act::{reuse_in, step_in, take_back};
 use crate::answer::OpenFault;
 use crate::desk::Desk;
 use crate::entry::{Entry, Request};
@@ -61,7 +61,10 @@ impl<O: Object> Past<O> {
             return Ok(false);
         }
         match add(&mut self.rows, &mut self.places, &entry.id, row) {
-            Ok(()) => Ok(true),
+            Ok(()) => {
+                reuse_in(&mut self.object, undo);
+                Ok(true)
+            }
             Err(memory) => {
                 take_back(&mut self.object, undo);
                 Err(memory)
@@ -96,7 +99,10 @@ impl<O: Object> Past<O> {
             return Ok(false);
         }
         match add(&mut self.rows, &mut self.places, &id, row) {
-            Ok(()) => Ok(true),
+            Ok(()) => {
+                reuse_in(&mut self.object, undo);
+                Ok(true)
+            }
             Err(memory) => {
                 take_back(&mut self.object, undo);
                 Err(memory)

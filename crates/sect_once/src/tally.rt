@@ -63,6 +63,8 @@ impl Object for Tally {
         self.sum = undo;
     }
 
+    fn reuse(&mut self, _undo: u64) {}
+
     fn look(&self, _query: &()) -> Result<u64, Memory> {
         Ok(self.sum)
     }

@@ -36,7 +36,7 @@ impl Parts {
             Change::Day(day) => Ok(self.put_day(day)),
             Change::Enrol(enrolment) => {
                 let student = enrolment.student;
-                let offering = self.enrol(enrolment)?;
+                let offering = self.enrol(&enrolment)?;
                 Ok(Back::Enrolled(student, offering))
             }
             Change::Leave(student, course) => {

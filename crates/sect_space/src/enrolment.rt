@@ -17,13 +17,13 @@ use sect_model::{Change, Enrolment};
 impl Parts {
     /// Enrols a student, and hands back the offering. Where memory runs out, nothing is changed; it takes none where there is
     /// room.
-    pub fn enrol(&mut self, enrolment: Enrolment) -> Result<Option<OfferingId>, Memory>
-        ensures ok { IfOk result (λ offering. Made (roomed_of self.old) (roomed_of self.new) (Change.Enrol enrolment) (Back.Enrolled enrolment.student offering)) }
+    pub fn enrol(&mut self, enrolment: &Enrolment) -> Result<Option<OfferingId>, Memory>
+        ensures ok { IfOk result (λ offering. Made (roomed_of self.old) (roomed_of self.new) (Change.Enrol enrolment.now) (Back.Enrolled enrolment.now.student offering)) }
         ensures err { OnErr result (Unchanged (roomed_of self.old) (roomed_of self.new)) }
-        ensures enough { 0 < free_for (roomed_of self.old) enrolment.student.0 → IsOk result }
+        ensures enough { 0 < free_for (roomed_of self.old) enrolment.now.student.0 → IsOk result }
     {
         let offering = self.course_offering(enrolment.choice.course);
-        self.roster.push(enrolment)?;
+        self.roster.push(*enrolment)?;
         Ok(offering)
     }
 

@@ -71,7 +71,7 @@ impl World {
         ensures uses { KeepsUses self.old self.new }
         ensures enough { 0 < free_for self.old enrolment.student.0 → IsOk result }
     {
-        let offering = self.parts.enrol(enrolment)?;
+        let offering = self.parts.enrol(&enrolment)?;
         self.parts
             .count_in(&mut self.numbers, &mut self.weeks, &enrolment, offering);
         Ok(offering)

@@ -41,6 +41,14 @@ impl Undo {
         }
     }
 
+    /// Forgets the changes, and keeps their room. It takes no memory.
+    pub fn clear(&mut self)
+        ensures backs { self.new.backs ≡ [] }
+        ensures spare { self.new.spare ≡ self.old.spare + length self.old.backs }
+    {
+        self.backs.clear();
+    }
+
     /// How many changes are recorded. It takes no memory.
     pub fn len(&self) -> usize
         ensures { result ≡ length self.now.backs }

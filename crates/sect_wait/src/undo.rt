@@ -37,6 +37,13 @@ impl QueueUndo {
         }
     }
 
+    /// Forgets the changes, and keeps their room. It takes no memory.
+    pub fn clear(&mut self)
+        ensures { self.new ≡ [] }
+    {
+        self.backs.clear();
+    }
+
     /// How many changes are recorded. It takes no memory.
     pub fn len(&self) -> usize
         ensures { result ≡ length self.now }

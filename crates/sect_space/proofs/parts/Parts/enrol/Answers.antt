@@ -21,10 +21,10 @@ returns-clause-ok c =
         roster = e i;
         day = old.day;
       };
-      recorded = λ i. Enrolled c.args.enrolment.student (c.course_offering-offering.ensures i);
+      recorded = λ i. Enrolled c.args.enrolment.now.student (c.course_offering-offering.ensures i);
       room = record {
         roster = λ n. room-more (roomed_of old) (roomed_of (record old { roster = c.push.new.self })) n
-            (subst (λ es. number_held n old.roster.items ≤ number_held n es) (sym e) (at-least n old.roster.items (insert_enrolment c.args.enrolment old.roster.items) c.args.enrolment (inserted c.args.enrolment old.roster.items)))
+            (subst (λ es. number_held n old.roster.items ≤ number_held n es) (sym e) (at-least n old.roster.items (insert_enrolment c.args.enrolment.now old.roster.items) c.args.enrolment.now (inserted c.args.enrolment.now old.roster.items)))
             (c.push.ensures.grows n);
         reservations = λ n. omega arith;
         restrictions = λ n. omega arith;
