@@ -67,12 +67,31 @@ impl Room {
         self.end - self.start
     }
 
-    /// Hands out the first bytes.
+    /// Hands out the first bytes. Where none are left, the next ones come to the same place, which the processor has at hand.
     pub fn consume(&mut self, count: usize)
         requires { count ≤ length self.old }
         ensures { self.new ≡ drop count self.old }
     {
+        self.hand_out(count);
+        self.begin_again();
+    }
+
+    /// Hands out the first bytes.
+    fn hand_out(&mut self, count: usize)
+        requires { count ≤ length self.old }
+        ensures { self.new ≡ drop count self.old }
+    {
         self.start += count;
+    }
+
+    /// Goes back to the front where no bytes stand ready.
+    fn begin_again(&mut self)
+        ensures { self.new ≡ self.old }
+    {
+        if self.start == self.end {
+            self.start = 0;
+            self.end = 0;
+        }
     }
 
     /// Forgets all bytes.

@@ -1,5 +1,5 @@
 -- The text of an answer is that of its data, and is read again.
-use Rattle.std.proofs.Common.{◌≡◌, ◌<◌, ◌≤◌, ◌^◌, ℕ, List, [], ◌∷◌, ◌++◌, Option, Some, refl, ap, sym, ◌∙◌, codes, decimal, arith, lit≤, option_map, option_and_then, append-nil}
+use Rattle.std.proofs.Common.{◌≡◌, ◌<◌, ◌≤◌, ◌^◌, ℕ, List, [], Some, refl, ap, sym, ◌∙◌, codes, arith, lit≤, option_map, option_and_then, append-nil}
 use Rattle.json.specs.Json as json
 use Rattle.json.specs.Token.{Token}
 use Rattle.json.specs.Tree.{HasNumbers, json_tokens, depth as tree_depth}

@@ -1,15 +1,12 @@
 -- What is read of a body has a text.
-use Rattle.std.proofs.Common.{◌≡◌, ◌≤◌, ℕ, Bool, true, false, List, [], ◌∷◌, Option, None, Some, Ok, Err, refl, ap, sym, ◌∙◌, subst, is_some, nat_le, option_map, option_and_then, codes, lit≤}
-use Rattle.std.specs.Prelude.{if◌then◌else◌}
+use Rattle.std.proofs.Common.{◌≡◌, ◌≤◌, ℕ, Bool, true, List, [], ◌∷◌, Option, None, Some, Ok, refl, ap, subst, is_some, nat_le, option_map, option_and_then, codes, lit≤}
 use Rattle.std.proofs.lemmas.Bool.{leb-true}
 use Rattle.std.proofs.lemmas.Option.{cond_some}
 use Rattle.serde_json.specs.Data.{Data, Items, no_items, item}
 use Rattle.serde_json.specs.Find.{as_array, as_null, as_number, as_str, as_u64, get}
-use Rattle.sect_base.specs.declared.choice.Want.{Want}
 use Rattle.sect_command.specs.declared.command.Command.{Command}
 use Rattle.sect_command.specs.declared.command.Command.TheVariants as commands
 use Rattle.sect_words.specs.Parts.{pieces}
-use Rattle.sect_words.specs.Reading.{◌>>=◌, whole}
 use Rattle.sect_words.specs.ReadingWords.{course_id, section_id, student_id}
 use Rattle.sect_words.proofs.Exact.{bind_found, if_found}
 use Rattle.sect_read.specs.Fits.{Fits32, Fits64, FitsCommand, FitsCourse, FitsList, FitsOptional, FitsSection, FitsStated, FitsStudent, FitsWant}

@@ -1,13 +1,15 @@
 -- No byte of a reply's text is written by an escape.
-use Rattle.std.proofs.Common.{◌≡◌, ℕ, suc, zero, ◌==◌, ◌≤◌, ◌<◌, Bool, true, false, List, [], ◌∷◌, ◌++◌, map, refl, ap, ◌∙◌, arith, decimal, lit≤, lit<, nat_le, nat_lt, ◌/◌, ◌%◌, ◌||◌, cond}
-use Rattle.std.specs.Prelude.{codes, flat_map, ◌&&◌, not, Option, None, Some}
+use Rattle.std.proofs.Common.{◌≡◌, ℕ, suc, zero, ◌+◌, ◌==◌, ◌≤◌, ◌<◌, Bool, true, false, List, [], ◌∷◌, ◌++◌, map, refl, ap, sym, subst, ◌∙◌, append_assoc, arith, decimal, lit≤, lit<, nat_le, nat_lt, ◌/◌, ◌%◌, ◌||◌, cond}
+use Rattle.std.specs.Prelude.{codes, flat_map, ◌&&◌, not, Option, None, Some, Result, Ok, Err, OnOk}
 use Rattle.std.specs.List.{AllByRecursion}
 use Rattle.std.proofs.lemmas.Bool.{and_parts, not-true, ne_eqb, leb-true}
 use Rattle.std.proofs.lemmas.Bool.Decides.{nat_tests}
 use Rattle.std.specs.Char.{digit_char}
+use Rattle.std.specs.Fmt.{digit_glyph, digits, digits_onto}
 use Rattle.json.specs.Print.{escape, escape_byte, escape_letter, quoted}
 use Rattle.sect_base.specs.declared.choice.Choice.{Choice}
 use Rattle.sect_base.specs.declared.ids.ReservationId.{ReservationId}
+use Rattle.sect_base.specs.declared.ids.SectionId.{SectionId}
 use Rattle.sect_base.specs.Tree.{Tree, Trees, broken, split, none, more, rule_number}
 use Rattle.sect_catalog.specs.declared.row.CatalogFault.{CatalogFault}
 use Rattle.sect_catalog.specs.declared.row.CatalogFault.TheVariants as catalog
@@ -15,7 +17,7 @@ use Rattle.sect_people.specs.declared.row.RequestFault.{RequestFault}
 use Rattle.sect_people.specs.declared.row.RequestFault.TheVariants as request
 use Rattle.sect_reserve.specs.declared.row.ReserveFault.{ReserveFault}
 use Rattle.sect_reserve.specs.declared.row.ReserveFault.TheVariants as reserve
-use Rattle.sect_command.specs.TreeText.{tree_text, others_text, HasText, HaveTexts}
+use Rattle.sect_command.specs.TreeText.{tree_text, others_text}
 use Rattle.sect_command.specs.declared.reply.Reply.{Reply}
 use Rattle.sect_command.specs.declared.reply.Reply.TheVariants as replies
 use Rattle.sect_command.specs.declared.reply.Line.{Line}
@@ -27,9 +29,7 @@ use Rattle.sect_command.specs.declared.reply.RowFault.{RowFault}
 use Rattle.sect_command.specs.declared.reply.RowFault.TheVariants as faults
 use Rattle.sect_words.specs.Words.{optional_text, reservation_text, section_text, sections_text, choice_text}
 use Rattle.sect_text.specs.Replies.{catalog_fault_words, request_fault_words, reserve_fault_words, row_fault_words, refusal_words, result_words, line_words, choice_words, reply_words, reply_text}
-use Rattle.sect_read.specs.Fits.{Fits32, Fits64, FitsList, FitsOptional, FitsReservation, FitsChoice, FitsCatalogFault, FitsRequestFault, FitsReserveFault, FitsRowFault, FitsRefusal, FitsResult, FitsLine, FitsReply}
-use Rattle.sect_read.proofs.Bytes.{IsDigit, digits_decimal, all_append, all_joined, all_weaker, each_text}
-use Rattle.sect_read.proofs.WordSpaces.{rule_small}
+use Rattle.sect_read.proofs.Bytes.{all_append, all_joined}
 
 -- the byte stands for itself in a string of JSON
 abbrev Plain : ℕ → Type 0
@@ -73,105 +73,147 @@ key (b ∷ bs) e =
     let r = and_parts (not (b == 92)) (are_plain bs) q.1 in
     ((leb-true 32 b p.0, not-true (b == 34) q.0, not-true (b == 92) r.0), key bs r.1)
 
-number : (n : ℕ) → Fits64 n → Text (decimal n)
-number n fits = all_weaker IsDigit Plain (λ b d. (omega (arith, d), ne_eqb b 34 (λ e. absurd (omega (arith, e, d))), ne_eqb b 92 (λ e. absurd (omega (arith, e, d))))) (decimal n)
-    (digits_decimal n (omega (arith, fits)))
+below : (d : ℕ) → d < 10 → nat_lt d 10 ≡ true
+below d low = grind (arith, nat_tests)
 
-small : (n : ℕ) → Fits32 n → Text (decimal n)
-small n fits = number n (omega (arith, fits))
+glyph : (d : ℕ) → d < 10 → 48 + d ≡ digit_glyph false d
+glyph d low = λ i. cond (sym (below d low) i) (48 + d) (87 + d)
+
+digit : (d : ℕ) → d < 10 → Plain (digit_glyph false d)
+digit d low = subst Plain (glyph d low)
+    (omega arith, ne_eqb (48 + d) 34 (λ e. absurd (omega (arith, e))), ne_eqb (48 + d) 92 (λ e. absurd (omega (arith, e, low))))
+
+onto : (k n : ℕ) (rest : List ℕ) → Text rest → Text (digits_onto k 10 false n rest)
+onto zero n rest all = all
+onto (suc k) n rest all = by_test (n / 10 == 0) (onto k (n / 10) (digit_glyph false (n % 10) ∷ rest) (digit (n % 10) (omega arith), all))
+  where
+    by_test : (b : Bool) → Text (digits_onto k 10 false (n / 10) (digit_glyph false (n % 10) ∷ rest))
+        → Text (cond b (digit_glyph false (n % 10) ∷ rest) (digits_onto k 10 false (n / 10) (digit_glyph false (n % 10) ∷ rest)))
+    by_test true longer = (digit (n % 10) (omega arith), all)
+    by_test false longer = longer
+
+number : (n : ℕ) → Text (decimal n)
+unfolding digits
+number n = onto 64 n [] tt
 
 append : (xs ys : List (List ℕ)) → Texts xs → Texts ys → Texts (xs ++ ys)
 append [] ys a b = b
 append (x ∷ xs) ys a b = (a.0, append xs ys a.1 b)
 
-each : {X : Type 0} {Fits : X → Type 0} (words : X → List (List ℕ)) → ((x : X) → Fits x → Texts (words x)) → (xs : List X) → FitsList Fits xs → Texts (flat_map words xs)
-each words one [] fits = tt
-each words one (x ∷ xs) fits = append (words x) (flat_map words xs) (one x fits.0) (each words one xs fits.1)
+each : {X : Type 0} (words : X → List (List ℕ)) → ((x : X) → Texts (words x)) → (xs : List X) → Texts (flat_map words xs)
+each words one [] = tt
+each words one (x ∷ xs) = append (words x) (flat_map words xs) (one x) (each words one xs)
+
+sections : (xs : List SectionId) → Texts (map section_text xs)
+sections [] = tt
+sections (x ∷ xs) = (number x.0, sections xs)
 
 -- ---- words
 
-reserved : (id : Option ReservationId) → FitsOptional FitsReservation id → Text (optional_text reservation_text id)
-reserved None fits = key (45 ∷ []) refl
-reserved (Some r) fits = small r.0 fits
+reserved : (id : Option ReservationId) → Text (optional_text reservation_text id)
+reserved None = key (45 ∷ []) refl
+reserved (Some r) = number r.0
 
-choice : (c : Choice) → FitsChoice c → Text (choice_text c)
-choice c fits =
-    let sections : Text (sections_text c.sections) = all_joined Plain 43 (lit≤ tt, refl, refl) (map section_text c.sections) (each_text Plain section_text (λ s f. small s.0 f) c.sections fits.3.2) in
+choice : (c : Choice) → Text (choice_text c)
+choice c =
+    let all : Text (sections_text c.sections) = all_joined Plain 43 (lit≤ tt, refl, refl) (map section_text c.sections) (sections c.sections) in
     all_joined Plain 47 (lit≤ tt, refl, refl) (decimal c.course.0 ∷ optional_text reservation_text c.reservation ∷ decimal c.config.0 ∷ sections_text c.sections ∷ [])
-    (small c.course.0 fits.0, (reserved c.reservation fits.1, (small c.config.0 fits.2, (sections, tt))))
+    (number c.course.0, (reserved c.reservation, (number c.config.0, (all, tt))))
 
-others : (deep : ℕ) → ((u : Tree) → HasText deep u → Text (tree_text u)) → (ts : Trees) → HaveTexts deep ts → Text (others_text ts)
-others deep one none fits = key (93 ∷ []) refl
-others deep one (more t ts) fits = ((lit≤ tt, refl, refl), all_append Plain (tree_text t) (others_text ts) (one t fits.0) (others deep one ts fits.1))
+-- cycles of proofs have the shape of the tree
+mutual
+  tree : (t : Tree) → Text (tree_text t)
+  tree (broken rule n) = all_append Plain (decimal (rule_number rule)) (58 ∷ decimal n) (number (rule_number rule)) ((lit≤ tt, refl, refl), number n)
+  tree (split none) = key (codes "[]") refl
+  tree (split (more t ts)) = ((lit≤ tt, refl, refl), all_append Plain (tree_text t) (others_text ts) (tree t) (others ts))
 
-tree : (deep : ℕ) (t : Tree) → HasText deep t → Text (tree_text t)
-tree deep (broken rule n) fits = all_append Plain (decimal (rule_number rule)) (58 ∷ decimal n) (number (rule_number rule) (rule_small rule)) ((lit≤ tt, refl, refl), number n (omega (arith, fits)))
-tree zero (split ts) fits = absurd fits
-tree (suc deep) (split none) fits = absurd fits
-tree (suc deep) (split (more t ts)) fits = ((lit≤ tt, refl, refl), all_append Plain (tree_text t) (others_text ts) (tree deep t fits.0) (others deep (λ u f. tree deep u f) ts fits.1))
+  others : (ts : Trees) → Text (others_text ts)
+  others none = key (93 ∷ []) refl
+  others (more t ts) = ((lit≤ tt, refl, refl), all_append Plain (tree_text t) (others_text ts) (tree t) (others ts))
 
 -- ---- words of replies
 
-catalog_texts : (x : CatalogFault) → FitsCatalogFault x → Texts (catalog_fault_words x)
-catalog_texts (catalog.Known n) fits = (key (codes "Known") refl, (small n fits, tt))
-catalog_texts catalog.NoCourse fits = (key (codes "NoCourse") refl, tt)
-catalog_texts catalog.NoConfig fits = (key (codes "NoConfig") refl, tt)
-catalog_texts (catalog.NoSubpart n) fits = (key (codes "NoSubpart") refl, (small n fits, tt))
-catalog_texts (catalog.NoSection n) fits = (key (codes "NoSection") refl, (small n fits, tt))
-catalog_texts (catalog.BadParent n) fits = (key (codes "BadParent") refl, (small n fits, tt))
-catalog_texts (catalog.TooMany n) fits = (key (codes "TooMany") refl, (small n fits, tt))
+catalog_texts : (x : CatalogFault) → Texts (catalog_fault_words x)
+catalog_texts (catalog.Known n) = (key (codes "Known") refl, (number n, tt))
+catalog_texts catalog.NoCourse = (key (codes "NoCourse") refl, tt)
+catalog_texts catalog.NoConfig = (key (codes "NoConfig") refl, tt)
+catalog_texts (catalog.NoSubpart n) = (key (codes "NoSubpart") refl, (number n, tt))
+catalog_texts (catalog.NoSection n) = (key (codes "NoSection") refl, (number n, tt))
+catalog_texts (catalog.BadParent n) = (key (codes "BadParent") refl, (number n, tt))
+catalog_texts (catalog.TooMany n) = (key (codes "TooMany") refl, (number n, tt))
 
-request_texts : (x : RequestFault) → FitsRequestFault x → Texts (request_fault_words x)
-request_texts (request.UnknownCourse n) fits = (key (codes "UnknownCourse") refl, (small n fits, tt))
-request_texts (request.Twice n) fits = (key (codes "Twice") refl, (small n fits, tt))
-request_texts (request.TooMany n) fits = (key (codes "TooMany") refl, (small n fits, tt))
+request_texts : (x : RequestFault) → Texts (request_fault_words x)
+request_texts (request.UnknownCourse n) = (key (codes "UnknownCourse") refl, (number n, tt))
+request_texts (request.Twice n) = (key (codes "Twice") refl, (number n, tt))
+request_texts (request.TooMany n) = (key (codes "TooMany") refl, (number n, tt))
 
-reserve_texts : (x : ReserveFault) → FitsReserveFault x → Texts (reserve_fault_words x)
-reserve_texts (reserve.Known n) fits = (key (codes "Known") refl, (small n fits, tt))
-reserve_texts (reserve.Foreign n) fits = (key (codes "Foreign") refl, (small n fits, tt))
-reserve_texts reserve.NoGroup fits = (key (codes "NoGroup") refl, tt)
-reserve_texts (reserve.TooMany n) fits = (key (codes "TooMany") refl, (small n fits, tt))
+reserve_texts : (x : ReserveFault) → Texts (reserve_fault_words x)
+reserve_texts (reserve.Known n) = (key (codes "Known") refl, (number n, tt))
+reserve_texts (reserve.Foreign n) = (key (codes "Foreign") refl, (number n, tt))
+reserve_texts reserve.NoGroup = (key (codes "NoGroup") refl, tt)
+reserve_texts (reserve.TooMany n) = (key (codes "TooMany") refl, (number n, tt))
 
-row_fault_texts : (x : RowFault) → FitsRowFault x → Texts (row_fault_words x)
-row_fault_texts (faults.Offering f) fits = (key (codes "offering") refl, catalog_texts f fits)
-row_fault_texts (faults.Request f) fits = (key (codes "request") refl, request_texts f fits)
-row_fault_texts (faults.Reserve f) fits = (key (codes "reserve") refl, reserve_texts f fits)
+row_fault_texts : (x : RowFault) → Texts (row_fault_words x)
+row_fault_texts (faults.Offering f) = (key (codes "offering") refl, catalog_texts f)
+row_fault_texts (faults.Request f) = (key (codes "request") refl, request_texts f)
+row_fault_texts (faults.Reserve f) = (key (codes "reserve") refl, reserve_texts f)
 
-refusal_texts : (x : Refusal) → FitsRefusal x → Texts (refusal_words x)
-refusal_texts refusals.NotYours fits = (key (codes "NotYours") refl, tt)
-refusal_texts (refusals.Unknown n) fits = (key (codes "Unknown") refl, (small n fits, tt))
-refusal_texts refusals.EmptyWant fits = (key (codes "EmptyWant") refl, tt)
-refusal_texts (refusals.TooMany n) fits = (key (codes "TooMany") refl, (small n fits, tt))
-refusal_texts (refusals.NotEnrolled c) fits = (key (codes "NotEnrolled") refl, (small c.0 fits, tt))
-refusal_texts (refusals.WaitingAlready t) fits = (key (codes "WaitingAlready") refl, (number t fits, tt))
-refusal_texts refusals.NotWaiting fits = (key (codes "NotWaiting") refl, tt)
-refusal_texts (refusals.LimitBelow n) fits = (key (codes "LimitBelow") refl, (small n fits, tt))
-refusal_texts (refusals.InUse n) fits = (key (codes "InUse") refl, (small n fits, tt))
-refusal_texts (refusals.Row f) fits = (key (codes "Row") refl, row_fault_texts f fits)
+refusal_texts : (x : Refusal) → Texts (refusal_words x)
+refusal_texts refusals.NotYours = (key (codes "NotYours") refl, tt)
+refusal_texts (refusals.Unknown n) = (key (codes "Unknown") refl, (number n, tt))
+refusal_texts refusals.EmptyWant = (key (codes "EmptyWant") refl, tt)
+refusal_texts (refusals.TooMany n) = (key (codes "TooMany") refl, (number n, tt))
+refusal_texts (refusals.NotEnrolled c) = (key (codes "NotEnrolled") refl, (number c.0, tt))
+refusal_texts (refusals.WaitingAlready t) = (key (codes "WaitingAlready") refl, (number t, tt))
+refusal_texts refusals.NotWaiting = (key (codes "NotWaiting") refl, tt)
+refusal_texts (refusals.LimitBelow n) = (key (codes "LimitBelow") refl, (number n, tt))
+refusal_texts (refusals.InUse n) = (key (codes "InUse") refl, (number n, tt))
+refusal_texts (refusals.Row f) = (key (codes "Row") refl, row_fault_texts f)
 
-result_texts : (x : LineResult) → FitsResult x → Texts (result_words x)
-result_texts (results.Met c) fits = (key (codes "met") refl, (choice c fits, tt))
-result_texts (results.Held c) fits = (key (codes "held") refl, (small c.0 fits, tt))
-result_texts (results.Blocked v t) fits = (key (codes "blocked") refl, (small v fits.0, (tree 36 t fits.1, tt)))
-result_texts results.Spent fits = (key (codes "spent") refl, tt)
-result_texts (results.Waiting t) fits = (key (codes "waiting") refl, (number t fits, tt))
-result_texts results.Skipped fits = (key (codes "skipped") refl, tt)
+result_texts : (x : LineResult) → Texts (result_words x)
+result_texts (results.Met c) = (key (codes "met") refl, (choice c, tt))
+result_texts (results.Held c) = (key (codes "held") refl, (number c.0, tt))
+result_texts (results.Blocked v t) = (key (codes "blocked") refl, (number v, (tree t, tt)))
+result_texts results.Spent = (key (codes "spent") refl, tt)
+result_texts (results.Waiting t) = (key (codes "waiting") refl, (number t, tt))
+result_texts results.Skipped = (key (codes "skipped") refl, tt)
 
-line_texts : (l : Line) → FitsLine l → Texts (line_words l)
-line_texts l fits = (all_joined Plain 46 (lit≤ tt, refl, refl) (decimal l.student.0 ∷ decimal l.rank ∷ []) (small l.student.0 fits.0, (number l.rank (omega (arith, fits.1)), tt)), result_texts l.result fits.2)
+line_texts : (l : Line) → Texts (line_words l)
+line_texts l = (all_joined Plain 46 (lit≤ tt, refl, refl) (decimal l.student.0 ∷ decimal l.rank ∷ []) (number l.student.0, (number l.rank, tt)), result_texts l.result)
 
-reply_texts : (x : Reply) → FitsReply x → Texts (reply_words x)
-reply_texts replies.Amended fits = (key (codes "amended") refl, tt)
-reply_texts (replies.Enrolled c) fits = (key (codes "enrolled") refl, (choice c fits, tt))
-reply_texts (replies.Dropped c) fits = (key (codes "dropped") refl, (small c.0 fits, tt))
-reply_texts (replies.Swapped cs) fits = (key (codes "swapped") refl, each choice_words (λ c f. (choice c f, tt)) cs fits)
-reply_texts (replies.Waiting t) fits = (key (codes "waiting") refl, (number t fits, tt))
-reply_texts (replies.Placed t c) fits = (key (codes "placed") refl, (number t fits.0, (choice c fits.1, tt)))
-reply_texts (replies.Batched ls) fits = (key (codes "batched") refl, each line_words line_texts ls fits)
-reply_texts (replies.Blocked v t) fits = (key (codes "blocked") refl, (small v fits.0, (tree 36 t fits.1, tt)))
-reply_texts (replies.Spent n) fits = (key (codes "spent") refl, (small n fits, tt))
-reply_texts (replies.Refused r) fits = (key (codes "refused") refl, refusal_texts r fits)
+reply_texts : (x : Reply) → Texts (reply_words x)
+reply_texts replies.Amended = (key (codes "amended") refl, tt)
+reply_texts (replies.Enrolled c) = (key (codes "enrolled") refl, (choice c, tt))
+reply_texts (replies.Dropped c) = (key (codes "dropped") refl, (number c.0, tt))
+reply_texts (replies.Swapped cs) = (key (codes "swapped") refl, each choice_words (λ c. (choice c, tt)) cs)
+reply_texts (replies.Waiting t) = (key (codes "waiting") refl, (number t, tt))
+reply_texts (replies.Placed t c) = (key (codes "placed") refl, (number t, (choice c, tt)))
+reply_texts (replies.Batched ls) = (key (codes "batched") refl, each line_words line_texts ls)
+reply_texts (replies.Blocked v t) = (key (codes "blocked") refl, (number v, (tree t, tt)))
+reply_texts (replies.Spent n) = (key (codes "spent") refl, (number n, tt))
+reply_texts (replies.Refused r) = (key (codes "refused") refl, refusal_texts r)
 
 -- a reply's text stands in quotes as it is
-pub as_it_is : (r : Reply) → FitsReply r → quoted (reply_text r) ≡ 34 ∷ (reply_text r ++ 34 ∷ [])
-as_it_is r fits = ap (λ (text : List ℕ). 34 ∷ (text ++ 34 ∷ [])) (stand (reply_text r) (all_joined Plain 32 (lit≤ tt, refl, refl) (reply_words r) (reply_texts r fits)))
+pub as_it_is : (r : Reply) → quoted (reply_text r) ≡ 34 ∷ (reply_text r ++ 34 ∷ [])
+as_it_is r = ap (λ (text : List ℕ). 34 ∷ (text ++ 34 ∷ [])) (stand (reply_text r) (all_joined Plain 32 (lit≤ tt, refl, refl) (reply_words r) (reply_texts r)))
+
+-- ---- the text of an answer
+
+-- a text between two quotes, behind others
+spliced : (old a d b text : List ℕ) → ((old ++ (a ++ (d ++ (b ++ 34 ∷ [])))) ++ text) ++ 34 ∷ 125 ∷ [] ≡ old ++ (a ++ (d ++ (b ++ ((34 ∷ (text ++ 34 ∷ [])) ++ 125 ∷ []))))
+spliced old a d b text =
+    append_assoc (old ++ (a ++ (d ++ (b ++ 34 ∷ [])))) text (34 ∷ 125 ∷ [])
+    ∙ append_assoc old (a ++ (d ++ (b ++ 34 ∷ []))) (text ++ 34 ∷ 125 ∷ [])
+    ∙ ap (λ (l : List ℕ). old ++ l) (append_assoc a (d ++ (b ++ 34 ∷ [])) (text ++ 34 ∷ 125 ∷ [])
+    ∙ ap (λ (l : List ℕ). a ++ l) (append_assoc d (b ++ 34 ∷ []) (text ++ 34 ∷ 125 ∷ [])
+    ∙ ap (λ (l : List ℕ). d ++ l) (append_assoc b (34 ∷ []) (text ++ 34 ∷ 125 ∷ [])
+    ∙ ap (λ (l : List ℕ). b ++ 34 ∷ l) (sym (append_assoc text (34 ∷ []) (125 ∷ []))))))
+
+-- a reply's text was put behind a quote, and a quote and a brace behind it
+pub stands_behind : {T E : Type 0} (result : Result T E) (now replied placed old a d b : List ℕ) (r : Reply) → OnOk result (now ≡ replied ++ 34 ∷ 125 ∷ [])
+    → replied ≡ placed ++ reply_text r → placed ≡ old ++ (a ++ (d ++ (b ++ 34 ∷ []))) → OnOk result (now ≡ old ++ (a ++ (d ++ (b ++ (quoted (reply_text r) ++ 125 ∷ [])))))
+stands_behind (Ok x) now replied placed old a d b r ends told placed-is =
+    ends ∙ ap (λ (l : List ℕ). l ++ 34 ∷ 125 ∷ []) (told ∙ ap (λ (l : List ℕ). l ++ reply_text r) placed-is)
+    ∙ spliced old a d b (reply_text r)
+    ∙ ap (λ (l : List ℕ). old ++ (a ++ (d ++ (b ++ (l ++ 125 ∷ []))))) (sym (as_it_is r))
+stands_behind (Err e) now replied placed old a d b r ends told placed-is = tt

@@ -1,49 +1,15 @@
 // Answers are printed.
 
-ghost use Rattle.std.specs.Prelude.{◌≡◌, ◌≤◌, ◌++◌, ◌+◌, ◌⊎◌, IfOk, OnOk, OnErr, IsOk, codes, decimal, length, string_bytes, vec_capacity};
+ghost use Rattle.std.specs.Prelude.{◌≡◌, ◌≤◌, ◌++◌, ◌+◌, ◌⊎◌, IfOk, OnOk, OnErr, IsOk, codes, decimal, length, take, vec_capacity};
 ghost use Rattle.json.specs.Print.{quoted};
-ghost use Rattle.serde_json.specs.Data.{number, unsigned, string, object, member, no_members};
-ghost use Rattle.serde_json.specs.Read.{read};
-ghost use Rattle.serde_json.specs.View.{view};
 ghost use Rattle.sect_text.specs.Replies.{reply_text};
-ghost use Rattle.sect_wire.specs.Answers.{IsDone, answer_body, answer_data, answer_status};
+ghost use Rattle.sect_wire.specs.Answers.{IsDone, answer_body, answer_status};
 
 use itoa::Buffer;
 use sect_base::{Memory, append, append_all};
 use sect_command::Reply;
 use sect_once::Answer;
 use sect_text::print_reply;
-use serde_json::{Value, json};
-use std::alloc::{AllocError, Global};
-
-/// The object of a place and a reply, as a value.
-fn done_value(alloc: Global, place: u32, reply: &str) -> Result<Value, AllocError>
-    ensures { IfOk result (λ v. view v ≡ object (member (codes "place") (number (unsigned place))
-        (member (codes "reply") (string reply.now) no_members))) }
-{
-    json!(in alloc; {"place": place, "reply": reply})
-}
-
-/// The object of a place and a reply, as text.
-fn done_text(alloc: Global, place: u32, reply: &str) -> Result<String, AllocError>
-    ensures { IfOk result (λ s. string_bytes s
-        ≡ codes "{\"place\":" ++ (decimal place ++ (codes ",\"reply\":" ++ (quoted reply.now ++ codes "}")))) }
-{
-    done_value(alloc, place, reply)?.to_string(alloc)
-}
-
-/// The object of a request that acted.
-fn done(alloc: Global, place: u32, reply: &Reply) -> Result<String, Memory>
-    ensures { IfOk result (λ s. string_bytes s
-        ≡ codes "{\"place\":" ++ (decimal place ++ (codes ",\"reply\":" ++ (quoted (reply_text reply.now) ++ codes "}")))) }
-{
-    let mut text = Vec::new(alloc);
-    print_reply(reply, &mut text)?;
-    match str::from_utf8(&text) {
-        Ok(text) => Ok(done_text(alloc, place, text)?),
-        Err(_) => Err(Memory),
-    }
-}
 
 /// The status of an answer.
 fn answer_status(answer: &Answer<Reply>) -> u16
@@ -57,14 +23,47 @@ fn answer_status(answer: &Answer<Reply>) -> u16
     }
 }
 
+/// Appends the front of the object of a request that acted, up to the quote before its reply. After `Memory` the bytes are as
+/// before.
+fn print_place(place: u32, into: &mut Vec<u8>) -> Result<(), Memory>
+    ensures text { OnOk result (into.new.items ≡ into.old.items ++ (codes "{\"place\":" ++ (decimal place ++ codes ",\"reply\":\""))) }
+    ensures memory { OnErr result (into.new.items ≡ into.old.items) }
+{
+    let mut digits = Buffer::new();
+    append_all(
+        &[
+            b"{\"place\":",
+            digits.format(place).as_bytes(),
+            b",\"reply\":\"",
+        ],
+        into,
+    )
+}
+
+/// Appends the object of a request that acted. No byte of a reply's text needs an escape. After `Memory` a part of it may
+/// stand at the end.
+fn print_parts(place: u32, reply: &Reply, into: &mut Vec<u8>) -> Result<(), Memory>
+    ensures text { OnOk result (into.new.items ≡ into.old.items
+        ++ (codes "{\"place\":" ++ (decimal place ++ (codes ",\"reply\":" ++ (quoted (reply_text reply.now) ++ codes "}"))))) }
+    ensures front { take (length into.old.items) into.new.items ≡ into.old.items }
+{
+    print_place(place, into)?;
+    print_reply(reply, into)?;
+    append(b"\"}", into)
+}
+
 /// Appends the object of a request that acted. After `Memory` the bytes are as before.
 fn print_done(place: u32, reply: &Reply, into: &mut Vec<u8>) -> Result<(), Memory>
     ensures text { OnOk result (into.new.items ≡ into.old.items
         ++ (codes "{\"place\":" ++ (decimal place ++ (codes ",\"reply\":" ++ (quoted (reply_text reply.now) ++ codes "}"))))) }
     ensures memory { OnErr result (into.new.items ≡ into.old.items) }
 {
-    let text = done(*into.allocator(), place, reply)?;
-    append(text.as_bytes(), into)
+    let before = into.len();
+    let printed = print_parts(place, reply, into);
+    if printed.is_err() {
+        into.truncate(before);
+    }
+    printed
 }
 
 /// Appends that the number was reused, with the place. After `Memory` the bytes are as before; room for 64 is enough.

@@ -7,7 +7,7 @@ ghost use Rattle.serde_json.specs.Written.{compact_text};
 ghost use Rattle.sect_command.specs.declared.command.Command.{Command};
 ghost use Rattle.sect_command.specs.declared.reply.Reply.{Reply};
 ghost use Rattle.sect_once.specs.declared.answer.Answer.{Answer};
-ghost use Rattle.sect_read.specs.Fits.{FitsCommand, FitsReply};
+ghost use Rattle.sect_read.specs.Fits.{FitsCommand};
 ghost use Rattle.sect_text.specs.Replies.{reply_text};
 ghost use Rattle.sect_wire.specs.Answers.{FitsPlace, answer_body, answer_data};
 ghost use Rattle.sect_wire.specs.Bodies.{command_of};
@@ -25,5 +25,5 @@ pub fn an_answer_is_read_again()
 
 /// No byte of a reply's text needs an escape: it stands in an answer as it is, between two quotes.
 pub fn a_reply_stands_as_it_is()
-    ensures { (r : Reply) → FitsReply r → quoted (reply_text r) ≡ 34 ∷ (reply_text r ++ 34 ∷ []) }
+    ensures { (r : Reply) → quoted (reply_text r) ≡ 34 ∷ (reply_text r ++ 34 ∷ []) }
 {}

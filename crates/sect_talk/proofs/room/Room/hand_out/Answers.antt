@@ -1,6 +1,6 @@
 use Rattle.std.proofs.Common.{sym}
 use Rattle.sect_talk.proofs.Stored.{drop-stored}
-use Rattle.sect_talk.proofs.room.Room.consume.Goals as goal
+use Rattle.sect_talk.proofs.room.Room.hand_out.Goals as goal
 
 pub returns : goal.returns
 returns c =
