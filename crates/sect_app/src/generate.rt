@@ -15,7 +15,8 @@ ghost use Rattle.sect_app.specs.Generated.{
 };
 
 use sect_base::{
-    ConfigId, CourseId, Items, Limit, Meeting, Memory, OfferingId, SectionId, StudentId, SubpartId,
+    Alternatives, ConfigId, CourseId, Items, Limit, Meeting, Memory, OfferingId, SectionId,
+    StudentId, SubpartId,
 };
 use sect_catalog::{ConfigRow, CourseRow, OfferingRow, SectionRow, SubpartRow};
 use sect_command::Command;
@@ -191,25 +192,24 @@ fn asks(alloc: Global, n: u32, s: u32, count: u32) -> Result<Items<Ask>, Memory>
 {
     let mut asks = Vec::new(alloc);
     for j in 0..count {
-        asks.push(ask(alloc, n, s, j)?)?;
+        asks.push(ask(alloc, n, s, j))?;
     }
     Ok(Items::from_vec(asks))
 }
 
 /// The request of student `s` for the `j`-th course behind that of their number.
-fn ask(alloc: Global, n: u32, s: u32, j: u32) -> Result<Ask, Memory>
+fn ask(alloc: Global, n: u32, s: u32, j: u32) -> Ask
     requires first { 1 ≤ n }
     requires bound { s ≤ 2000 }
     requires three { j < 3 }
-    ensures { IfOk result (λ ask. ask ≡ ask_of n s j) }
+    ensures { result ≡ ask_of n s j }
 {
-    let mut courses = Vec::new(alloc);
-    courses.push(CourseId((s + j) % n + 1))?;
-    Ok(Ask::Course(CourseAsk {
-        courses: Items::from_vec(courses),
+    let course = CourseId((s + j) % n + 1);
+    Ask::Course(CourseAsk {
+        courses: Alternatives::one(alloc, course),
         wait: false,
         substitute: false,
-    }))
+    })
 }
 
 /// The batch with this number, from 0, where there are `n` courses.

@@ -2,6 +2,7 @@
 
 ghost use Rattle.std.specs.Prelude.{◌≡◌, ◌↔◌, IsTrue};
 
+use crate::alternatives::Alternatives;
 use crate::block::Block;
 use crate::choice::{Choice, Curriculum, Move, Want};
 use crate::ids::{ClassId, ConfigId, CourseId, GroupId, MajorId, SectionId, StudentId};
@@ -69,6 +70,12 @@ impl Same for Choice {
             && self.reservation == other.reservation
             && self.config == other.config
             && self.sections.same(&other.sections)
+    }
+}
+
+impl Same for Alternatives {
+    fn same(&self, other: &Self) -> bool {
+        all_same(self.as_slice(), other.as_slice())
     }
 }
 

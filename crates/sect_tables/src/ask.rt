@@ -7,7 +7,7 @@ ghost use Rattle.sect_tables.specs.Told.{Tells, told};
 
 use crate::fields::field;
 use crate::line::LineFault;
-use crate::values::{list_at, value_at};
+use crate::values::value_at;
 use csv::ByteRecord;
 use itoa::Buffer;
 use sect_base::StudentId;
@@ -67,7 +67,7 @@ fn request_of_kind(alloc: Global, kind: &[u8], row: &ByteRecord) -> Result<Ask, 
 fn course_request(alloc: Global, row: &ByteRecord) -> Result<Ask, LineFault>
     ensures { Tells result (course_fields (fields_of row.now)) }
 {
-    let courses = list_at(alloc, row, 4, b'+')?;
+    let courses = value_at(alloc, row, 4)?;
     let wait = value_at(alloc, row, 5)?;
     let substitute = value_at(alloc, row, 6)?;
     Ok(Ask::Course(CourseAsk {

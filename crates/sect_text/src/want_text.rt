@@ -6,7 +6,7 @@ ghost use Rattle.sect_words.specs.Words.{list_text, course_text};
 ghost use Rattle.sect_text.specs.Commands.{stated_words, only_words, printed_want, take_words};
 
 use crate::phrase::{Phrase, print_named};
-use sect_base::{CourseId, Items, Memory, SectionId, StudentId, Want};
+use sect_base::{Alternatives, CourseId, Items, Memory, SectionId, StudentId, Want};
 use sect_words::{Spelled, print_bytes, put, put_bytes, put_courses, put_marked};
 
 /// A key and a number, where it is not the default.
@@ -58,7 +58,7 @@ impl Phrase for Want {
 fn print_asked(
     verb: &[u8],
     student: StudentId,
-    courses: &Items<CourseId>,
+    courses: &Alternatives,
     into: &mut Vec<u8>,
 ) -> Result<(), Memory>
     requires { length verb.now ≤ 8 }

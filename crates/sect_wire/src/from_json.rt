@@ -17,7 +17,7 @@ ghost use Rattle.sect_wire.specs.Values.{
   u64_in,
 };
 
-use sect_base::{CourseId, Items, SectionId, StudentId};
+use sect_base::{Alternatives, CourseId, Items, SectionId, StudentId};
 use sect_words::Fault;
 use serde_json::Value;
 use std::alloc::Global;
@@ -119,6 +119,15 @@ impl<T: FromJson> FromJson for Items<T> {
             Some(values) => read_each(alloc, values),
             None => Err(Fault::Bad),
         }
+    }
+}
+
+impl FromJson for Alternatives {
+    ghost reads = { list_in course_in };
+
+    fn read(alloc: Global, value: &Value) -> Result<Alternatives, Fault> {
+        let courses = Items::<CourseId>::read(alloc, value)?;
+        Ok(Alternatives::from_slice(alloc, courses.as_slice())?)
     }
 }
 

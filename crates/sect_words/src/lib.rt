@@ -12,6 +12,7 @@ mod readable;
 mod readable_ids;
 mod same;
 mod spelled;
+mod spelled_lists;
 mod spelled_rows;
 mod take;
 
@@ -25,5 +26,6 @@ pub use printing::{print_bytes, print_number, print_text};
 pub use read_terms::read_meetings;
 pub use readable::{Readable, read_all, read_list};
 pub use same::same_bytes;
-pub use spelled::{Spelled, print_list, print_marked, print_whole};
+pub use spelled::{Spelled, print_marked, print_whole};
+pub use spelled_lists::print_list;
 pub use spelled_rows::put_choice;

@@ -11,6 +11,7 @@ ghost use Rattle.sect_words.specs.ReadingWords.{
   u64_of,
   day_of,
   meeting_of,
+  course_of,
   list_of,
   flag_of,
   optional_of,
@@ -26,8 +27,8 @@ use crate::number::read_number;
 use crate::parts::Parts;
 use crate::same::same_bytes;
 use sect_base::{
-    Block, Caller, Day, Items, Limit, Meeting, SectionId, Sections, StudentId, read_day,
-    read_meeting,
+    Alternatives, Block, Caller, CourseId, Day, Items, Limit, Meeting, SectionId, Sections,
+    StudentId, read_day, read_meeting,
 };
 use sect_command::read_block;
 use std::alloc::Global;
@@ -242,6 +243,42 @@ impl<T: Readable> Readable for Items<T> {
         }
         match parts.next() {
             Some(part) => read_list(alloc, part, b'+'),
+            None => Err(Fault::Bad),
+        }
+    }
+}
+
+/// The courses of all parts of a text between plus signs, of which there is one at least. It takes memory where they are more
+/// than four.
+fn read_courses(alloc: Global, word: &[u8]) -> Result<Alternatives, Fault>
+    ensures { Means result (all_of course_of (pieces 43 word.now)) }
+{
+    let mut parts = Parts::new(word, b'+');
+    let mut courses = Alternatives::none(alloc);
+    while !parts.is_empty() {
+        courses.push(CourseId::read_next(alloc, &mut parts)?)?;
+    }
+    Ok(courses)
+}
+
+#[tactic(auto, unfolding(crate::specs::ReadingWords::list_of))]
+impl Readable for Alternatives {
+    ghost reads = { list_of 43 course_of };
+
+    fn read(alloc: Global, word: &[u8]) -> Result<Alternatives, Fault> {
+        if same_bytes(word, b"-") {
+            return Ok(Alternatives::none(alloc));
+        }
+        read_courses(alloc, word)
+    }
+
+    #[inline(always)]
+    fn read_next(alloc: Global, parts: &mut Parts) -> Result<Alternatives, Fault> {
+        if let Some(course) = CourseId::read_alone(parts) {
+            return Ok(Alternatives::one(alloc, course));
+        }
+        match parts.next() {
+            Some(part) => Alternatives::read(alloc, part),
             None => Err(Fault::Bad),
         }
     }

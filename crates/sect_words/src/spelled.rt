@@ -1,14 +1,11 @@
 // What is printed in one word.
 
-ghost use Rattle.std.specs.Prelude.{◌≡◌, ℕ, List, [], ◌++◌, ◌∷◌, OnOk, OnErr, IfSome, decimal, length, take, map, codes, drop};
+ghost use Rattle.std.specs.Prelude.{◌≡◌, ℕ, List, ◌++◌, ◌∷◌, OnOk, OnErr, IfSome, decimal, length, take};
 ghost use Rattle.sect_base.specs.declared.limit.Limit.{Limit};
 ghost use Rattle.sect_base.specs.MeetingText.{meeting_text};
 ghost use Rattle.sect_command.specs.TreeText.{tree_text};
-ghost use Rattle.sect_words.specs.Parts.{joined, behind};
 ghost use Rattle.sect_words.specs.Days.{day_text};
 ghost use Rattle.sect_words.specs.Words.{
-  dash,
-  list_text,
   optional_text,
   limit_text,
   course_text,
@@ -18,21 +15,15 @@ ghost use Rattle.sect_words.specs.Words.{
   class_text,
   major_text,
   caller_text,
-  curriculum_text,
-  audience_text,
-  sections_text,
-  choice_text,
 };
 
 use crate::digits::put_caller;
 use crate::printing::{print_bytes, print_number, print_number_after, print_number_named};
 use sect_base::{
-    Block, Caller, Choice, ClassId, ConfigId, CourseId, Curriculum, Day, GroupId, Items, Limit,
-    MajorId, Meeting, Memory, ReservationId, SectionId, Sections, StudentId, print_day,
-    print_meeting,
+    Block, Caller, ClassId, ConfigId, CourseId, Day, GroupId, Limit, MajorId, Meeting, Memory,
+    ReservationId, SectionId, StudentId, print_day, print_meeting,
 };
 use sect_command::print_block;
-use sect_reserve::Audience;
 
 /// A value that stands in one word.
 pub trait Spelled {
@@ -99,48 +90,6 @@ pub fn print_marked<T: Spelled>(mark: u8, value: &T, into: &mut Vec<u8>) -> Resu
     ensures front { take (length into.old.items) into.new.items ≡ into.old.items }
 {
     value.print_after(mark, into)
-}
-
-/// Appends the elements, each behind the mark. After `Memory` a part of them may stand at the end.
-pub(crate) fn print_behind<T: Spelled>(
-    mark: u8,
-    items: &[T],
-    into: &mut Vec<u8>,
-) -> Result<(), Memory>
-    ensures text { OnOk result (into.new.items ≡ into.old.items ++ behind mark (map T.spelling items.now)) }
-    ensures front { take (length into.old.items) into.new.items ≡ into.old.items }
-{
-    for item in items {
-        print_marked(mark, item, into)?;
-    }
-    Ok(())
-}
-
-/// Appends the elements with the mark between each two. After `Memory` a part of them may stand at the end.
-fn print_joined<T: Spelled>(mark: u8, items: &[T], into: &mut Vec<u8>) -> Result<(), Memory>
-    ensures text { OnOk result (into.new.items ≡ into.old.items ++ joined mark (map T.spelling items.now)) }
-    ensures front { take (length into.old.items) into.new.items ≡ into.old.items }
-{
-    match items {
-        [] => Ok(()),
-        [first, rest @ ..] => {
-            first.print(into)?;
-            print_behind(mark, rest, into)
-        }
-    }
-}
-
-/// Appends the elements with the mark between each two, or a dash where there is none. After `Memory` a part of them
-/// may stand at the end.
-pub fn print_list<T: Spelled>(mark: u8, items: &[T], into: &mut Vec<u8>) -> Result<(), Memory>
-    ensures text { OnOk result (into.new.items ≡ into.old.items ++ list_text mark T.spelling items.now) }
-    ensures front { take (length into.old.items) into.new.items ≡ into.old.items }
-{
-    if items.is_empty() {
-        print_bytes(b"-", into)
-    } else {
-        print_joined(mark, items, into)
-    }
 }
 
 impl Spelled for u8 {
@@ -329,37 +278,6 @@ impl<T: Spelled> Spelled for Option<T> {
     }
 }
 
-impl<T: Spelled> Spelled for Items<T> {
-    ghost spelling = { list_text 43 T.spelling };
-
-    fn print(&self, into: &mut Vec<u8>) -> Result<(), Memory> {
-        print_list(b'+', self.as_slice(), into)
-    }
-
-    fn print_after(&self, mark: u8, into: &mut Vec<u8>) -> Result<(), Memory> {
-        match self.as_slice() {
-            [] => print_bytes(&[mark, b'-'], into),
-            [first, rest @ ..] => {
-                first.print_after(mark, into)?;
-                print_behind(b'+', rest, into)
-            }
-        }
-    }
-
-    fn print_named(&self, name: &[u8], mark: u8, into: &mut Vec<u8>) -> Result<(), Memory> {
-        match self.as_slice() {
-            [] => {
-                print_bytes(name, into)?;
-                print_bytes(&[mark, b'-'], into)
-            }
-            [first, rest @ ..] => {
-                first.print_named(name, mark, into)?;
-                print_behind(b'+', rest, into)
-            }
-        }
-    }
-}
-
 impl Spelled for Limit {
     ghost spelling = { limit_text };
 
@@ -385,13 +303,5 @@ impl Spelled for Caller {
         let mut bytes = [0; 16];
         let start = put_caller(*self, &mut bytes, 16);
         print_bytes(&bytes[start..], into)
-    }
-}
-
-impl Spelled for Sections {
-    ghost spelling = { sections_text };
-
-    fn print(&self, into: &mut Vec<u8>) -> Result<(), Memory> {
-        print_joined(b'+', self.as_slice(), into)
     }
 }

@@ -16,7 +16,8 @@ ghost use Rattle.sect_words.specs.Words.{
 
 use crate::digits::{put, put_each, put_marked, put_number};
 use crate::printing::{print_behind_name, print_bytes};
-use crate::spelled::{Spelled, print_behind, print_marked};
+use crate::spelled::{Spelled, print_marked};
+use crate::spelled_lists::print_behind;
 use sect_base::{
     AreaId, Choice, ClassId, Curriculum, Items, MajorId, Memory, ReservationId, SectionId,
 };

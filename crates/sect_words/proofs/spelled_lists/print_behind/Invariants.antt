@@ -1,7 +1,7 @@
 -- What was printed so far, and what stood before still does.
 use Rattle.std.proofs.Common.{◌≡◌, ◌++◌, length, take, map}
 use Rattle.sect_words.specs.Parts.{behind}
-use Rattle.sect_words.proofs.spelled.print_behind.Given as goal
+use Rattle.sect_words.proofs.spelled_lists.print_behind.Given as goal
 
 abbrev pub invariant-loop-item : goal.invariant-loop-item
 invariant-loop-item g l = record {
