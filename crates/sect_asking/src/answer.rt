@@ -1,5 +1,5 @@
 // Prints the line that answers a request.
-ghost use Rattle.std.specs.Prelude.{◌≡◌, ◌++◌, OnOk, codes, decimal};
+ghost use Rattle.std.specs.Prelude.{◌≡◌, ◌++◌, OnOk, codes, decimal, length, take};
 ghost use Rattle.sect_asking.specs.AnswerLines.{answer_line};
 ghost use Rattle.sect_command.specs.declared.reply.Reply.{Reply};
 ghost use Rattle.sect_once.specs.declared.answer.Answer.TheVariants.{Done, NumberReused};
@@ -12,7 +12,8 @@ use sect_words::print_number;
 
 /// Appends the line that answers a request. After `Memory` a part of it may stand at the end.
 pub fn print_answer(answer: &Answer<Reply>, into: &mut Vec<u8>) -> Result<(), Memory>
-    ensures { OnOk result (into.new.items ≡ into.old.items ++ answer_line answer.now) }
+    ensures text { OnOk result (into.new.items ≡ into.old.items ++ answer_line answer.now) }
+    ensures front { take (length into.old.items) into.new.items ≡ into.old.items }
 {
     match answer {
         Answer::Done { place, reply } => print_done(*place, reply, into)?,
@@ -26,7 +27,8 @@ pub fn print_answer(answer: &Answer<Reply>, into: &mut Vec<u8>) -> Result<(), Me
 
 /// Appends the place and the reply.
 fn print_done(place: u32, reply: &Reply, into: &mut Vec<u8>) -> Result<(), Memory>
-    ensures { OnOk result (into.new.items ≡ into.old.items ++ answer_line (Done place reply.now)) }
+    ensures text { OnOk result (into.new.items ≡ into.old.items ++ answer_line (Done place reply.now)) }
+    ensures front { take (length into.old.items) into.new.items ≡ into.old.items }
 {
     print_number(place, into)?;
     into.push(b' ')?;
@@ -37,7 +39,8 @@ fn print_done(place: u32, reply: &Reply, into: &mut Vec<u8>) -> Result<(), Memor
 
 /// Appends the place and the text of the reply.
 pub(crate) fn print_told(place: u32, reply: &[u8], into: &mut Vec<u8>) -> Result<(), Memory>
-    ensures { OnOk result (into.new.items ≡ into.old.items ++ (decimal place ++ (codes " " ++ (reply.now ++ codes "\n")))) }
+    ensures text { OnOk result (into.new.items ≡ into.old.items ++ (decimal place ++ (codes " " ++ (reply.now ++ codes "\n")))) }
+    ensures front { take (length into.old.items) into.new.items ≡ into.old.items }
 {
     print_number(place, into)?;
     into.push(b' ')?;
@@ -48,7 +51,8 @@ pub(crate) fn print_told(place: u32, reply: &[u8], into: &mut Vec<u8>) -> Result
 
 /// Appends the place that has the number.
 fn print_reused(place: u32, into: &mut Vec<u8>) -> Result<(), Memory>
-    ensures { OnOk result (into.new.items ≡ into.old.items ++ answer_line (NumberReused place)) }
+    ensures text { OnOk result (into.new.items ≡ into.old.items ++ answer_line (NumberReused place)) }
+    ensures front { take (length into.old.items) into.new.items ≡ into.old.items }
 {
     into.extend_from_slice(b"reused ")?;
     print_number(place, into)?;

@@ -1,10 +1,10 @@
 // Answers the lines of a script.
-ghost use Rattle.std.specs.Prelude.{◌≡◌, ℕ, List, [], ◌++◌, false, IfOk, OnOk, IsErrOf};
+ghost use Rattle.std.specs.Prelude.{◌≡◌, ℕ, List, ◌++◌, false, length, take, IfOk, OnOk, OnErr, IsErrOf};
 ghost use Rattle.sect_script.specs.declared.script.LineFault.TheVariants as faults;
 ghost use Rattle.sect_once.specs.Desks.{Answers as AnswersAsk, IsSound};
 ghost use Rattle.sect_asking.specs.Asks.{is_passed_over, AnswersScript, HasReply, IsAskedOn, IsKnown};
 ghost use Rattle.sect_asking.specs.AnswerLines.{answer_line};
-ghost use Rattle.sect_script.specs.Run.{MayAnswer};
+ghost use Rattle.sect_script.specs.Run.{AnswersBehind, MayAnswer};
 ghost use Rattle.sect_read.specs.declared.fault.WireFault.TheVariants as wire;
 ghost use Rattle.sect_wire.specs.Fits.{FitsCommand, FitsDay, FitsId};
 ghost use Rattle.sect_wire.specs.Lines.{IsLine};
@@ -107,7 +107,8 @@ impl<O: TextObject, K: Keeper, C: Clock> Asker<O, K, C> {
     /// Appends the line of an answer of the desk. Where its entry is the last, the text of the reply is that in the entry's row.
     fn print_line(&self, answer: &Answer<Reply>, into: &mut Vec<u8>) -> Result<(), Memory>
         requires { HasReply self.now.desk.log answer.now }
-        ensures { OnOk result (into.new.items ≡ into.old.items ++ answer_line answer.now) }
+        ensures text { OnOk result (into.new.items ≡ into.old.items ++ answer_line answer.now) }
+        ensures front { take (length into.old.items) into.new.items ≡ into.old.items }
     {
         if let Answer::Done { place, reply: _ } = answer {
             if let Some(text) = self.desk.reply_text(*place) {
@@ -117,11 +118,11 @@ impl<O: TextObject, K: Keeper, C: Clock> Asker<O, K, C> {
         print_answer(answer, into)
     }
 
-    /// Puts the answer to a line that isn't passed over behind what `into` holds, which is nothing.
+    /// Puts the answer to a line that isn't passed over behind what `into` holds, which stands in front at a fault too.
     fn answer_request(&mut self, line: &[u8], into: &mut Vec<u8>) -> Result<(), LineFault>
-        requires empty { into.old.items ≡ [] }
         requires request { is_passed_over line.now ≡ false }
-        ensures answered { OnOk result (AnswersScript O.stepped O.is_row K.rows K.faults self.old line.now into.new.items self.new) }
+        ensures answered { OnOk result (AnswersBehind (AnswersScript O.stepped O.is_row K.rows K.faults) self.old line.now into.old.items into.new.items self.new) }
+        ensures front { OnErr result (take (length into.old.items) into.new.items ≡ into.old.items) }
         ensures bad { IsErrOf result faults.Bad → IsKnown line.now → ⊥ }
         ensures kept { IsErrOf result faults.Bad → self.new ≡ self.old }
         ensures memory { IsErrOf result faults.Memory → MayAnswer (AnswersScript O.stepped O.is_row K.rows K.faults) self.old line.now self.new }
@@ -155,7 +156,6 @@ impl<O: TextObject, K: Keeper, C: Clock> Handler for Asker<O, K, C> {
     ghost answers = { AnswersScript O.stepped O.is_row K.rows K.faults };
 
     fn answer(&mut self, line: &[u8], into: &mut Vec<u8>) -> Result<(), LineFault> {
-        into.clear();
         if is_passed_over(line) {
             return Ok(());
         }

@@ -35,15 +35,15 @@ impl Handler for Checker {
     ghost answers = { ChecksLine };
 
     fn answer(&mut self, line: &[u8], into: &mut Vec<u8>) -> Result<(), LineFault> {
-        into.clear();
         let Some(number) = self.lines.checked_add(1) else {
             return Err(LineFault::Memory);
         };
-        if say(number, line, into).is_err() {
+        let mut said = Vec::new(*into.allocator());
+        if say(number, line, &mut said).is_err() || into.extend_from_slice(&said).is_err() {
             return Err(LineFault::Memory);
         }
         self.lines = number;
-        self.first = first_after(self.first, number, into);
+        self.first = first_after(self.first, number, &said);
         Ok(())
     }
 }

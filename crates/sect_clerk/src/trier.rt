@@ -1,7 +1,7 @@
 // Tries the lines of a script.
-ghost use Rattle.std.specs.Prelude.{◌≡◌, ◌⊎◌, ◌<◌, ℕ, [], false, OnOk, IsErrOf, Some, length, slice_get};
+ghost use Rattle.std.specs.Prelude.{◌≡◌, ◌⊎◌, ◌<◌, ℕ, false, OnOk, OnErr, IsErrOf, Some, length, slice_get, take};
 ghost use Rattle.sect_script.specs.declared.script.LineFault.TheVariants as faults;
-ghost use Rattle.sect_script.specs.Run.{MayAnswer};
+ghost use Rattle.sect_script.specs.Run.{AnswersBehind, MayAnswer};
 ghost use Rattle.sect_command.specs.declared.command.Command.{Command};
 ghost use Rattle.sect_command.specs.declared.reply.Reply.{Reply};
 ghost use Rattle.sect_once.specs.declared.answer.Answer.TheVariants.{Done, Memory as NoMemory};
@@ -147,11 +147,11 @@ impl<O: TextObject, K: Keeper, C: Clock> Trier<O, K, C> {
         self.would_answer(&id, day, command)
     }
 
-    /// Puts the answer to a line that isn't passed over behind what `into` holds, which is nothing.
+    /// Puts the answer to a line that isn't passed over behind what `into` holds, which stands in front at a fault too.
     fn try_request(&mut self, line: &[u8], into: &mut Vec<u8>) -> Result<(), LineFault>
-        requires empty { into.old.items ≡ [] }
         requires request { is_passed_over line.now ≡ false }
-        ensures answered { OnOk result (TriesLine O.stepped O.is_row self.old line.now into.new.items self.new) }
+        ensures answered { OnOk result (AnswersBehind (TriesLine O.stepped O.is_row) self.old line.now into.old.items into.new.items self.new) }
+        ensures front { OnErr result (take (length into.old.items) into.new.items ≡ into.old.items) }
         ensures bad { IsErrOf result faults.Bad → IsKnown line.now → ⊥ }
         ensures kept { IsErrOf result faults.Bad → self.new ≡ self.old }
         ensures memory { IsErrOf result faults.Memory → MayAnswer (TriesLine O.stepped O.is_row) self.old line.now self.new }
@@ -171,7 +171,6 @@ impl<O: TextObject, K: Keeper, C: Clock> Handler for Trier<O, K, C> {
     ghost answers = { TriesLine O.stepped O.is_row };
 
     fn answer(&mut self, line: &[u8], into: &mut Vec<u8>) -> Result<(), LineFault> {
-        into.clear();
         if is_passed_over(line) {
             return Ok(());
         }

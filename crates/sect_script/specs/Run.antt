@@ -14,6 +14,10 @@ LINES_LIMIT = 16777216
 abbrev pub MayAnswer : {H : Type 0} → (H → List ℕ → List ℕ → H → Type 0) → H → List ℕ → H → Type 0
 MayAnswer answers old line new = (new ≡ old) ⊎ ((bytes : List ℕ) × answers old line bytes new)
 
+-- the line is answered by the bytes that were put behind these
+abbrev pub AnswersBehind : {H : Type 0} → (H → List ℕ → List ℕ → H → Type 0) → H → List ℕ → List ℕ → List ℕ → H → Type 0
+AnswersBehind answers old line before after new = (bytes : List ℕ) × (after ≡ before ++ bytes) × answers old line bytes new
+
 -- in this state the line, which isn't too long, is answered by these bytes
 abbrev pub AnswersLine : {H : Type 0} → (H → List ℕ → List ℕ → H → Type 0) → H → Line → List ℕ → H → Type 0
 AnswersLine answers old line bytes new = (length (bytes_of line) ≤ LINE_LIMIT) × answers old (text_of line) bytes new

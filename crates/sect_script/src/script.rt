@@ -1,13 +1,14 @@
 // The loop over the lines.
-ghost use Rattle.std.specs.Prelude.{◌≡◌, ◌≤◌, ◌<◌, ◌+◌, List, ℕ, Option, Some, IfOk, OnOk, OnErr, IfNone, IsErrOf};
+ghost use Rattle.std.specs.Prelude.{◌≡◌, ◌≤◌, ◌<◌, ◌+◌, List, ℕ, Option, Some, length, take, IfOk, OnOk, OnErr, IfNone, IsErrOf};
 ghost use Rattle.std.specs.Io.KnownBytes.{IsAtEnd};
 ghost use Rattle.sect_edge.specs.Causes.{Rose};
 ghost use Rattle.sect_script.specs.declared.script.LineFault.TheVariants as faults;
 ghost use Rattle.sect_script.specs.declared.script.RunEnd.TheVariants as ends;
-ghost use Rattle.sect_script.specs.Run.{LINES_LIMIT, MayAnswer, Ran};
+ghost use Rattle.sect_script.specs.Run.{AnswersBehind, LINES_LIMIT, MayAnswer, Ran};
 ghost use Rattle.sect_script.specs.Progress.{GoesOn, Progress, Turns};
 
-use crate::{LineEnd, LineError, LineReader, Unwritten, gather, write_out};
+use crate::write::{Unwritten, write_many, write_out};
+use crate::{LineEnd, LineError, LineReader};
 use sect_edge::{Sink, Source};
 use std::alloc::Global;
 
@@ -39,10 +40,11 @@ pub trait Handler {
     /// In one state the line is answered by these bytes, which leads to another state.
     ghost answers: { Self → List ℕ → List ℕ → Self → Type 0 };
 
-    /// Puts the answer to a line in place of what `into` held. `Bad` comes only where the line has none.
-    /// At `Memory` the line was answered or not, and what `into` holds is left open.
+    /// Puts the answer to a line behind what `into` holds. `Bad` comes only where the line has none. At a fault what `into` held
+    /// stands in front, and what is behind it is left open. At `Memory` the line was answered or not.
     fn answer(&mut self, line: &[u8], into: &mut Vec<u8>) -> Result<(), LineFault>
-        ensures answered { OnOk result (answers self.old line.now into.new.items self.new) }
+        ensures answered { OnOk result (AnswersBehind answers self.old line.now into.old.items into.new.items self.new) }
+        ensures front { OnErr result (take (length into.old.items) into.new.items ≡ into.old.items) }
         ensures bad { IsErrOf result faults.Bad → known line.now → ⊥ }
         ensures kept { IsErrOf result faults.Bad → self.new ≡ self.old }
         ensures memory { IsErrOf result faults.Memory → MayAnswer answers self.old line.now self.new };
@@ -66,7 +68,6 @@ pub fn run_lines<S: Source, K: Sink, H: Handler>(
         return RunEnd::Memory;
     };
     let mut line = Vec::new(alloc);
-    let mut answer = Vec::new(alloc);
     let mut gathered = Vec::new(alloc);
     let mut number = 1;
     loop {
@@ -76,7 +77,6 @@ pub fn run_lines<S: Source, K: Sink, H: Handler>(
             sink,
             handler,
             &mut line,
-            &mut answer,
             &mut gathered,
             number,
         ) {
@@ -96,7 +96,6 @@ fn turn<S: Source, K: Sink, H: Handler>(
     sink: &mut K,
     handler: &mut H,
     line: &mut Vec<u8>,
-    answer: &mut Vec<u8>,
     gathered: &mut Vec<u8>,
     number: u64,
 ) -> Option<RunEnd>
@@ -111,12 +110,12 @@ fn turn<S: Source, K: Sink, H: Handler>(
     ensures write_faults { K.faults sink.old ≤ K.faults sink.new }
 {
     match reader.read_line(source, sink, gathered, line) {
-        Ok(LineEnd::LineFeed) => answer_line(sink, handler, line, answer, gathered, number),
+        Ok(LineEnd::LineFeed) => answer_line(sink, handler, line, gathered, number),
         Ok(LineEnd::EndOfInput) => {
             if line.is_empty() {
                 return Some(RunEnd::Done);
             }
-            match answer_line(sink, handler, line, answer, gathered, number) {
+            match answer_line(sink, handler, line, gathered, number) {
                 None => Some(RunEnd::Done),
                 Some(status) => Some(status),
             }
@@ -131,12 +130,11 @@ fn turn<S: Source, K: Sink, H: Handler>(
     }
 }
 
-/// Answers one line. The end is there where the run ends.
+/// Answers one line, and writes what is gathered where it is many. The end is there where the run ends.
 fn answer_line<K: Sink, H: Handler>(
     sink: &mut K,
     handler: &mut H,
     line: &[u8],
-    answer: &mut Vec<u8>,
     gathered: &mut Vec<u8>,
     number: u64,
 ) -> Option<RunEnd>
@@ -150,15 +148,29 @@ fn answer_line<K: Sink, H: Handler>(
             field: 0,
         });
     }
-    match handler.answer(line, answer) {
-        Ok(()) => match gather(sink, gathered, answer) {
+    let before = gathered.len();
+    match handler.answer(line, gathered) {
+        Ok(()) => match write_many(sink, gathered) {
             Ok(()) => None,
             Err(Unwritten) => Some(RunEnd::WriteFault),
         },
-        Err(LineFault::Bad) => Some(RunEnd::BadLine {
+        Err(fault) => {
+            gathered.truncate(before);
+            Some(end_at(fault, number))
+        }
+    }
+}
+
+/// How a run ends at the line with this number, which has no answer.
+fn end_at(fault: LineFault, number: u64) -> RunEnd
+    ensures bad { fault ≡ faults.Bad → result ≡ ends.BadLine number 0 }
+    ensures memory { fault ≡ faults.Memory → result ≡ ends.Memory }
+{
+    match fault {
+        LineFault::Bad => RunEnd::BadLine {
             line: number,
             field: 0,
-        }),
-        Err(LineFault::Memory) => Some(RunEnd::Memory),
+        },
+        LineFault::Memory => RunEnd::Memory,
     }
 }

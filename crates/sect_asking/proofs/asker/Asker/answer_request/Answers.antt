@@ -34,11 +34,15 @@ ask_lent-answer-requires g c = line_fits c.args.line.now (record { day = c.in-Ok
     c.in-Ok-read.command c.read_line_command-read.new.words (rw c.in-Ok-read.is at c.read_line_command-read.ensures) c.in-Ok-end.ensures)
 
 pub returns-in-Ok-print_line-clause-answered : goal.returns-in-Ok-print_line-clause-answered
-returns-in-Ok-print_line-clause-answered g c = rw (c.in-Ok-print_line.ensures, c.requires.empty) (answers_request g.O.Object.stepped g.O.Object.is_row g.K.Keeper.rows g.K.Keeper.faults c.args.self.now c.ask_lent-answer.new.self c.args.line.now
-    (record { day = c.in-Ok.front.day; id = c.in-Ok.front.id; command = c.in-Ok-read.command }) c.ask_lent-answer.ensures.0 c.ask_lent-answer.result c.requires.request
-    (front_found c.args.line.now c.in-Ok.front c.read_line_front.new.words (ap (λ (ws : List (List ℕ)). line_at (front_at ws)) (sym c.new-words.ensures) ∙ c.in-Ok.ensures)
-    c.in-Ok-read.command c.read_line_command-read.new.words (rw c.in-Ok-read.is at c.read_line_command-read.ensures) c.in-Ok-end.ensures)
-    c.ask_lent-answer.ensures.1 c.ask_lent-answer.ensures.2)
+returns-in-Ok-print_line-clause-answered g c = (
+  answer_line c.ask_lent-answer.result,
+  c.in-Ok-print_line.ensures.text,
+  answers_request g.O.Object.stepped g.O.Object.is_row g.K.Keeper.rows g.K.Keeper.faults c.args.self.now c.ask_lent-answer.new.self c.args.line.now
+      (record { day = c.in-Ok.front.day; id = c.in-Ok.front.id; command = c.in-Ok-read.command }) c.ask_lent-answer.ensures.0 c.ask_lent-answer.result c.requires.request
+      (front_found c.args.line.now c.in-Ok.front c.read_line_front.new.words (ap (λ (ws : List (List ℕ)). line_at (front_at ws)) (sym c.new-words.ensures) ∙ c.in-Ok.ensures)
+      c.in-Ok-read.command c.read_line_command-read.new.words (rw c.in-Ok-read.is at c.read_line_command-read.ensures) c.in-Ok-end.ensures)
+      c.ask_lent-answer.ensures.1 c.ask_lent-answer.ensures.2,
+)
 
 pub returns-clause-memory : goal.returns-clause-memory
 returns-clause-memory g c = λ out. inr (

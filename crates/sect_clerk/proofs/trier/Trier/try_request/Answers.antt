@@ -12,8 +12,10 @@ returns-clause-memory g c = λ out. inr (
 )
 
 pub returns-in-Ok-clause-answered : goal.returns-in-Ok-clause-answered
-returns-in-Ok-clause-answered g c =
-    rw (c.in-Ok.ensures, c.requires.empty)
-    (tries_request g.O.Object.stepped g.O.Object.is_row c.args.self.now c.try_ask-answer.new.self c.args.line.now
-    c.in_ok-ask.ask c.try_ask-answer.ensures.0 c.try_ask-answer.result c.requires.request c.in_ok-ask.ensures.found
-    c.try_ask-answer.ensures.1 c.try_ask-answer.ensures.2 c.try_ask-answer.ensures.3)
+returns-in-Ok-clause-answered g c = (
+  answer_line c.try_ask-answer.result,
+  c.in-Ok.ensures.text,
+  tries_request g.O.Object.stepped g.O.Object.is_row c.args.self.now c.try_ask-answer.new.self c.args.line.now
+      c.in_ok-ask.ask c.try_ask-answer.ensures.0 c.try_ask-answer.result c.requires.request c.in_ok-ask.ensures.found
+      c.try_ask-answer.ensures.1 c.try_ask-answer.ensures.2 c.try_ask-answer.ensures.3,
+)
