@@ -179,7 +179,7 @@ fn ask(maker: &mut Maker, day: Day, command: Command) -> Result<(), Memory>
     ensures { OnOk result (tally_in maker.new ≡ tallied day (tally_in maker.old) command) }
 {
     let mut command = command;
-    let (reply, _undo) = maker.machine.step(day, Caller::Registrar(1), &mut command)?;
+    let reply = maker.machine.step(day, Caller::Registrar(1), &mut command)?;
     count(maker, lines_of(&reply))
 }
 

@@ -129,8 +129,8 @@ impl<O: TextObject, K: Keeper, C: Clock> Trier<O, K, C> {
         let place = self.desk.acted();
         let mut command = command;
         match self.object.step(day, id.caller, &mut command) {
-            Ok((reply, undo)) => {
-                self.object.undo(undo);
+            Ok(reply) => {
+                self.object.undo();
                 Answer::Done { place, reply }
             }
             Err(_) => Answer::Memory,

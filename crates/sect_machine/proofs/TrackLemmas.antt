@@ -62,7 +62,7 @@ pub queue-back : (w v : Roomed) (bs cs : List Back) (q p : RoomedQueue) (js ks :
 queue-back w v bs cs q p js ks none t = ap (λ xs. queue_undone p.queue (drop (length xs) ks)) (sym none) ∙ queue-since-undone q.queue p.queue js ks t.queue_since
 
 pub restores : (w v : Roomed) (bs : List Back) (q p : RoomedQueue) (js : List QueueBack) (u : MachineUndo) → KeptWorld w.world → bs ≡ [] → js ≡ [] → Tracked w bs q js v u.world.backs p u.queue
-    → IsResting (state_of w.world q.queue) → Restores u (record { world = v; queue = p }) (state_of w.world q.queue)
+    → IsResting (state_of w.world q.queue) → Restores (record { world = v; queue = p; changes = u }) (state_of w.world q.queue)
 restores w v bs q p js u kept none nobody t resting = record {
   undoable = t.undoable;
   queue_undoable = t.queue_undoable;

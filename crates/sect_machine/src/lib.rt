@@ -30,4 +30,3 @@ pub use machine::Machine;
 pub use sect_command::{Command, Query, Reply, View};
 pub use state::State;
 pub use told::ToldStep;
-pub use undo::MachineUndo;

@@ -1,6 +1,6 @@
 // The machine: a world, and who waits.
 
-ghost use Rattle.std.specs.Prelude.{◌≡◌, ◌<◌, IfOk, OnErr, IsTrue};
+ghost use Rattle.std.specs.Prelude.{◌≡◌, ◌<◌, IfOk, OnErr, OnOk, IsTrue};
 ghost use Rattle.sect_model.specs.Kept.{KeptState};
 ghost use Rattle.sect_model.specs.Look.{look as looked_at};
 ghost use Rattle.sect_model.specs.Settle.{is_settled};
@@ -11,7 +11,7 @@ ghost use Rattle.sect_model.specs.World.{State};
 
 use crate::stepping::step;
 use crate::told::ToldStep;
-use crate::undo::{MachineUndo, take_room};
+use crate::undo::MachineUndo;
 use sect_base::{Caller, Day, Memory, Steps};
 use sect_command::{Command, Query, Reply, View};
 use sect_space::World;
@@ -22,14 +22,15 @@ use std::marker::{Brand, Model};
 use std::sync::ledger::{Blank, Ledger};
 
 /// The world and those who wait, none of whom can be placed, and which of them must be tried again: the others have no
-/// move. No limit is passed, and no student holds what may not be held
-/// together. Contracts see both, with the room of their lists. What the last step left is kept for its room.
+/// move. No limit is passed, and no student holds what may not be held together. What the last step changed is kept, so that
+/// it can be taken back; the next step records its changes in the same lists. Contracts see the world and the queue, with the
+/// room of their lists, and what the last step changed.
 pub struct Machine {
     pub(crate) alloc: Global,
     pub(crate) world: World,
     pub(crate) queue: Queue,
     pub(crate) marks: Marks,
-    pub(crate) room: Option<MachineUndo>,
+    pub(crate) changes: MachineUndo,
 }
 
 /// It is written out, so that a caller does not prove again how each part is dropped.
@@ -40,7 +41,7 @@ impl Drop for Machine {
             world: _,
             queue: _,
             marks: _,
-            room: _,
+            changes: _,
         } = self;
     }
 }
@@ -52,7 +53,7 @@ impl Model for Machine {
 
     ghost Value = { Standing };
 
-    ghost view = { λ m. record { world = m.world; queue = m.queue } };
+    ghost view = { λ m. record { world = m.world; queue = m.queue; changes = m.changes } };
 
     ghost invariant = { λ m. IsResting (state_of m.world.world m.queue.queue) × OthersNeedNoSearch m.world.world m.queue.queue.entries m.marks };
 }
@@ -68,10 +69,10 @@ fn counted<L: Ledger>(
     requires name { blank.name ≡ L.name }
     requires parts { blank.parts ≡ L.parts }
     requires some { 0 < blank.parts }
-    ensures state { IfOk result (λ r. state_in machine.new ≡ (step_of (state_in machine.old) day caller command.old).state) }
+    ensures state { OnOk result (state_in machine.new ≡ (step_of (state_in machine.old) day caller command.old).state) }
     ensures reply { IfOk result (λ r. r.reply ≡ (step_of (state_in machine.old) day caller command.old).reply) }
     ensures placed { IfOk result (λ r. r.placed ≡ placements (state_in machine.old) day caller command.old) }
-    ensures undo { IfOk result (λ r. Restores r.undo machine.new (state_in machine.old)) }
+    ensures undo { OnOk result (Restores machine.new (state_in machine.old)) }
     ensures err { OnErr result (state_in machine.new ≡ state_in machine.old) }
 {
     let mut steps: Steps<L> = Steps::new(blank);
@@ -103,10 +104,10 @@ impl Machine {
         caller: Caller,
         command: &mut Command,
     ) -> Result<ToldStep, Memory>
-        ensures state { IfOk result (λ r. state_in self.new ≡ (step_of (state_in self.old) day caller command.old).state) }
+        ensures state { OnOk result (state_in self.new ≡ (step_of (state_in self.old) day caller command.old).state) }
         ensures reply { IfOk result (λ r. r.reply ≡ (step_of (state_in self.old) day caller command.old).reply) }
         ensures placed { IfOk result (λ r. r.placed ≡ placements (state_in self.old) day caller command.old) }
-        ensures undo { IfOk result (λ r. Restores r.undo self.new (state_in self.old)) }
+        ensures undo { OnOk result (Restores self.new (state_in self.old)) }
         ensures err { OnErr result (state_in self.new ≡ state_in self.old) }
     {
         counted::<Brand>(self, day, caller, command, Blank::new(1))
@@ -120,14 +121,13 @@ impl Machine {
         command: &mut Command,
         steps: &mut Steps<L>,
     ) -> Result<ToldStep, Memory>
-        ensures state { IfOk result (λ r. state_in self.new ≡ (step_of (state_in self.old) day caller command.old).state) }
+        ensures state { OnOk result (state_in self.new ≡ (step_of (state_in self.old) day caller command.old).state) }
         ensures reply { IfOk result (λ r. r.reply ≡ (step_of (state_in self.old) day caller command.old).reply) }
         ensures placed { IfOk result (λ r. r.placed ≡ placements (state_in self.old) day caller command.old) }
-        ensures undo { IfOk result (λ r. Restores r.undo self.new (state_in self.old)) }
+        ensures undo { OnOk result (Restores self.new (state_in self.old)) }
         ensures err { OnErr result (state_in self.new ≡ state_in self.old) }
     {
         self.recall_kept();
-        let room = take_room(self.alloc, &mut self.room);
         step(
             self.alloc,
             &mut self.world,
@@ -136,7 +136,7 @@ impl Machine {
             day,
             caller,
             command,
-            room,
+            &mut self.changes,
             steps,
         )
     }
@@ -147,18 +147,14 @@ impl Machine {
         day: Day,
         caller: Caller,
         command: &mut Command,
-    ) -> Result<(Reply, MachineUndo), Memory>
-        ensures state { IfOk result (λ r. state_in self.new ≡ (step_of (state_in self.old) day caller command.old).state) }
-        ensures reply { IfOk result (λ r. r.0 ≡ (step_of (state_in self.old) day caller command.old).reply) }
-        ensures undo { IfOk result (λ r. Restores r.1 self.new (state_in self.old)) }
+    ) -> Result<Reply, Memory>
+        ensures state { OnOk result (state_in self.new ≡ (step_of (state_in self.old) day caller command.old).state) }
+        ensures reply { IfOk result (λ reply. reply ≡ (step_of (state_in self.old) day caller command.old).reply) }
+        ensures undo { OnOk result (Restores self.new (state_in self.old)) }
         ensures err { OnErr result (state_in self.new ≡ state_in self.old) }
     {
-        let ToldStep {
-            reply,
-            placed: _,
-            undo,
-        } = self.step_told(day, caller, command)?;
-        Ok((reply, undo))
+        let ToldStep { reply, placed: _ } = self.step_told(day, caller, command)?;
+        Ok(reply)
     }
 
     /// Answers a query.
@@ -168,21 +164,12 @@ impl Machine {
         view(self.alloc, &self.world, self.queue.entries(), query)
     }
 
-    /// Keeps what a step left for its room. It takes no memory.
-    pub(crate) fn keep_room(&mut self, undo: MachineUndo)
-        ensures { self.new ≡ self.old }
+    /// Takes back what the last step changed. It takes no memory.
+    pub(crate) fn take_back(&mut self)
+        requires { (before : State) × Restores self.old before }
+        ensures { (before : State) → Restores self.old before → state_in self.new ≡ before }
     {
-        self.room = Some(undo);
-    }
-
-    /// Takes back what a step changed. It takes no memory.
-    pub(crate) fn take_back(&mut self, undo: MachineUndo)
-        requires { (before : State) × Restores undo self.old before }
-        ensures { (before : State) → Restores undo self.old before → state_in self.new ≡ before }
-    {
-        let MachineUndo { world, queue } = undo;
-        self.world.undo(world);
-        self.queue.undo(queue);
+        self.changes.take_back(&mut self.world, &mut self.queue);
         self.marks.mark_all();
     }
 }

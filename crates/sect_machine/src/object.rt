@@ -34,8 +34,6 @@ impl Object for Machine {
 
     type Reply = Reply;
 
-    type Undo = MachineUndo;
-
     type Query = Query;
 
     type View = View;
@@ -66,25 +64,16 @@ impl Object for Machine {
             world: World::empty(alloc),
             queue: Queue::empty(alloc),
             marks: Marks::none(alloc),
-            room: None,
+            changes: MachineUndo::empty(alloc),
         }
     }
 
-    fn step(
-        &mut self,
-        day: Day,
-        caller: Caller,
-        command: &mut Command,
-    ) -> Result<(Reply, MachineUndo), Memory> {
+    fn step(&mut self, day: Day, caller: Caller, command: &mut Command) -> Result<Reply, Memory> {
         self.act(day, caller, command)
     }
 
-    fn undo(&mut self, undo: MachineUndo) {
-        self.take_back(undo);
-    }
-
-    fn reuse(&mut self, undo: MachineUndo) {
-        self.keep_room(undo);
+    fn undo(&mut self) {
+        self.take_back();
     }
 
     fn look(&self, query: &Query) -> Result<View, Memory> {

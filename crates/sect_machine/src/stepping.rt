@@ -32,9 +32,9 @@ use sect_wait::{Marks, Opened, Queue, QueueUndo, leave_course, settle_opened};
 use std::alloc::Global;
 use std::sync::ledger::Ledger;
 
-/// Acts a command of a caller on a day, and settles, and tells whom settling placed; each search counts one step. Where memory
-/// runs out, what was changed is taken back: world and queue are as before. What is recorded takes the room of an earlier
-/// step's changes, which are forgotten.
+/// Acts a command of a caller on a day, and settles, and tells whom settling placed; each search counts one step. What it
+/// changed is recorded in the room of an earlier step's changes, which are forgotten. Where memory runs out, it is taken back:
+/// world and queue are as before.
 pub fn step<L: Ledger>(
     alloc: Global,
     world: &mut World,
@@ -43,7 +43,7 @@ pub fn step<L: Ledger>(
     day: Day,
     caller: Caller,
     command: &mut Command,
-    room: MachineUndo,
+    changes: &mut MachineUndo,
     steps: &mut Steps<L>,
 ) -> Result<ToldStep, Memory>
     requires resting { IsResting (state_of world.old.world queue.old.queue) }
@@ -51,15 +51,14 @@ pub fn step<L: Ledger>(
     ensures acted { IfOk result (λ r. step_of (state_of world.old.world queue.old.queue) day caller command.old
         ≡ record { state = state_of world.new.world queue.new.queue; reply = r.reply }) }
     ensures placed { IfOk result (λ r. r.placed ≡ placements (state_of world.old.world queue.old.queue) day caller command.old) }
-    ensures undo { IfOk result (λ r. Restores r.undo (record { world = world.new; queue = queue.new }) (state_of world.old.world queue.old.queue)) }
+    ensures undo { OnOk result (Restores (record { world = world.new; queue = queue.new; changes = changes.new }) (state_of world.old.world queue.old.queue)) }
     ensures world_err { OnErr result (world.new.world ≡ world.old.world) }
     ensures queue_err { OnErr result (queue.new.queue ≡ queue.old.queue) }
     ensures others { OthersNeedNoSearch world.new.world queue.new.queue.entries marks.new }
 {
     world.recall_kept();
     queue.recall_kept();
-    let mut undo = room;
-    undo.clear();
+    changes.clear();
     let stepped = settled(
         alloc,
         world,
@@ -68,23 +67,14 @@ pub fn step<L: Ledger>(
         day,
         caller,
         command,
-        &mut undo.world,
-        &mut undo.queue,
+        &mut changes.world,
+        &mut changes.queue,
         steps,
     );
     match stepped {
-        Ok((reply, placed)) => Ok(ToldStep {
-            reply,
-            placed,
-            undo,
-        }),
+        Ok((reply, placed)) => Ok(ToldStep { reply, placed }),
         Err(memory) => {
-            let MachineUndo {
-                world: changes,
-                queue: queue_changes,
-            } = undo;
-            world.undo(changes);
-            queue.undo(queue_changes);
+            changes.take_back(world, queue);
             marks.mark_all();
             Err(memory)
         }

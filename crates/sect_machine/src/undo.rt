@@ -1,9 +1,11 @@
 // What a step changed, so that it can be taken back.
 
 ghost use Rattle.std.specs.Prelude.{◌≡◌, []};
+ghost use Rattle.sect_space.specs.Undo.{Undoable, undone};
+ghost use Rattle.sect_wait.specs.Undo.{Undoable as QueueUndoable, undone as queue_undone};
 
-use sect_space::Undo;
-use sect_wait::QueueUndo;
+use sect_space::{Undo, World};
+use sect_wait::{Queue, QueueUndo};
 use std::alloc::Global;
 
 /// The changes that a step made of the world and of those who wait.
@@ -33,12 +35,15 @@ impl MachineUndo {
         self.world.clear();
         self.queue.clear();
     }
-}
 
-/// The room that is kept, or none. It takes no memory.
-pub(crate) fn take_room(alloc: Global, room: &mut Option<MachineUndo>) -> MachineUndo {
-    match room.take() {
-        Some(undo) => undo,
-        None => MachineUndo::empty(alloc),
+    /// Takes the changes back, and keeps their room. It takes no memory.
+    pub(crate) fn take_back(&mut self, world: &mut World, queue: &mut Queue)
+        requires undoable { Undoable world.old self.old.world.backs }
+        requires queue_undoable { QueueUndoable queue.old self.old.queue }
+        ensures world { world.new.world ≡ undone world.old.world self.old.world.backs }
+        ensures queue { queue.new.queue ≡ queue_undone queue.old.queue self.old.queue }
+    {
+        world.undo_to(&mut self.world, 0);
+        queue.undo_to(&mut self.queue, 0);
     }
 }

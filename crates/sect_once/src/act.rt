@@ -24,28 +24,21 @@ pub(crate) fn step_in<O: Object>(
     day: Day,
     caller: Caller,
     command: &mut O::Command,
-) -> Result<(O::Reply, O::Undo), Memory>
-    ensures state { IfOk result (λ r. O.state object.new.value ≡ (O.stepped (O.state object.old.value) day caller command.old).0) }
-    ensures reply { IfOk result (λ r. r.0 ≡ (O.stepped (O.state object.old.value) day caller command.old).1) }
-    ensures undo { IfOk result (λ r. O.restores r.1 object.new.value (O.state object.old.value)) }
+) -> Result<O::Reply, Memory>
+    ensures state { OnOk result (O.state object.new.value ≡ (O.stepped (O.state object.old.value) day caller command.old).0) }
+    ensures reply { IfOk result (λ reply. reply ≡ (O.stepped (O.state object.old.value) day caller command.old).1) }
+    ensures undo { OnOk result (O.restores object.new.value (O.state object.old.value)) }
     ensures err { OnErr result (O.state object.new.value ≡ O.state object.old.value) }
 {
     object.as_mut().step(day, caller, command)
 }
 
 /// Takes back the last step of the object in its place.
-pub(crate) fn take_back<O: Object>(object: &mut Box<O>, undo: O::Undo)
-    requires { (before : O.State) × O.restores undo object.old.value before }
-    ensures { (before : O.State) → O.restores undo object.old.value before → O.state object.new.value ≡ before }
+pub(crate) fn take_back<O: Object>(object: &mut Box<O>)
+    requires { (before : O.State) × O.restores object.old.value before }
+    ensures { (before : O.State) → O.restores object.old.value before → O.state object.new.value ≡ before }
 {
-    object.as_mut().undo(undo);
-}
-
-/// Gives what the last step left back to the object in its place, since the step stands.
-pub(crate) fn reuse_in<O: Object>(object: &mut Box<O>, undo: O::Undo)
-    ensures { O.state object.new.value ≡ O.state object.old.value }
-{
-    object.as_mut().reuse(undo);
+    object.as_mut().undo();
 }
 
 /// Takes the row behind the others, and appends it to the keeper's. On a fault all is as before.
@@ -104,21 +97,18 @@ impl<O: Object> Past<O> {
         let Ok(()) = O::print_request(id, day, command, row) else {
             return Err(KeepFault::Memory);
         };
-        let Ok((reply, undo)) = step_in(&mut self.object, day, id.caller, command) else {
+        let Ok(reply) = step_in(&mut self.object, day, id.caller, command) else {
             return Err(KeepFault::Memory);
         };
         let Ok(at) = O::print_reply(&reply, row) else {
-            take_back(&mut self.object, undo);
+            take_back(&mut self.object);
             return Err(KeepFault::Memory);
         };
         let text = row.as_slice();
         match keep(&mut self.rows, &mut self.places, keeper, id, text) {
-            Ok(()) => {
-                reuse_in(&mut self.object, undo);
-                Ok((reply, at))
-            }
+            Ok(()) => Ok((reply, at)),
             Err(fault) => {
-                take_back(&mut self.object, undo);
+                take_back(&mut self.object);
                 Err(fault)
             }
         }

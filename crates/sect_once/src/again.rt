@@ -32,7 +32,6 @@ fn act<O: Object>(object: &mut O, entry: Entry<O::Command, O::Reply>) -> Result<
     ensures { OnOk result (O.state object.new ≡ (O.stepped (O.state object.old) entry.day entry.id.caller entry.command).0) }
 {
     let mut entry = entry;
-    let (_reply, undo) = object.step(entry.day, entry.id.caller, &mut entry.command)?;
-    object.reuse(undo);
+    let _reply = object.step(entry.day, entry.id.caller, &mut entry.command)?;
     Ok(())
 }

@@ -20,8 +20,6 @@ pub trait Object: Sized {
 
     type Reply: Drop;
 
-    type Undo: Drop;
-
     type Query;
 
     type View;
@@ -35,8 +33,8 @@ pub trait Object: Sized {
     /// The state and the reply after a command of a caller on a day.
     ghost stepped: { Self.State → ℕ → Caller → Self.Command → Self.State × Self.Reply };
 
-    /// What a step left brings the object that it gave back to the state from which it came.
-    ghost restores: { Self.Undo → Self → Self.State → Type 0 };
+    /// The last step can be taken back, which restores this state.
+    ghost restores: { Self → Self.State → Type 0 };
 
     /// What a query is answered in a state.
     ghost looked: { Self.State → Self.Query → Self.View };
@@ -60,27 +58,23 @@ pub trait Object: Sized {
     fn empty(alloc: Global) -> Self
         ensures { state result ≡ start };
 
-    /// Acts a command, of which it may take over what it keeps: what is left of the command isn't told. After want of memory the
-    /// state is as before.
+    /// Acts a command, of which it may take over what it keeps: what is left of the command isn't told. The object keeps what the
+    /// step changed, so that it can be taken back. After want of memory the state is as before.
     fn step(
         &mut self,
         day: Day,
         caller: Caller,
         command: &mut Self::Command,
-    ) -> Result<(Self::Reply, Self::Undo), Memory>
-        ensures state { IfOk result (λ r. state self.new ≡ (stepped (state self.old) day caller command.old).0) }
-        ensures reply { IfOk result (λ r. r.0 ≡ (stepped (state self.old) day caller command.old).1) }
-        ensures undo { IfOk result (λ r. restores r.1 self.new (state self.old)) }
+    ) -> Result<Self::Reply, Memory>
+        ensures state { OnOk result (state self.new ≡ (stepped (state self.old) day caller command.old).0) }
+        ensures reply { IfOk result (λ reply. reply ≡ (stepped (state self.old) day caller command.old).1) }
+        ensures undo { OnOk result (restores self.new (state self.old)) }
         ensures err { OnErr result (state self.new ≡ state self.old) };
 
     /// Takes back the last step. It takes no memory.
-    fn undo(&mut self, undo: Self::Undo)
-        requires { (before : Self.State) × restores undo self.old before }
-        ensures { (before : Self.State) → restores undo self.old before → state self.new ≡ before };
-
-    /// Takes over what the last step left, where that step stands, so that later steps may use its room. It takes no memory.
-    fn reuse(&mut self, undo: Self::Undo)
-        ensures { state self.new ≡ state self.old };
+    fn undo(&mut self)
+        requires { (before : Self.State) × restores self.old before }
+        ensures { (before : Self.State) → restores self.old before → state self.new ≡ before };
 
     /// Answers a query.
     fn look(&self, query: &Self::Query) -> Result<Self::View, Memory>

@@ -4,7 +4,7 @@ ghost use Rattle.sect_edge.specs.Keeper.{KeepsRows};
 ghost use Rattle.sect_once.specs.History.{acted_log, IsFull, IsNew, NeverFull, TellsRows};
 ghost use Rattle.sect_once.specs.Opening.{IsCause, IsRowCause, Opens, Reopens, ActsAgain, Resumes, Takes, TakesAtOnce, TakesNext};
 
-use crate::act::{reuse_in, step_in, take_back};
+use crate::act::{step_in, take_back};
 use crate::answer::OpenFault;
 use crate::desk::Desk;
 use crate::entry::{Entry, Request};
@@ -50,23 +50,20 @@ impl<O: Object> Past<O> {
         ensures err { OnErr result (self.new ≡ self.old) }
     {
         let mut entry = entry;
-        let (reply, undo) = step_in(
+        let reply = step_in(
             &mut self.object,
             entry.day,
             entry.id.caller,
             &mut entry.command,
         )?;
         if !O::same_reply(&reply, &entry.reply) {
-            take_back(&mut self.object, undo);
+            take_back(&mut self.object);
             return Ok(false);
         }
         match add(&mut self.rows, &mut self.places, &entry.id, row) {
-            Ok(()) => {
-                reuse_in(&mut self.object, undo);
-                Ok(true)
-            }
+            Ok(()) => Ok(true),
             Err(memory) => {
-                take_back(&mut self.object, undo);
+                take_back(&mut self.object);
                 Err(memory)
             }
         }
@@ -89,22 +86,19 @@ impl<O: Object> Past<O> {
         ensures taken { IfOk result (ActsAgain O.start O.stepped O.is_row self.old self.new id day command.old row.now) }
         ensures err { OnErr result (self.new ≡ self.old) }
     {
-        let (reply, undo) = step_in(&mut self.object, day, id.caller, command)?;
+        let reply = step_in(&mut self.object, day, id.caller, command)?;
         let Ok(_) = O::print_reply(&reply, printed) else {
-            take_back(&mut self.object, undo);
+            take_back(&mut self.object);
             return Err(Memory);
         };
         if !is_same(printed.as_slice(), row) {
-            take_back(&mut self.object, undo);
+            take_back(&mut self.object);
             return Ok(false);
         }
         match add(&mut self.rows, &mut self.places, &id, row) {
-            Ok(()) => {
-                reuse_in(&mut self.object, undo);
-                Ok(true)
-            }
+            Ok(()) => Ok(true),
             Err(memory) => {
-                take_back(&mut self.object, undo);
+                take_back(&mut self.object);
                 Err(memory)
             }
         }

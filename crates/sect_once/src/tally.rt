@@ -10,10 +10,12 @@ use crate::object::Object;
 use sect_base::{Caller, Day, Id, Memory, StudentId};
 use std::alloc::Global;
 
-/// A sum, which stays at the greatest number where it would pass it. A command adds its number.
+/// A sum, which stays at the greatest number where it would pass it, and the sum before the last command. A command adds its
+/// number.
 #[derive(Drop)]
 pub struct Tally {
     sum: u64,
+    before: u64,
 }
 
 impl Object for Tally {
@@ -22,8 +24,6 @@ impl Object for Tally {
     type Command = u8;
 
     type Reply = u64;
-
-    type Undo = u64;
 
     type Query = ();
 
@@ -35,7 +35,7 @@ impl Object for Tally {
 
     ghost stepped = { tallied };
 
-    ghost restores = { λ u after before. before ≡ u };
+    ghost restores = { λ t before. t.before ≡ before };
 
     ghost looked = { λ sum q. sum };
 
@@ -50,20 +50,18 @@ impl Object for Tally {
     ghost may_ask = { MayAsk };
 
     fn empty(_alloc: Global) -> Self {
-        Tally { sum: 0 }
+        Tally { sum: 0, before: 0 }
     }
 
-    fn step(&mut self, _day: Day, _caller: Caller, command: &mut u8) -> Result<(u64, u64), Memory> {
-        let before = self.sum;
-        self.sum = before.saturating_add(u64::from(*command));
-        Ok((self.sum, before))
+    fn step(&mut self, _day: Day, _caller: Caller, command: &mut u8) -> Result<u64, Memory> {
+        self.before = self.sum;
+        self.sum = self.before.saturating_add(u64::from(*command));
+        Ok(self.sum)
     }
 
-    fn undo(&mut self, undo: u64) {
-        self.sum = undo;
+    fn undo(&mut self) {
+        self.sum = self.before;
     }
-
-    fn reuse(&mut self, _undo: u64) {}
 
     fn look(&self, _query: &()) -> Result<u64, Memory> {
         Ok(self.sum)

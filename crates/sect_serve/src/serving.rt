@@ -60,7 +60,6 @@ pub fn serve<
 ) -> (ServeEnd, Option<K>, Vec<L>)
 where
     O: Drop,
-    O::Undo: Send,
     L::In: Send,
     L::Out: Send,
     requires links { (0 < vec_len links) × (vec_len links ≤ 64) }
@@ -109,7 +108,6 @@ fn serve_at<
 ) -> (ServeEnd, Option<K>, Vec<L>)
 where
     O: Drop,
-    O::Undo: Send,
     L::In: Send,
     L::Out: Send,
     requires turn { IsPassOf (λ d. d.log) (λ d. d.base) office.turn pass × IsIdle pass }
@@ -153,7 +151,6 @@ fn work_all<
     sessions: u32,
 ) -> (Pass<Desk<O, K>>, ServeEnd, Vec<L>)
 where
-    O::Undo: Send,
     L::In: Send,
     L::Out: Send,
     requires turn { IsPassOf (λ d. d.log) (λ d. d.base) office.now.turn pass × IsIdle pass }
@@ -203,8 +200,6 @@ fn run_requests<
     pass: Pass<Desk<O, K>>,
     works: Vec<W>,
 ) -> (Pass<Desk<O, K>>, Result<Vec<W::Given>, (Memory, Vec<W>)>)
-where
-    O::Undo: Send,
     requires turn { IsPassOf (λ d. d.log) (λ d. d.base) office.now.turn pass × IsIdle pass }
     requires share { vec_len works < share pass }
     ensures turn { IsPassOf (λ d. d.log) (λ d. d.base) office.now.turn result.0 × IsIdle result.0 }
@@ -233,7 +228,6 @@ fn run_desk<
 where
     O::Command: Send,
     O::Reply: Send,
-    O::Undo: Send,
     requires turn { IsPassOf (λ d. d.log) (λ d. d.base) office.now.turn pass × IsIdle pass }
     requires share { vec_len works < share pass }
     ensures turn { IsPassOf (λ d. d.log) (λ d. d.base) office.now.turn result.0 × IsIdle result.0 }

@@ -138,7 +138,7 @@ fn act(machine: &mut Machine, entry: Entry<Command, Reply>) -> Result<(), Memory
     ensures { OnOk result (state_in machine.new ≡ (stepped (state_in machine.old) entry.day entry.id.caller entry.command).0) }
 {
     let mut entry = entry;
-    let (_reply, _undo) = machine.step(entry.day, entry.id.caller, &mut entry.command)?;
+    let _reply = machine.step(entry.day, entry.id.caller, &mut entry.command)?;
     Ok(())
 }
 

@@ -46,6 +46,6 @@ fn acted(machine: &mut Machine, ask: LineAsk) -> Result<Option<Reply>, Memory> {
     };
     let LineAsk { id, command, .. } = ask;
     let mut command = command;
-    let (reply, _) = machine.step(day, id.caller, &mut command)?;
+    let reply = machine.step(day, id.caller, &mut command)?;
     Ok(Some(reply))
 }

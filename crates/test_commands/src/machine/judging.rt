@@ -75,8 +75,8 @@ fn refutes(
     ensures { state_in machine.new ≡ state_in machine.old }
 {
     let mut command = ask.command.copy(alloc)?;
-    let (reply, undo) = machine.step(day, ask.id.caller, &mut command)?;
-    machine.undo(undo);
+    let reply = machine.step(day, ask.id.caller, &mut command)?;
+    machine.undo();
     checked(machine, day, ask.id.caller, &ask.command, &reply, tree)
 }
 

@@ -16,9 +16,9 @@ returns-in-Ok-clause-undo g c =
 
 pub returns-in-Err-clause-world_err : goal.returns-in-Err-clause-world_err
 returns-in-Err-clause-world_err g c =
-    c.undo.ensures.world
+    c.take_back.ensures.world
     ∙ world-back c.args.world.now c.settled-stepped.new.world c.clear.new.self.world.backs c.settled-stepped.new.undo.backs c.args.queue.now c.settled-stepped.new.queue c.clear.new.self.queue c.settled-stepped.new.queue_undo
     c.recall_kept.ensures c.clear.ensures.world c.settled-stepped.ensures.tracked
 
 pub returns-in-Err-clause-others : goal.returns-in-Err-clause-others
-returns-in-Err-clause-others g c = all-others c.undo.new.self.world c.undo-in-Err.new.self.queue.entries c.settled-stepped.new.marks c.mark_all.new.self c.mark_all.ensures
+returns-in-Err-clause-others g c = all-others c.take_back.new.world.world c.take_back.new.queue.queue.entries c.settled-stepped.new.marks c.mark_all.new.self c.mark_all.ensures

@@ -1,5 +1,5 @@
 -- The row is that of the entry whose reply is printed behind the request.
-use Rattle.std.proofs.Common.{◌≡◌, arith, refl, sym, subst, ◌∙◌}
+use Rattle.std.proofs.Common.{arith, refl, sym, subst, ◌∙◌}
 use Rattle.sect_once.specs.declared.entry.Entry.{Entry}
 use Rattle.sect_once.specs.History.{HasRow, entries_of}
 use Rattle.sect_once.proofs.Openings.{few}
@@ -11,9 +11,9 @@ add-requires g c = let many = as_many g.O.Object.start g.O.Object.stepped g.O.Ob
 
 pub invariant_of-self-in-Ok-add : goal.invariant_of-self-in-Ok-add
 invariant_of-self-in-Ok-add g c = past_added g.O.Object.start g.O.Object.stepped g.O.Object.is_row g.O.Object.entry_of g.met.O.Object.reads_row
-    (g.O.Object.state c.self.inside.object.value) (g.O.Object.state c.reuse_in.new.object.value) c.self.inside.rows c.add.new.rows c.self.inside.places c.add.new.places
+    (g.O.Object.state c.self.inside.object.value) (g.O.Object.state c.step_in.new.object.value) c.self.inside.rows c.add.new.rows c.self.inside.places c.add.new.places
     c.args.id c.args.day c.args.command.now c.in_ok-reply.reply c.args.row.now c.args.self.now c.self.invariant c.self.view_is c.in-Ok-add.ensures.rows
-    (c.reuse_in.ensures ∙ c.in_ok-reply.ensures.state) c.in_ok-reply.ensures.reply (few g.O.Object.is_row c.args.self.now.entries c.requires.room) c.requires.new
+    c.in_ok-reply.ensures.state c.in_ok-reply.ensures.reply (few g.O.Object.is_row c.args.self.now.entries c.requires.room) c.requires.new
     c.add.ensures.small c.in-Ok-add.ensures.places
     (subst (g.O.Object.is_row (record { id = c.args.id; day = c.args.day; command = c.args.command.now; reply = c.in_ok-reply.reply })) (sym c.as_slice.ensures.value ∙ c.is_same.ensures c.if-not-is_same.false)
     (c.in-Ok.ensures.row c.args.id c.args.day c.args.command.now c.requires.text (subst (λ reply. HasRow g.O.Object.is_row (record { id = c.args.id; day = c.args.day; command = c.args.command.now; reply = reply })) (sym c.in_ok-reply.ensures.reply)
@@ -29,7 +29,7 @@ returns-in-Ok-add-clause-taken g c =
     (row_behind g.O.Object.start g.O.Object.stepped g.O.Object.is_row g.O.Object.may_ask g.met.O.Object.next_has_row (g.O.Object.state c.self.inside.object.value) (entries_of g.O.Object.entry_of c.self.inside.rows) c.self.inside.places c.self.inside.rows
     c.self.invariant c.args.id c.args.day c.args.command.now c.requires.askable)))) in
     let more = past_resumed g.O.Object.start g.O.Object.stepped g.O.Object.is_row g.O.Object.entry_of g.met.O.Object.reads_row
-    (g.O.Object.state c.self.inside.object.value) (g.O.Object.state c.reuse_in.new.object.value) c.self.inside.rows c.add.new.rows c.self.inside.places
+    (g.O.Object.state c.self.inside.object.value) (g.O.Object.state c.step_in.new.object.value) c.self.inside.rows c.add.new.rows c.self.inside.places
     made c.args.row.now c.args.self.now c.self.invariant c.self.view_is c.in-Ok-add.ensures.rows (sym c.in_ok-reply.ensures.reply) written in
     (made, refl, written, more.0, more.1)
 
