@@ -75,7 +75,7 @@ GROUPS = [
          ['sect_rules/src/section.rt: least_free'], RUNS + '# Rule 19: two free times, and one on another day.'),
         ('Rule 20, not asked for', WHY, [RULES + 'section_rules'], ['sect_rules/src/section.rt: is_asked'],
          RUNS + "# Rule 20: a section that isn't asked for."),
-        ('Which rule comes first', WHY, [RULES + 'first_broken', RULES + 'leaf_of'], ['sect_rules/src/due.rt: broken'],
+        ('Which rule comes first', WHY, [RULES + 'first_broken', RULES + 'leaf_of'], ['sect_options/src/due.rt: broken'],
          RUNS + '# Random requests, 4001.'),
         ('Unreserved space', '`report`', ['sect_model/specs/Space.antt: unreserved_of', 'sect_model/specs/Space.antt: names'],
          ['sect_space/src/space.rt: unreserved'], RUNS + '# A reserved place.'),

@@ -1,6 +1,5 @@
 pub mod NthLemmas
 pub mod IdLemmas
-pub mod OptionLemmas
 pub mod MomentLemmas
 pub mod CreditLemmas
 pub mod ReservedLemmas
@@ -9,9 +8,4 @@ pub mod LeastLemmas
 pub mod OwnLemmas
 pub mod CourseLemmas
 pub mod ClearLemmas
-pub mod RisingLemmas
 pub mod GroundLemmas
-pub mod PathLemmas
-pub mod FoundLemmas
-pub mod AtLemmas
-pub mod DueLemmas

@@ -1,17 +1,10 @@
-pub mod Added
 pub mod Completed
-pub mod Decided
-pub mod Due
 pub mod FreeTimes
 pub mod Ground
 pub mod Lent
 pub mod Moment
 pub mod Overlapped
-pub mod Part
 pub mod Found
-pub mod Place
 pub mod Reserved
-pub mod Rising
 pub mod Standing
 pub mod Tables
-pub mod Wanted

@@ -73,7 +73,7 @@ impl Moment<'_> {
     }
 
     /// Whether restrictions apply, and none of them admits the configuration and the sections.
-    pub fn is_restricted(
+    pub(crate) fn is_restricted(
         &self,
         offering: &OfferingRow,
         rows: &[Restriction],

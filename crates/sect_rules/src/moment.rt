@@ -28,7 +28,7 @@ use crate::held::{
 };
 use crate::lent::LentMove;
 use crate::overlap::{is_clear, lesser_of};
-use crate::rows::subparts_in;
+use crate::place::subparts_in;
 use sect_base::{
     Choice, ConfigId, CourseId, Day, Level, Meeting, ReservationId, SectionId, StudentId,
 };
@@ -93,35 +93,35 @@ impl<'a> Moment<'a> {
     }
 
     /// The student of the move.
-    pub fn student(&self) -> StudentId
+    pub(crate) fn student(&self) -> StudentId
         ensures { result ≡ self.now.student }
     {
         self.student
     }
 
     /// The catalogue of the world.
-    pub fn catalogue(&self) -> &Catalogue
+    pub(crate) fn catalogue(&self) -> &Catalogue
         ensures { result.now ≡ self.now.at.catalogue }
     {
         self.world.catalogue()
     }
 
     /// The student of the move, with its row and its requests.
-    pub fn person(&self) -> &'a Student
+    pub(crate) fn person(&self) -> &'a Student
         ensures { Some result.now ≡ find_student self.now.at.students self.now.student }
     {
         self.person
     }
 
     /// The reservation with this id.
-    pub fn reservation(&self, id: ReservationId) -> Option<&Reservation>
+    pub(crate) fn reservation(&self, id: ReservationId) -> Option<&Reservation>
         ensures { option_copied result ≡ reservation_of self.now.at id }
     {
         self.world.reservation(id)
     }
 
     /// The day of the world.
-    pub fn day(&self) -> Day
+    pub(crate) fn day(&self) -> Day
         ensures { result ≡ self.now.at.day }
     {
         self.world.day()
@@ -129,7 +129,7 @@ impl<'a> Moment<'a> {
 
     /// The number of places at the level, None where it has no limit.
     #[inline(always)]
-    pub fn places(&self, level: Level) -> Option<u64>
+    pub(crate) fn places(&self, level: Level) -> Option<u64>
         ensures { result ≡ places_at self.now.at level }
     {
         self.world.places(level)
@@ -137,7 +137,7 @@ impl<'a> Moment<'a> {
 
     /// The number of enrolments at the level.
     #[inline(always)]
-    pub fn count(&self, level: Level) -> u64
+    pub(crate) fn count(&self, level: Level) -> u64
         ensures { result ≡ count_of self.now.at level }
     {
         let left = counts_given(self.world, level, self.give, self.student);
@@ -146,7 +146,7 @@ impl<'a> Moment<'a> {
     }
 
     /// The number of enrolments by the reservation.
-    pub fn used(&self, id: ReservationId) -> u64
+    pub(crate) fn used(&self, id: ReservationId) -> u64
         ensures { result ≡ used_of self.now.at id }
     {
         let left = given_by(self.world, id, self.give, self.student);
@@ -155,7 +155,7 @@ impl<'a> Moment<'a> {
     }
 
     /// Whether the student holds a course of the offering, which is that of this course. No course is looked up.
-    pub fn holds_offering(&self, course: CourseId, offering: &OfferingRow) -> bool
+    pub(crate) fn holds_offering(&self, course: CourseId, offering: &OfferingRow) -> bool
         requires { offering_of self.now.at course ≡ Some offering.now }
         ensures { result ≡ has_offering self.now.at self.now.student offering.now.id }
     {
@@ -167,14 +167,14 @@ impl<'a> Moment<'a> {
     }
 
     /// The student's maximum of credits.
-    pub fn max_credits(&self) -> u16
+    pub(crate) fn max_credits(&self) -> u16
         ensures { result ≡ most_credits self.now.at self.now.student }
     {
         self.person.row().max_credits
     }
 
     /// The credits of the student's enrolments. Those held before are at most the maximum.
-    pub fn credits_held(&self, most: u16) -> u32
+    pub(crate) fn credits_held(&self, most: u16) -> u32
         requires { most ≡ most_credits self.now.at self.now.student }
         ensures value { result ≡ credits_of_student self.now.at self.now.student }
         ensures bound { result ≤ 71000 }
@@ -185,7 +185,7 @@ impl<'a> Moment<'a> {
     }
 
     /// The offering of a course, with its own row.
-    pub fn course(&self, id: CourseId) -> Option<(&OfferingRow, &CourseRow)>
+    pub(crate) fn course(&self, id: CourseId) -> Option<(&OfferingRow, &CourseRow)>
         ensures offering { option_map (λ found. found.0.now) result ≡ offering_of self.now.at id }
         ensures credits { option_map_or (λ found. found.1.now.credits) result 0 ≡ credits_of self.now.at id }
     {
@@ -193,7 +193,7 @@ impl<'a> Moment<'a> {
     }
 
     /// The subparts of a configuration of the offering, which is that of this course. No course is looked up.
-    pub fn subparts<'b>(
+    pub(crate) fn subparts<'b>(
         &self,
         offering: &'b OfferingRow,
         course: CourseId,
@@ -208,7 +208,7 @@ impl<'a> Moment<'a> {
     }
 
     /// What the world keeps of its rows. It does nothing.
-    pub fn recall_kept(&self)
+    pub(crate) fn recall_kept(&self)
         ensures checked { IsTrue (are_checked self.now.at.catalogue.rows) }
         ensures fit { IsTrue (list_all (λ r. includes_fit self.now.at r.offering r.includes) self.now.at.reservations) }
     {
@@ -217,7 +217,7 @@ impl<'a> Moment<'a> {
 
     /// The least section of the student's other choices that the meetings overlap, where neither
     /// permits it. Where the student's calendar is clear, what is held isn't looked at.
-    pub fn least_held(&self, permitted: bool, meetings: &[Meeting]) -> Option<u32>
+    pub(crate) fn least_held(&self, permitted: bool, meetings: &[Meeting]) -> Option<u32>
         ensures { result ≡ least (flat_map (λ e. overlapped self.now.at permitted meetings.now e.choice) (held_by self.now.at self.now.student)) }
     {
         let kept = if is_clear(self.world.calendar(self.student), meetings) {

@@ -84,7 +84,7 @@ pub fn is_overlapping(r: Option<&Reservation>) -> bool
 impl Moment<'_> {
     /// When a section meets.
     #[inline(always)]
-    pub fn meetings(&self, section: SectionId) -> &[Meeting]
+    pub(crate) fn meetings(&self, section: SectionId) -> &[Meeting]
         ensures { result.now ≡ meetings_of self.now.at section }
     {
         match self.catalogue().section(section) {
@@ -201,7 +201,7 @@ impl Moment<'_> {
     }
 
     /// The least section that the meetings overlap, of the enrolments that stay.
-    pub fn least_kept(
+    pub(crate) fn least_kept(
         &self,
         permitted: bool,
         meetings: &[Meeting],
@@ -219,7 +219,12 @@ impl Moment<'_> {
     }
 
     /// The least section that the meetings overlap, of the choices made.
-    pub fn least_made(&self, permitted: bool, meetings: &[Meeting], done: &[Choice]) -> Option<u32>
+    pub(crate) fn least_made(
+        &self,
+        permitted: bool,
+        meetings: &[Meeting],
+        done: &[Choice],
+    ) -> Option<u32>
         ensures { result ≡ least (flat_map (overlapped self.now.at permitted meetings.now) done.now) }
     {
         let mut least = None;
@@ -230,7 +235,7 @@ impl Moment<'_> {
     }
 
     /// The least section that overlaps the one of these meetings, held or chosen earlier, where it isn't permitted.
-    pub fn least_overlap(
+    pub(crate) fn least_overlap(
         &self,
         r: Option<&Reservation>,
         earlier: &[SectionId],

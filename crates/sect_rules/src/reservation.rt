@@ -19,7 +19,7 @@ use sect_reserve::{Audience, Reservation, active, applies};
 
 impl Moment<'_> {
     /// Whether the audience has the student by the course.
-    pub fn applies(&self, course: CourseId, audience: &Audience) -> bool
+    pub(crate) fn applies(&self, course: CourseId, audience: &Audience) -> bool
         ensures { result ≡ has_student self.now.at self.now.student course audience.now }
     {
         let row = self.person().row();

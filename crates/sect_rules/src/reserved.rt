@@ -41,7 +41,7 @@ const OPEN: Closed = Closed {
 impl Moment<'_> {
     /// Whether a level with a limit has no place left.
     #[inline(always)]
-    pub fn is_full(&self, level: Level) -> bool
+    pub(crate) fn is_full(&self, level: Level) -> bool
         ensures { result ≡ full_at self.now.at level }
     {
         match self.places(level) {
@@ -136,7 +136,7 @@ impl Moment<'_> {
     /// What closes a level of this offering to a choice by the reservation, or by none. Its places and its enrolments are
     /// asked for once.
     #[inline(always)]
-    pub fn closed(
+    pub(crate) fn closed(
         &self,
         offering: OfferingId,
         rows: &[Reservation],
@@ -153,7 +153,7 @@ impl Moment<'_> {
 
     /// The same, where the number of places at the level is known.
     #[inline(always)]
-    pub fn closed_with(
+    pub(crate) fn closed_with(
         &self,
         offering: OfferingId,
         rows: &[Reservation],

@@ -1,0 +1,6 @@
+pub mod OptionLemmas
+pub mod RisingLemmas
+pub mod PathLemmas
+pub mod FoundLemmas
+pub mod AtLemmas
+pub mod DueLemmas
