@@ -140,7 +140,7 @@ CHAPTERS = [
      ['sect_space/specs/' + n + '.antt' for n in ('Roomed', 'Room', 'Counting', 'Back', 'Recorded', 'Undo')]),
     ('How large a tree is',
      'The nodes of the tree of a blocked search, and what a verified tree says.',
-     ['sect_search/specs/' + n + '.antt' for n in ('Nodes', 'Refutes', 'Texts')]),
+     ['sect_search/specs/' + n + '.antt' for n in ('Nodes', 'One', 'Refutes', 'Texts')]),
     ('The wait-list',
      'The entries with the next ticket, what taking changes of it back asks and gives, which entries must be tried, its index, and what a '
      'leaving opens for them.',

@@ -13,14 +13,15 @@ ghost use Rattle.sect_model.specs.Batch.{
   request_move as move_of_request,
   want_of,
 };
+ghost use Rattle.sect_search.specs.One.{listed};
 ghost use Rattle.sect_batch.specs.Lines.{Tells, MetFits, answer_by, has_course as is_in_course, unmet_of, met_of};
 
 use crate::lines::{Answer, Lines};
 use sect_base::{CourseId, Memory, Steps, StudentId};
 use sect_command::LineResult;
-use sect_model::{Enrolment, Outcome};
+use sect_model::Enrolment;
 use sect_people::CourseAsk;
-use sect_search::{LentMove, LentWant, search_lent, usual_budget};
+use sect_search::{LentMove, LentWant, OneOutcome, search_one, usual_budget};
 use sect_space::{World, has_course};
 use std::alloc::Global;
 use std::sync::ledger::Ledger;
@@ -114,8 +115,8 @@ fn search_for<L: Ledger>(
     ensures met { IfOk result (λ line. MetFits world.now.world student line) }
 {
     let mv = request_move(student, rank, ask);
-    let outcome = search_lent(alloc, world, &mv, usual_budget(), steps)?;
-    Ok(result_of(outcome))
+    let found = search_one(alloc, world, &mv, usual_budget(), steps)?;
+    Ok(result_of(found))
 }
 
 /// The move that takes one of the request's courses.
@@ -127,15 +128,12 @@ fn request_move(student: StudentId, rank: u8, ask: &CourseAsk) -> LentMove<'_>
 }
 
 /// The line of a search.
-fn result_of(outcome: Outcome) -> LineResult
-    ensures { result ≡ result_of_outcome outcome }
+fn result_of(found: OneOutcome) -> LineResult
+    ensures { result ≡ result_of_outcome (listed found) }
 {
-    match outcome {
-        Outcome::Found(choices, _) => match choices.as_slice().first() {
-            Some(choice) => LineResult::Met(*choice),
-            None => LineResult::Skipped,
-        },
-        Outcome::Blocked(tree, visits) => LineResult::Blocked(visits, tree),
-        Outcome::Spent(_) => LineResult::Spent,
+    match found {
+        OneOutcome::Found(choice, _) => LineResult::Met(choice),
+        OneOutcome::Blocked(tree, visits) => LineResult::Blocked(visits, tree),
+        OneOutcome::Spent(_) => LineResult::Spent,
     }
 }

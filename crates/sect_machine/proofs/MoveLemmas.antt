@@ -1,5 +1,5 @@
 -- Giving up course by course, and taking choice by choice.
-use Rattle.std.specs.Prelude.{◌≡◌, Bool, true, false, not, ◌&&◌, ◌==◌, List, [], ◌∷◌, map, filter, refl}
+use Rattle.std.specs.Prelude.{◌≡◌, ℕ, Bool, true, false, not, ◌&&◌, ◌==◌, List, [], ◌∷◌, map, filter, refl}
 use Rattle.std.specs.List.{list_all, list_any}
 use Rattle.std.specs.Option.{is_some}
 use Rattle.std.proofs.Common.{sym, ◌∙◌, ap, subst}
@@ -9,10 +9,15 @@ use Rattle.sect_people.specs.Order.{all_differ}
 use Rattle.sect_model.specs.declared.change.Change.TheVariants.{Enrol}
 use Rattle.sect_model.specs.Data.{StudentId, CourseId, Want, Choice}
 use Rattle.sect_model.specs.declared.held.Enrolment.{Enrolment}
+use Rattle.sect_model.specs.declared.pick.Outcome.TheVariants.{Found}
 use Rattle.sect_model.specs.World.{World, enrol, enrol_all, leave, leave_all, holds, is_in}
 use Rattle.sect_model.specs.Allowed.{is_allowed}
 use Rattle.sect_model.specs.Move.{are_allowed}
 use Rattle.sect_model.specs.Fits.{Fits}
+use Rattle.sect_model.specs.Outcome.{outcome_of}
+use Rattle.sect_model.specs.Settle.{found_in}
+use Rattle.sect_model.specs.Step.{enrol_move}
+use Rattle.sect_model.proofs.KeptMoves.{found-allowed}
 use Rattle.sect_model.proofs.Members.{all-at, all-of, any-at, any-of, none-at, both-left, both-right, not_true, not_both, member-of_map, member-of_filter}
 
 -- the courses that are left are held and differ, and giving them up leads where giving up all does
@@ -80,3 +85,12 @@ takes-more w v u student all c rest t is = subst (λ x. TakesOn w x student all 
 pub leave_all-students : (courses : List CourseId) (w : World) (student : StudentId) → (leave_all w student courses).students ≡ w.students
 leave_all-students [] w student = refl
 leave_all-students (c ∷ cs) w student = leave_all-students cs (leave w student c) student
+
+-- what the search for an enrolment finds fits the world
+pub one-fits : (w : World) (student : StudentId) (want : Want) (budget visits : ℕ) (choice : Choice) → is_some (find_student w.students student) ≡ true
+    → outcome_of w (enrol_move student want) budget ≡ Found (choice ∷ []) visits → Fits w (Enrol (record { student = student; choice = choice }))
+one-fits w student want budget visits choice known found = (
+  known,
+  want,
+  both-left (is_allowed w student want choice) (are_allowed (enrol w student choice) student [] []) (found-allowed w (enrol_move student want) budget (choice ∷ []) (ap found_in found)),
+)

@@ -12,6 +12,7 @@ ghost use Rattle.sect_model.specs.Outcome.{outcome_of};
 ghost use Rattle.sect_model.specs.Premises.{MoveFits};
 ghost use Rattle.sect_model.specs.Settle.{make_move as world_after_move};
 ghost use Rattle.sect_model.specs.Step.{enrol_move as move_of_enrolment, enrolled as reply_to_enrolment};
+ghost use Rattle.sect_search.specs.One.{listed};
 ghost use Rattle.sect_space.specs.Undo.{Since, Undoable};
 ghost use Rattle.sect_machine.specs.Acting.{moved_world, outcome_reply};
 
@@ -19,7 +20,7 @@ use crate::change::make;
 use sect_base::{Budget, Choice, CourseId, Items, Memory, Steps, StudentId, Want};
 use sect_command::Reply;
 use sect_model::{Change, Enrolment, Outcome};
-use sect_search::{LentMove, LentWant, search_lent};
+use sect_search::{LentMove, LentWant, OneOutcome, search_lent, search_one};
 use sect_space::{Undo, World};
 use std::alloc::Global;
 use std::sync::ledger::Ledger;
@@ -130,8 +131,15 @@ pub fn enrol<L: Ledger>(
     ensures undoable { Undoable world.new undo.new.backs }
 {
     let mv = LentMove::one(student, &[], LentWant::of(want));
-    let outcome = search_move(alloc, world, &mv, budget, undo, steps)?;
-    Ok(enrolled(outcome))
+    let found = search_one(alloc, world, &mv, budget, steps)?;
+    if let OneOutcome::Found(choice, _) = &found {
+        let enrolment = Enrolment {
+            student,
+            choice: *choice,
+        };
+        make(world, Change::Enrol(enrolment), undo)?;
+    }
+    Ok(enrolled(found))
 }
 
 /// Gives the courses up, and enrols the student by the first choices that are allowed for the wants. Where there are none,
@@ -163,16 +171,13 @@ pub fn swap<L: Ledger>(
 }
 
 /// The reply to an enrolment with this outcome.
-fn enrolled(outcome: Outcome) -> Reply
-    ensures { result ≡ outcome_reply reply_to_enrolment outcome }
+fn enrolled(found: OneOutcome) -> Reply
+    ensures { result ≡ outcome_reply reply_to_enrolment (listed found) }
 {
-    match outcome {
-        Outcome::Found(choices, _) => match choices.as_slice().first() {
-            Some(choice) => Reply::Enrolled(*choice),
-            None => Reply::Amended,
-        },
-        Outcome::Blocked(tree, visits) => Reply::Blocked(visits, tree),
-        Outcome::Spent(budget) => Reply::Spent(budget),
+    match found {
+        OneOutcome::Found(choice, _) => Reply::Enrolled(choice),
+        OneOutcome::Blocked(tree, visits) => Reply::Blocked(visits, tree),
+        OneOutcome::Spent(budget) => Reply::Spent(budget),
     }
 }
 

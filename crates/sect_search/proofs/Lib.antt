@@ -3,3 +3,4 @@ pub mod WalkLemmas
 pub mod CoverLemmas
 pub mod NodeLemmas
 pub mod TextLemmas
+pub mod OneLemmas

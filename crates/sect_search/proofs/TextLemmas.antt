@@ -351,7 +351,7 @@ mutual
   more-texts m n none few h = tt
   more-texts m n (more t ts) few h = (more-text m n t few h.0, more-texts m n ts few h.1)
 
-told-more : (m n : ℕ) (o : Outcome) → m ≤ n → IsToldIn m o → IsToldIn n o
+pub told-more : (m n : ℕ) (o : Outcome) → m ≤ n → IsToldIn m o → IsToldIn n o
 told-more m n (Found choices visits) few h = tt
 told-more m n (Blocked tree visits) few h = more-text m n tree few h
 told-more m n (Spent visits) few h = tt

@@ -3,3 +3,4 @@ pub mod Told
 pub mod Refutes
 pub mod Nodes
 pub mod Texts
+pub mod One

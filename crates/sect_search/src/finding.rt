@@ -1,20 +1,20 @@
 // The search with a budget.
 
-ghost use Rattle.std.specs.Prelude.{◌≡◌, ◌+◌, ◌*◌, ◌≤◌, length, IfOk};
+ghost use Rattle.std.specs.Prelude.{◌≡◌, ◌+◌, ◌*◌, ◌≤◌, [], length, slice_get, Some, IfOk};
 ghost use Rattle.sect_model.specs.Outcome.{outcome_of};
 ghost use Rattle.sect_model.specs.Premises.{MoveFits};
 ghost use Rattle.sect_model.specs.Stands.{MoveStands};
 ghost use Rattle.sect_model.specs.Search.{search_of, searched_outcome};
 ghost use Rattle.sect_model.specs.Visits.{most_decisions};
 ghost use Rattle.sect_search.specs.Texts.{IsTold, IsToldIn};
-ghost use Rattle.sect_search.specs.Told.{OutcomeNumbers};
+ghost use Rattle.sect_search.specs.Told.{told, OutcomeNumbers, ToldNumbers};
 
 use crate::searched::{Searched, Walk};
 use crate::walk::below_want;
 use sect_base::{Block, Budget, Items, Memory, Move, Steps};
 use sect_model::Outcome;
 use sect_options::Wanted;
-use sect_rules::LentMove;
+use sect_rules::{LentMove, LentWant};
 use sect_space::World;
 use std::alloc::Global;
 use std::sync::ledger::Ledger;
@@ -89,28 +89,43 @@ fn find<const N: usize>(
     ensures numbers { IfOk result OutcomeNumbers }
     ensures found { IfOk result (λ outcome. outcome ≡ searched_outcome budget (search_of world.now.world mv.now budget)) }
 {
-    match mv.want(0) {
-        None => Ok(Outcome::Found(Items::from_vec(Vec::new(alloc)), 0)),
-        Some(want) => {
-            let wanted = Wanted::new(world, mv, &[], want);
-            let mut walk = Walk {
-                left: budget.get(),
-                trees: Vec::new(alloc),
-                choices: Items::from_vec(Vec::new(alloc)),
-            };
-            let searched = below_want::<N>(alloc, &wanted, decisions(mv), &mut walk)?;
-            let Walk {
-                left,
-                trees,
-                choices,
-            } = walk;
-            Ok(match searched {
-                Searched::Found => Outcome::Found(choices, budget.get() - left),
-                Searched::Refuted => Outcome::Blocked(Block::split(trees), budget.get() - left),
-                Searched::Spent => Outcome::Spent(budget.get()),
-            })
-        }
-    }
+    let Some(want) = mv.want(0) else {
+        return Ok(Outcome::Found(Items::from_vec(Vec::new(alloc)), 0));
+    };
+    let mut walk = Walk::new(alloc, budget);
+    let searched = walk_all::<N>(alloc, world, mv, want, &mut walk)?;
+    let Walk {
+        left,
+        trees,
+        choices,
+    } = walk;
+    Ok(match searched {
+        Searched::Found => Outcome::Found(choices.into_items()?, budget.get() - left),
+        Searched::Refuted => Outcome::Blocked(Block::split(trees), budget.get() - left),
+        Searched::Spent => Outcome::Spent(budget.get()),
+    })
+}
+
+/// The walk of all options of a move, of which this is the first want.
+#[inline(always)]
+pub(crate) fn walk_all<const N: usize>(
+    alloc: Global,
+    world: &World,
+    mv: &LentMove,
+    want: LentWant,
+    walk: &mut Walk,
+) -> Result<Searched, Memory>
+    requires stands { MoveStands world.now.world mv.now }
+    requires room { length mv.now.take ≤ N }
+    requires limit { N ≤ 20 }
+    requires want { slice_get mv.now.take 0 ≡ Some want }
+    requires none { walk.old.trees.items ≡ [] }
+    ensures found { IfOk result (λ r. told r walk.new.choices walk.new.trees.items walk.new.left ≡ search_of world.now.world mv.now walk.old.left) }
+    ensures numbers { IfOk result (ToldNumbers walk.new.trees.items) }
+    ensures less { walk.new.left ≤ walk.old.left }
+{
+    let wanted = Wanted::new(world, mv, &[], want);
+    below_want::<N>(alloc, &wanted, decisions(mv), walk)
 }
 
 /// The most decisions of a path: nine for each want.

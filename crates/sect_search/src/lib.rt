@@ -4,6 +4,7 @@
 mod budget;
 mod finding;
 pub mod laws;
+mod one;
 mod searched;
 mod verifying;
 mod walk;
@@ -11,6 +12,7 @@ mod wants;
 
 pub use budget::usual_budget;
 pub use finding::{search, search_in, search_lent};
+pub use one::{OneOutcome, search_one};
 pub use sect_model::Outcome;
 pub use sect_rules::{LentMove, LentWant};
 pub use verifying::{verify, verify_in};

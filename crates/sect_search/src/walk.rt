@@ -12,7 +12,7 @@ ghost use Rattle.sect_options.specs.Due.{place_of, place_at, pick_at, IsStep};
 ghost use Rattle.sect_options.specs.Wanted.{course_path, joined_path, config_path};
 ghost use Rattle.sect_search.specs.Told.{told, own, look, behind, go_from, ToldNumbers, LeavesTrees};
 
-use crate::searched::{Searched, Walk};
+use crate::searched::{Complete, Searched, Walk};
 use sect_base::{Block, Choice, Items, Memory, Rule};
 use sect_options::{Configured, Due, Joined, OnCourse, PathOf, Step, Wanted, broken, step_at};
 use std::alloc::Global;
@@ -243,8 +243,8 @@ fn ended<const N: usize>(
     let done = wanted.done();
     match mv.want(done.len() + 1) {
         None => {
-            let choices = with_choice(alloc, done, choice)?;
-            walk.choices = choices;
+            let before = copied(alloc, done)?;
+            walk.choices = Complete::new(before, choice);
             Ok(Searched::Found)
         }
         Some(want) => {
@@ -297,25 +297,16 @@ fn off_stack(alloc: Global, trees: &mut Vec<Block>, base: usize) -> Result<Vec<B
     Ok(own)
 }
 
-/// The choices with one more, as a list of their own.
-fn with_choice(alloc: Global, done: &[Choice], choice: Choice) -> Result<Items<Choice>, Memory>
-    requires { length done.now < 20 }
-    ensures { IfOk result (λ choices. choices ≡ done.now ++ choice ∷ []) }
-{
-    let mut choices = Vec::with_capacity(alloc, done.len() + 1)?;
-    push_all(&mut choices, done)?;
-    choices.push(choice)?;
-    Ok(Items::from_vec(choices))
-}
-
-/// Puts the choices behind the others. Mostly there are none.
+/// The choices as a list of their own, with room for one more. Mostly there are none, which takes no memory.
 #[inline(always)]
-fn push_all(choices: &mut Vec<Choice>, done: &[Choice]) -> Result<(), Memory>
-    ensures { OnOk result (choices.new.items ≡ choices.old.items ++ done.now) }
+fn copied(alloc: Global, done: &[Choice]) -> Result<Items<Choice>, Memory>
+    requires { length done.now < 20 }
+    ensures { IfOk result (λ choices. choices ≡ done.now) }
 {
     if done.is_empty() {
-        return Ok(());
+        return Ok(Items::from_vec(Vec::new(alloc)));
     }
+    let mut choices = Vec::with_capacity(alloc, done.len() + 1)?;
     choices.extend_from_slice(done)?;
-    Ok(())
+    Ok(Items::from_vec(choices))
 }

@@ -4,13 +4,14 @@ ghost use Rattle.std.specs.Prelude.{◌≡◌, ◌<◌, map, flat_map, All, IfOk
 ghost use Rattle.sect_model.specs.Outcome.{outcome_of};
 ghost use Rattle.sect_model.specs.Premises.{MoveFits};
 ghost use Rattle.sect_model.specs.Look.{unmet_views, students_by_id};
+ghost use Rattle.sect_search.specs.One.{listed};
 ghost use Rattle.sect_survey.specs.Survey.{unmet_move as move_of, why_of as why_by, line_of as line_by, survey_lines as lines_of_world};
 
 use crate::line::{SurveyLine, Why};
 use rayon::prelude::*;
-use sect_base::{Duplicate, Items, Memory, Move, Steps, Want};
+use sect_base::{Items, Memory, Steps};
 use sect_command::{Query, UnmetView, View};
-use sect_search::{Outcome, search, usual_budget};
+use sect_search::{LentMove, LentWant, OneOutcome, search_one, usual_budget};
 use sect_space::World;
 use sect_view::view;
 use std::alloc::{AllocError, Global};
@@ -72,59 +73,46 @@ fn line_of(alloc: Global, world: &World, view: &UnmetView) -> Result<SurveyLine,
     requires { MoveFits world.now.world (move_of view.now) }
     ensures { IfOk result (λ line. line ≡ line_by world.now.world view.now) }
 {
-    let mv = unmet_move(alloc, view)?;
-    let outcome = counted::<Brand>(alloc, world, &mv, Blank::new(1))?;
+    let found = counted::<Brand>(alloc, world, view, Blank::new(1))?;
     Ok(SurveyLine {
         student: view.student,
         rank: view.rank,
-        why: why_of(outcome),
+        why: why_of(found),
     })
 }
 
-/// The outcome of a search within 2,000 visits that is counted in this ledger.
+/// What a search within 2,000 visits finds for an unmet request, counted in this ledger.
 fn counted<L: Ledger>(
     alloc: Global,
     world: &World,
-    mv: &Move,
+    view: &UnmetView,
     blank: Blank,
-) -> Result<Outcome, Memory>
+) -> Result<OneOutcome, Memory>
     requires name { blank.name ≡ L.name }
     requires parts { blank.parts ≡ L.parts }
     requires some { 0 < blank.parts }
-    requires fits { MoveFits world.now.world mv.now }
-    ensures { IfOk result (λ outcome. outcome ≡ outcome_of world.now.world mv.now 2000) }
+    requires fits { MoveFits world.now.world (move_of view.now) }
+    ensures { IfOk result (λ found. listed found ≡ outcome_of world.now.world (move_of view.now) 2000) }
 {
     let mut steps: Steps<L> = Steps::new(blank);
-    search(alloc, world, mv, usual_budget(), &mut steps)
+    search_one(alloc, world, &unmet_move(view), usual_budget(), &mut steps)
 }
 
 /// The move that takes one of the request's courses.
-fn unmet_move(alloc: Global, view: &UnmetView) -> Result<Move, Memory>
-    ensures { IfOk result (λ mv. mv ≡ move_of view.now) }
+fn unmet_move(view: &UnmetView) -> LentMove<'_>
+    ensures { result ≡ move_of view.now }
 {
-    let mut take = Vec::new(alloc);
-    take.push(Want {
-        courses: view.courses.copy(alloc)?,
-        only: Items::from_vec(Vec::new(alloc)),
-        rank: view.rank,
-    })?;
-    Ok(Move {
-        student: view.student,
-        give: Items::from_vec(Vec::new(alloc)),
-        take: Items::from_vec(take),
-    })
+    let want = LentWant::new(view.courses.as_slice(), &[], view.rank);
+    LentMove::one(view.student, &[], want)
 }
 
-/// Why a request is unmet, by the outcome of its search.
-fn why_of(outcome: Outcome) -> Why
-    ensures { result ≡ why_by outcome }
+/// Why a request is unmet, by what the search found.
+fn why_of(found: OneOutcome) -> Why
+    ensures { result ≡ why_by (listed found) }
 {
-    match outcome {
-        Outcome::Found(choices, _) => match choices.as_slice().first() {
-            Some(choice) => Why::Open(*choice),
-            None => Why::Spent,
-        },
-        Outcome::Blocked(tree, visits) => Why::Blocked(tree, visits),
-        Outcome::Spent(_) => Why::Spent,
+    match found {
+        OneOutcome::Found(choice, _) => Why::Open(choice),
+        OneOutcome::Blocked(tree, visits) => Why::Blocked(tree, visits),
+        OneOutcome::Spent(_) => Why::Spent,
     }
 }

@@ -1,21 +1,15 @@
--- The entry that is placed next, found in one pass, and the one choice that its search finds.
-use Rattle.std.specs.Prelude.{◌≡◌, ℕ, Bool, true, false, ◌&&◌, ◌||◌, ◌==◌, nat_lt, nat_le, cond, List, [], ◌∷◌, ◌++◌, filter, slice_get, Option, Some, None, refl, ◌⊎◌}
-use Rattle.std.specs.Option.{option_map, option_map_or}
+-- The entry that is placed next, found in one pass.
+use Rattle.std.specs.Prelude.{◌≡◌, ℕ, Bool, true, false, ◌&&◌, ◌||◌, ◌==◌, nat_lt, nat_le, cond, List, [], ◌∷◌, ◌++◌, filter, Option, Some, None, refl, ◌⊎◌}
+use Rattle.std.specs.Option.{option_map_or}
 use Rattle.std.specs.List.{list_any}
 use Rattle.std.proofs.Common.{sym, ◌∙◌, ap, subst, arith, inl, inr}
 use Rattle.std.proofs.lemmas.Bool.Decides.{nat_tests}
 use Rattle.std.proofs.lemmas.List.{append-nil}
 use Rattle.sect_base.specs.declared.choice.Choice.{Choice}
 use Rattle.sect_model.specs.declared.held.Waiting.{Waiting}
-use Rattle.sect_model.specs.declared.pick.Outcome.{Outcome}
-use Rattle.sect_model.specs.declared.pick.Outcome.TheVariants.{Found}
-use Rattle.sect_model.specs.World.{World, leave_all}
-use Rattle.sect_model.specs.Allowed.{is_allowed}
-use Rattle.sect_model.specs.Move.{are_allowed}
-use Rattle.sect_model.specs.Outcome.{outcome_of}
-use Rattle.sect_model.specs.Settle.{first_entry, comes_first, is_placeable, placement_of, found_in, move_of}
-use Rattle.sect_model.proofs.Members.{both-right, decide, neither-left, neither-right, not_both}
-use Rattle.sect_model.proofs.KeptMoves.{found-allowed}
+use Rattle.sect_model.specs.World.{World}
+use Rattle.sect_model.specs.Settle.{first_entry, comes_first, is_placeable, placement_of}
+use Rattle.sect_model.proofs.Members.{decide, neither-left, neither-right, not_both}
 use Rattle.sect_model.specs.Freer.{Among}
 use Rattle.sect_model.proofs.FreerSettle.{touched-decide}
 use Rattle.sect_wait.specs.declared.next.Candidate.{Candidate}
@@ -27,25 +21,6 @@ use Rattle.sect_wait.specs.Opened.{OthersBut, UnsoughtNeedNone, WasBlocked, is_s
 use Rattle.sect_wait.specs.Placing.{IsOf, IsBest, KeepsLeft, KeepsListed, OthersTried, RestNeedNone, OthersAfter, candidate_of, is_before, is_behind, marks_from, turn_of}
 use Rattle.sect_wait.proofs.MarkLemmas.{among-append, first-off, off-source}
 use Rattle.sect_wait.proofs.NeedLemmas.{needless-more, needless-unplaced, same-notes}
-
--- ---- one choice for one want
-
--- what a search for an entry finds is one choice
-pub one-choice : (w : World) (e : Waiting) (choices : List Choice) → placement_of w e ≡ Some choices → option_map (λ c. c ∷ []) (slice_get choices 0) ≡ Some choices
-one-choice w e choices found = by_choices choices (found-allowed w (move_of w e) 2000 choices found)
-  where
-    by_choices : (choices : List Choice) → are_allowed (leave_all w e.student (move_of w e).give) e.student (e.want ∷ []) choices ≡ true
-        → option_map (λ c. c ∷ []) (slice_get choices 0) ≡ Some choices
-    by_choices [] h = absurd (not_both false h refl)
-    by_choices (c ∷ []) h = refl
-    by_choices (c ∷ d ∷ cs) h = absurd (not_both false (both-right (is_allowed (leave_all w e.student (move_of w e).give) e.student e.want c) false h) refl)
-
--- the choice that a search found, as it is answered
-pub found-choice : (w : World) (e : Waiting) (o : Outcome) (choices : List Choice) (visits : ℕ) → o ≡ outcome_of w (move_of w e) 2000 → o ≡ Found choices visits
-    → option_map (λ c. c ∷ []) (slice_get choices 0) ≡ placement_of w e
-found-choice w e o choices visits is found =
-    let at : placement_of w e ≡ Some choices = ap found_in (sym is ∙ found) in
-    one-choice w e choices at ∙ sym at
 
 -- ---- the first of some entries and one more
 

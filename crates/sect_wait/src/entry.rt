@@ -9,8 +9,8 @@ ghost use Rattle.sect_wait.specs.Placing.{KeepsLeft, RestNeedNone};
 ghost use Rattle.sect_wait.specs.Touched.{AddsOnly};
 
 use sect_base::{Choice, CourseId, Memory, Steps};
-use sect_model::{Outcome, Waiting};
-use sect_search::{LentMove, LentWant, search_lent, usual_budget};
+use sect_model::Waiting;
+use sect_search::{LentMove, LentWant, OneOutcome, search_one, usual_budget};
 use sect_space::World;
 use std::alloc::Global;
 use std::slice::from_ref;
@@ -54,13 +54,14 @@ pub fn placement<L: Ledger>(
 {
     world.recall_kept();
     let mv = move_of(world, entry);
-    match search_lent(alloc, world, &mv, usual_budget(), steps)? {
-        Outcome::Found(choices, _) => {
+    let found = search_one(alloc, world, &mv, usual_budget(), steps)?;
+    match &found {
+        OneOutcome::Found(choice, _) => {
             left.again.push(entry.ticket)?;
-            Ok(choices.as_slice().first().copied())
+            Ok(Some(*choice))
         }
-        Outcome::Blocked(_, _) => Ok(None),
-        Outcome::Spent(_) => {
+        OneOutcome::Blocked(_, _) => Ok(None),
+        OneOutcome::Spent(_) => {
             left.spent.push(entry.ticket)?;
             Ok(None)
         }

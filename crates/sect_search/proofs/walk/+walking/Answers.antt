@@ -268,13 +268,13 @@ ended-returns-in-Some-clause-found g t c =
     c.below_want.ensures.found
 
 -- no want is left behind it
-pub ended-returns-in_ok-choices-in-None-clause-found : goal.ended-returns-in_ok-choices-in-None-clause-found
-ended-returns-in_ok-choices-in-None-clause-found g t c =
+pub ended-returns-in_ok-before-in-None-clause-found : goal.ended-returns-in_ok-before-in-None-clause-found
+ended-returns-in_ok-before-in-None-clause-found g t c =
     let v = c.args.wanted.now in
     let n = c.args.decisions in
     let left = c.args.walk.now.left in
     let before = c.args.walk.now.trees.items in
     let choice = c.args.choice in
-    ap (λ choices. found choices left) c.in_ok-choices-in-None.ensures
+    ap (λ choices. found choices left) (c.new.ensures ∙ ap (λ done. done ++ choice ∷ []) c.in_ok-before-in-None.ensures)
     ∙ whole-from v.world c.mv-mv.result.now c.done-done.result.now choice n left (sym c.want.ensures ∙ c.in-None.is)
     ∙ (λ i. go_from v.world (c.mv-mv.ensures i) (opened (c.done-done.ensures i ++ choice ∷ [])) n left)
