@@ -47,6 +47,7 @@ impl Index {
     }
 
     /// The place of an offering.
+    #[inline(always)]
     pub fn offering(&self, id: u32) -> Option<Place>
         ensures { result ≡ place_of self.now (0, id) }
     {
@@ -54,6 +55,7 @@ impl Index {
     }
 
     /// The place of a course.
+    #[inline(always)]
     pub fn course(&self, id: u32) -> Option<Place>
         ensures { result ≡ place_of self.now (1, id) }
     {
@@ -61,6 +63,7 @@ impl Index {
     }
 
     /// The place of a configuration.
+    #[inline(always)]
     pub fn config(&self, id: u32) -> Option<Place>
         ensures { result ≡ place_of self.now (2, id) }
     {

@@ -5,7 +5,7 @@ ghost use Rattle.sect_explain.specs.Explained.{explain_below, explain_text};
 
 use crate::line::print_decision;
 use sect_base::{Block, Memory, Move, Node};
-use sect_options::{PathOf, option};
+use sect_rules::{PathOf, option};
 use sect_space::World;
 
 /// Appends the tree that refutes a move in words: a line for each decision, deeper by two spaces below the one before it,

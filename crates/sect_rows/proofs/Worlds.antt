@@ -14,7 +14,7 @@ use Rattle.sect_model.specs.Change.{put_offering, put_student, put_asks, put_lim
 use Rattle.sect_model.specs.Allowed.{credits_held, max_credits}
 use Rattle.sect_model.specs.GoodWorld.{GoodWorld}
 use Rattle.sect_model.proofs.Members.{sum-part, filter-filter}
-use Rattle.sect_rules.proofs.CreditLemmas.{credits-few}
+use Rattle.sect_moment.proofs.CreditLemmas.{credits-few}
 use Rattle.sect_wire.specs.Fits.{FitsList, FitsSection, FitsLimit, FitsOfferingRow, FitsCourseRow, FitsConfigRow, FitsSubpartRow, FitsSectionRow, FitsStudentRow, FitsAsk}
 use Rattle.sect_rows.specs.States.{FitsWorld, FitsStudentAsks, FitsReserved, FitsEnrolment}
 use Rattle.sect_rows.proofs.Each.{each-one, each-map, each-filter, each-put, each-found, each-flat_map}

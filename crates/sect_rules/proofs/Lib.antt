@@ -1,11 +1,6 @@
-pub mod NthLemmas
-pub mod IdLemmas
-pub mod MomentLemmas
-pub mod CreditLemmas
-pub mod ReservedLemmas
-pub mod RestrictedLemmas
-pub mod LeastLemmas
-pub mod OwnLemmas
-pub mod CourseLemmas
-pub mod ClearLemmas
-pub mod GroundLemmas
+pub mod OptionLemmas
+pub mod RisingLemmas
+pub mod PathLemmas
+pub mod FoundLemmas
+pub mod AtLemmas
+pub mod DueLemmas

@@ -1,10 +1,7 @@
-pub mod Completed
-pub mod FreeTimes
-pub mod Ground
-pub mod Lent
-pub mod Moment
-pub mod Overlapped
-pub mod Found
-pub mod Reserved
-pub mod Standing
-pub mod Tables
+pub mod Added
+pub mod Decided
+pub mod Due
+pub mod Part
+pub mod Place
+pub mod Rising
+pub mod Wanted

@@ -1,19 +1,23 @@
-//! The world as the student of a move meets it behind choices, and the first rule that a decision breaks there.
+//! The options of a path of decisions, and the first rule that an option breaks.
 #![tactic(auto)]
 
-mod config;
-mod course;
-mod ground;
-mod held;
-mod lent;
-mod moment;
-mod overlap;
-mod place;
-mod reservation;
-mod reserved;
-mod section;
+mod configured;
+mod due;
+mod joined;
+pub mod laws;
+mod nth;
+mod on_course;
+mod options;
+mod parted;
+mod path;
+mod rows;
+mod wanted;
 
-pub use ground::{Ground, ground_of};
-pub use lent::{LentMove, LentWant};
-pub use moment::Moment;
-pub use place::subparts_in;
+pub use configured::Configured;
+pub use due::{Due, Step, broken, step_at};
+pub use joined::Joined;
+pub use on_course::OnCourse;
+pub use options::option;
+pub use path::{Path, PathOf};
+pub use sect_model::Pick;
+pub use wanted::Wanted;

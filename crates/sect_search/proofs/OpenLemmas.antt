@@ -12,9 +12,9 @@ use Rattle.sect_model.specs.Choice.{subparts_of}
 use Rattle.sect_model.specs.Covers.{cover_each}
 use Rattle.sect_model.specs.Path.{Path, options_at, want_at, extend, is_complete}
 use Rattle.sect_model.specs.Search.{found, search_from}
-use Rattle.sect_rules.specs.Completed.{opened, completed_by}
-use Rattle.sect_options.specs.Wanted.{Configured, config_path}
-use Rattle.sect_rules.proofs.OwnLemmas.{done-few}
+use Rattle.sect_moment.specs.Completed.{opened, completed_by}
+use Rattle.sect_rules.specs.Wanted.{Configured, config_path}
+use Rattle.sect_moment.proofs.OwnLemmas.{done-few}
 use Rattle.sect_search.specs.Covered.{covered}
 use Rattle.sect_search.specs.Told.{go_from}
 

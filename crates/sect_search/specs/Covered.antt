@@ -6,7 +6,7 @@ use Rattle.sect_model.specs.declared.pick.Pick.{Pick}
 use Rattle.sect_model.specs.World.{World}
 use Rattle.sect_model.specs.Covers.{cover_each}
 use Rattle.sect_model.specs.Path.{Path, options_at, extend, is_complete}
-use Rattle.sect_options.specs.Place.{Place}
+use Rattle.sect_rules.specs.Place.{Place}
 
 -- the path isn't complete, and each of its options has its tree
 abbrev pub covered : World → Move → Path → List Tree → Bool

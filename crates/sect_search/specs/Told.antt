@@ -6,7 +6,7 @@ use Rattle.sect_model.specs.Path.{Path, extend, is_complete}
 use Rattle.sect_model.specs.Rules.{leaf_of}
 use Rattle.sect_model.specs.Search.{Searched, found, refuted, spent, behind_tree, search_pick, search_from}
 use Rattle.sect_model.specs.World.{World}
-use Rattle.sect_options.specs.Place.{Place}
+use Rattle.sect_rules.specs.Place.{Place}
 use Rattle.sect_base.specs.Tree.{Tree, trees_of}
 use Rattle.sect_model.specs.declared.pick.Outcome.{Outcome}
 use Rattle.sect_model.specs.declared.pick.Outcome.TheVariants.{Found as found_move, Blocked, Spent as spent_budget}

@@ -14,6 +14,6 @@ pub use budget::usual_budget;
 pub use finding::{search, search_in, search_lent};
 pub use one::{OneOutcome, search_one};
 pub use sect_model::Outcome;
-pub use sect_rules::{LentMove, LentWant};
+pub use sect_moment::{LentMove, LentWant};
 pub use verifying::{verify, verify_in};
 pub use wants::want_of;

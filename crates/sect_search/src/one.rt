@@ -11,7 +11,7 @@ ghost use Rattle.sect_search.specs.Told.{OutcomeNumbers};
 use crate::finding::walk_all;
 use crate::searched::{Searched, Walk};
 use sect_base::{Block, Budget, Choice, Memory, Steps};
-use sect_rules::LentMove;
+use sect_moment::LentMove;
 use sect_space::World;
 use std::alloc::Global;
 use std::sync::ledger::Ledger;

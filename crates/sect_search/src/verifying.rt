@@ -7,14 +7,14 @@ ghost use Rattle.sect_model.specs.Covers.{covers, covers_with, cover_each, is_le
 ghost use Rattle.sect_model.specs.Path.{options_at};
 ghost use Rattle.sect_model.specs.Premises.{MoveFits};
 ghost use Rattle.sect_model.specs.Stands.{MoveStands};
-ghost use Rattle.sect_rules.specs.Completed.{opened};
-ghost use Rattle.sect_options.specs.Due.{place_of, place_at, pick_at, IsStep};
+ghost use Rattle.sect_moment.specs.Completed.{opened};
+ghost use Rattle.sect_rules.specs.Due.{place_of, place_at, pick_at, IsStep};
 ghost use Rattle.sect_search.specs.Covered.{covered, covered_behind};
 ghost use Rattle.sect_search.specs.Refutes.{NoMove};
 
 use sect_base::{Block, Choice, Move, Node, Rule};
-use sect_options::{Configured, Due, Joined, OnCourse, PathOf, Step, Wanted, broken, step_at};
-use sect_rules::LentMove;
+use sect_moment::LentMove;
+use sect_rules::{Configured, Due, Joined, OnCourse, PathOf, Step, Wanted, broken, step_at};
 use sect_space::World;
 
 /// Whether the tree covers the path with no decision: it has one child for each option, a leaf is

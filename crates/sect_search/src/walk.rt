@@ -7,14 +7,14 @@ ghost use Rattle.sect_base.specs.Tree.{broken as broken_leaf, split, trees_of};
 ghost use Rattle.sect_model.specs.Path.{options_at};
 ghost use Rattle.sect_model.specs.Search.{search_from};
 ghost use Rattle.sect_model.specs.Stands.{MoveStands};
-ghost use Rattle.sect_rules.specs.Completed.{opened};
-ghost use Rattle.sect_options.specs.Due.{place_of, place_at, pick_at, IsStep};
-ghost use Rattle.sect_options.specs.Wanted.{course_path, joined_path, config_path};
+ghost use Rattle.sect_moment.specs.Completed.{opened};
+ghost use Rattle.sect_rules.specs.Due.{place_of, place_at, pick_at, IsStep};
+ghost use Rattle.sect_rules.specs.Wanted.{course_path, joined_path, config_path};
 ghost use Rattle.sect_search.specs.Told.{told, own, look, behind, go_from, ToldNumbers, LeavesTrees};
 
 use crate::searched::{Complete, Searched, Walk};
 use sect_base::{Block, Choice, Items, Memory, Rule};
-use sect_options::{Configured, Due, Joined, OnCourse, PathOf, Step, Wanted, broken, step_at};
+use sect_rules::{Configured, Due, Joined, OnCourse, PathOf, Step, Wanted, broken, step_at};
 use std::alloc::Global;
 
 /// The search below a want, of at most so many decisions, with what is left of the budget. The trees of its options, where all

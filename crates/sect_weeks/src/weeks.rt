@@ -94,6 +94,7 @@ impl Weeks {
     }
 
     /// The place of a student's row, if it has one.
+    #[inline(always)]
     pub(crate) fn place(&self, student: StudentId) -> Option<usize>
         ensures { result ≡ place_of self.now student.0 }
     {

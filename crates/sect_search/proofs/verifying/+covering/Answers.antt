@@ -8,9 +8,9 @@ use Rattle.sect_base.specs.TreeOf.{tree_of}
 use Rattle.sect_model.specs.declared.pick.Pick.TheVariants.{Section}
 use Rattle.sect_model.specs.Covers.{covers_with, cover_each}
 use Rattle.sect_model.specs.Path.{options_at, extend, is_complete}
-use Rattle.sect_options.specs.Due.{place_of, place_at, pick_at}
-use Rattle.sect_rules.specs.Found.{id_of}
-use Rattle.sect_options.specs.Wanted.{OnCourse, Joined, Configured, course_path, joined_path, config_path}
+use Rattle.sect_rules.specs.Due.{place_of, place_at, pick_at}
+use Rattle.sect_moment.specs.Found.{id_of}
+use Rattle.sect_rules.specs.Wanted.{OnCourse, Joined, Configured, course_path, joined_path, config_path}
 use Rattle.sect_search.specs.Covered.{covered, covered_behind}
 use Rattle.sect_search.proofs.OpenLemmas.{open-option, covered-open, goes}
 use Rattle.sect_search.proofs.CoverLemmas.{from, cover-none, cover-one, cover-end}

@@ -3,7 +3,7 @@ use Rattle.std.proofs.Common.{◌≡◌, ◌+◌, ◌-◌, ◌*◌, ◌≤◌, d
 use Rattle.sect_base.specs.Tree.{trees_of, size_of, sizes_of}
 use Rattle.sect_model.specs.Covers.{cover_each}
 use Rattle.sect_model.specs.Path.{options_at}
-use Rattle.sect_options.specs.Due.{place_of}
+use Rattle.sect_rules.specs.Due.{place_of}
 use Rattle.sect_search.proofs.verifying.+covering.Given as goal
 
 abbrev pub invariant-cover-options : goal.invariant-cover-options

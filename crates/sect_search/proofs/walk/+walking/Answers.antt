@@ -6,10 +6,10 @@ use Rattle.sect_model.specs.declared.pick.Pick.TheVariants.{Section}
 use Rattle.sect_model.specs.Path.{options_at, extend, is_complete}
 use Rattle.sect_model.specs.Search.{Searched, found, refuted, or_later, search_pick, search_from}
 use Rattle.sect_base.specs.Tree.{broken as broken_leaf, split, trees_of}
-use Rattle.sect_rules.specs.Completed.{opened}
-use Rattle.sect_options.specs.Due.{place_of, place_at, pick_at}
-use Rattle.sect_rules.specs.Found.{id_of}
-use Rattle.sect_options.specs.Wanted.{OnCourse, Joined, Configured, course_path, joined_path, config_path}
+use Rattle.sect_moment.specs.Completed.{opened}
+use Rattle.sect_rules.specs.Due.{place_of, place_at, pick_at}
+use Rattle.sect_moment.specs.Found.{id_of}
+use Rattle.sect_rules.specs.Wanted.{OnCourse, Joined, Configured, course_path, joined_path, config_path}
 use Rattle.sect_search.specs.Texts.{HaveNumbers}
 use Rattle.sect_search.specs.Told.{told, own, look, behind, go_from, ToldNumbers, LeavesTrees}
 use Rattle.sect_search.proofs.OpenLemmas.{open-option, went-on, whole-from, want-after, open-want, goes}

@@ -4,7 +4,7 @@ use Rattle.std.proofs.Common.{◌≡◌, ◌+◌, ◌-◌, ◌*◌, ◌≤◌, l
 use Rattle.sect_model.specs.Path.{options_at}
 use Rattle.sect_model.specs.Search.{search_options, search_from}
 use Rattle.sect_base.specs.Tree.{trees_of}
-use Rattle.sect_options.specs.Due.{place_of}
+use Rattle.sect_rules.specs.Due.{place_of}
 use Rattle.sect_search.specs.Texts.{HaveNumbers}
 use Rattle.sect_search.specs.Told.{own, with_trees}
 use Rattle.sect_search.proofs.walk.+walking.Given as goal

@@ -1,0 +1,11 @@
+pub mod NthLemmas
+pub mod IdLemmas
+pub mod MomentLemmas
+pub mod CreditLemmas
+pub mod ReservedLemmas
+pub mod RestrictedLemmas
+pub mod LeastLemmas
+pub mod OwnLemmas
+pub mod CourseLemmas
+pub mod ClearLemmas
+pub mod GroundLemmas

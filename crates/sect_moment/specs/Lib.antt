@@ -1,0 +1,10 @@
+pub mod Completed
+pub mod FreeTimes
+pub mod Ground
+pub mod Lent
+pub mod Moment
+pub mod Overlapped
+pub mod Found
+pub mod Reserved
+pub mod Standing
+pub mod Tables

@@ -1,6 +1,0 @@
-pub mod OptionLemmas
-pub mod RisingLemmas
-pub mod PathLemmas
-pub mod FoundLemmas
-pub mod AtLemmas
-pub mod DueLemmas

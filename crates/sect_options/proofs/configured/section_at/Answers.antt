@@ -1,7 +1,0 @@
--- the row is one of those that are found
-use Rattle.sect_rules.specs.Found.{IsSection}
-use Rattle.sect_options.proofs.FoundLemmas.{all-contained}
-use Rattle.sect_options.proofs.configured.section_at.Goals as goal
-
-pub returns-clause-row : goal.returns-clause-row
-returns-clause-row c = λ w h. all-contained (IsSection w) c.args.rows.now c.in_ok-row.row.now h c.in_ok-row.ensures.among

@@ -1,7 +1,0 @@
--- the world at the choices
-use Rattle.std.proofs.Common.{◌∙◌}
-use Rattle.sect_options.specs.Wanted.{met}
-use Rattle.sect_options.proofs.wanted.Wanted.moment.Goals as goal
-
-pub returns : goal.returns
-returns c = c.self.invariant.1 ∙ (λ i. record { at = met (c.self.view_is i); student = (c.self.view_is i).mv.student })

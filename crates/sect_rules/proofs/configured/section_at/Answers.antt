@@ -1,0 +1,7 @@
+-- the row is one of those that are found
+use Rattle.sect_moment.specs.Found.{IsSection}
+use Rattle.sect_rules.proofs.FoundLemmas.{all-contained}
+use Rattle.sect_rules.proofs.configured.section_at.Goals as goal
+
+pub returns-clause-row : goal.returns-clause-row
+returns-clause-row c = λ w h. all-contained (IsSection w) c.args.rows.now c.in_ok-row.row.now h c.in_ok-row.ensures.among

@@ -1,9 +1,0 @@
--- where nothing is given up, none leaves
-use Rattle.std.proofs.Common.{sym, ◌∙◌}
-use Rattle.sect_model.specs.World.{held_by}
-use Rattle.sect_rules.specs.Moment.{uses}
-use Rattle.sect_rules.proofs.CourseLemmas.{none-given}
-use Rattle.sect_rules.proofs.held.given_by.Goals as goal
-
-pub returns-then-is_empty : goal.returns-then-is_empty
-returns-then-is_empty c = none-given (uses c.args.id) c.args.give.now (held_by c.args.world.now.world c.args.student) (sym c.is_empty.ensures ∙ c.if-is_empty.true)
