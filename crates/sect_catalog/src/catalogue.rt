@@ -169,10 +169,13 @@ impl Catalogue {
         &self.courses
     }
 
-    /// Whether the section is cancelled.
+    /// Whether the section is cancelled. Where none is, no index is asked.
     pub fn is_cancelled(&self, id: SectionId) -> bool
         ensures { result ≡ cancelled_in self.now id }
     {
+        if self.cancelled.is_empty() {
+            return false;
+        }
         self.marks.get(id.0).is_some()
     }
 
