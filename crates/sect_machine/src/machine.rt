@@ -16,21 +16,22 @@ use sect_base::{Caller, Day, Memory, Steps};
 use sect_command::{Command, Query, Reply, View};
 use sect_space::World;
 use sect_view::view;
-use sect_wait::{Marks, Queue};
+use sect_wait::{Marks, Opened, Queue};
 use std::alloc::Global;
 use std::marker::{Brand, Model};
 use std::sync::ledger::{Blank, Ledger};
 
 /// The world and those who wait, none of whom can be placed, and which of them must be tried again: the others have no
 /// move. No limit is passed, and no student holds what may not be held together. What the last step changed is kept, so that
-/// it can be taken back; the next step records its changes in the same lists. Contracts see the world and the queue, with the
-/// room of their lists, and what the last step changed.
+/// it can be taken back; the next step records its changes in the same lists, and tells in the same ones what a leaving opens.
+/// Contracts see the world and the queue, with the room of their lists, and what the last step changed.
 pub struct Machine {
     pub(crate) alloc: Global,
     pub(crate) world: World,
     pub(crate) queue: Queue,
     pub(crate) marks: Marks,
     pub(crate) changes: MachineUndo,
+    pub(crate) opened: Opened,
 }
 
 /// It is written out, so that a caller does not prove again how each part is dropped.
@@ -42,6 +43,7 @@ impl Drop for Machine {
             queue: _,
             marks: _,
             changes: _,
+            opened: _,
         } = self;
     }
 }
@@ -133,6 +135,7 @@ impl Machine {
             &mut self.world,
             &mut self.queue,
             &mut self.marks,
+            &mut self.opened,
             day,
             caller,
             command,

@@ -17,7 +17,7 @@ use sect_base::{Caller, Day, Id, Memory, Same};
 use sect_command::{Command, Query, Reply, View};
 use sect_once::{Entry, Object, Request};
 use sect_space::World;
-use sect_wait::{Marks, Queue};
+use sect_wait::{Marks, Opened, Queue};
 use sect_wire::{TextObject, print_request, print_told_reply, read_request, read_row};
 use std::alloc::Global;
 
@@ -65,6 +65,7 @@ impl Object for Machine {
             queue: Queue::empty(alloc),
             marks: Marks::none(alloc),
             changes: MachineUndo::empty(alloc),
+            opened: Opened::none(alloc),
         }
     }
 

@@ -33,13 +33,14 @@ use std::alloc::Global;
 use std::sync::ledger::Ledger;
 
 /// Acts a command of a caller on a day, and settles, and tells whom settling placed; each search counts one step. What it
-/// changed is recorded in the room of an earlier step's changes, which are forgotten. Where memory runs out, it is taken back:
-/// world and queue are as before.
+/// changed is recorded in the room of an earlier step's changes, which are forgotten, and so is what had opened. Where memory
+/// runs out, it is taken back: world and queue are as before.
 pub fn step<L: Ledger>(
     alloc: Global,
     world: &mut World,
     queue: &mut Queue,
     marks: &mut Marks,
+    opened: &mut Opened,
     day: Day,
     caller: Caller,
     command: &mut Command,
@@ -64,6 +65,7 @@ pub fn step<L: Ledger>(
         world,
         queue,
         marks,
+        opened,
         day,
         caller,
         command,
@@ -87,6 +89,7 @@ fn settled<L: Ledger>(
     world: &mut World,
     queue: &mut Queue,
     marks: &mut Marks,
+    opened: &mut Opened,
     day: Day,
     caller: Caller,
     command: &mut Command,
@@ -107,29 +110,12 @@ fn settled<L: Ledger>(
     world.recall_kept();
     mark_day(world, queue, day, marks)?;
     set_day(world, day, undo)?;
-    let mut opened = Opened::none(alloc);
+    opened.clear();
     let reply = answer(
-        alloc,
-        world,
-        queue,
-        marks,
-        &mut opened,
-        caller,
-        command,
-        undo,
-        queue_undo,
-        steps,
+        alloc, world, queue, marks, opened, caller, command, undo, queue_undo, steps,
     )?;
     place_all(
-        alloc,
-        world,
-        queue,
-        marks,
-        &mut opened,
-        reply,
-        undo,
-        queue_undo,
-        steps,
+        alloc, world, queue, marks, opened, reply, undo, queue_undo, steps,
     )
 }
 

@@ -52,6 +52,16 @@ impl Opened {
             used_up: Vec::new(alloc),
         }
     }
+
+    /// Forgets what opened, and keeps the room of the lists. It takes no memory.
+    pub fn clear(&mut self)
+        ensures { self.new.courses.items ≡ [] }
+    {
+        self.courses.clear();
+        self.full.clear();
+        self.reserved.clear();
+        self.used_up.clear();
+    }
 }
 
 /// Marks those who want one of the courses, so that all of them are tried. Where memory runs out, some of them are marked.
