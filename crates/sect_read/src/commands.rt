@@ -1,4 +1,4 @@
-// Reading commands.
+// Reading commands. The reader of each verb stays a function of its own, which writes its command where the caller wants it.
 
 ghost use Rattle.std.specs.Prelude.{◌≡◌, codes};
 ghost use Rattle.sect_words.specs.Reading.{Reads};
@@ -33,6 +33,7 @@ use std::alloc::Global;
 
 /// The command that sets a student's requests.
 #[tactic(auto, unfolding(crate::specs::ReadingCommands::requests_at))]
+#[inline(never)]
 fn read_requests(alloc: Global, words: &mut Parts) -> Result<Command, Fault>
     ensures { Reads result words.new (requests_at words.old) }
 {
@@ -43,6 +44,7 @@ fn read_requests(alloc: Global, words: &mut Parts) -> Result<Command, Fault>
 
 /// The command that sets a reservation's last day, or that there is none.
 #[tactic(auto, unfolding(crate::specs::ReadingCommands::expire_at))]
+#[inline(never)]
 fn read_expire(alloc: Global, words: &mut Parts) -> Result<Command, Fault>
     ensures { Reads result words.new (expire_at words.old) }
 {
@@ -56,6 +58,7 @@ fn read_expire(alloc: Global, words: &mut Parts) -> Result<Command, Fault>
 
 /// The command that sets a limit.
 #[tactic(auto, unfolding(crate::specs::ReadingCommands::set_limit_at))]
+#[inline(never)]
 fn read_limit(alloc: Global, words: &mut Parts) -> Result<Command, Fault>
     ensures { Reads result words.new (set_limit_at words.old) }
 {
@@ -66,6 +69,7 @@ fn read_limit(alloc: Global, words: &mut Parts) -> Result<Command, Fault>
 
 /// The command that enrols a student. Where `shown`, a default may be written.
 #[tactic(auto, unfolding(crate::specs::ReadingCommands::enrol_at))]
+#[inline(never)]
 fn read_enrol(alloc: Global, shown: bool, words: &mut Parts) -> Result<Command, Fault>
     ensures { Reads result words.new (enrol_at shown words.old) }
 {
@@ -81,6 +85,7 @@ fn read_enrol(alloc: Global, shown: bool, words: &mut Parts) -> Result<Command, 
 
 /// The command that gives a student's course up.
 #[tactic(auto, unfolding(crate::specs::ReadingCommands::drop_at))]
+#[inline(never)]
 fn read_drop(alloc: Global, words: &mut Parts) -> Result<Command, Fault>
     ensures { Reads result words.new (drop_at words.old) }
 {
@@ -91,6 +96,7 @@ fn read_drop(alloc: Global, words: &mut Parts) -> Result<Command, Fault>
 
 /// The command that gives courses up and takes others. Where `shown`, a default may be written.
 #[tactic(auto, unfolding(crate::specs::ReadingCommands::swap_at))]
+#[inline(never)]
 fn read_swap(alloc: Global, shown: bool, words: &mut Parts) -> Result<Command, Fault>
     ensures { Reads result words.new (swap_at shown words.old) }
 {
@@ -108,6 +114,7 @@ fn read_swap(alloc: Global, shown: bool, words: &mut Parts) -> Result<Command, F
 
 /// The command that puts a student on the wait-list. Where `shown`, a default may be written.
 #[tactic(auto, unfolding(crate::specs::ReadingCommands::wait_at))]
+#[inline(never)]
 fn read_wait(alloc: Global, shown: bool, words: &mut Parts) -> Result<Command, Fault>
     ensures { Reads result words.new (wait_at shown words.old) }
 {
@@ -125,6 +132,7 @@ fn read_wait(alloc: Global, shown: bool, words: &mut Parts) -> Result<Command, F
 
 /// The command after which the student waits no longer.
 #[tactic(auto, unfolding(crate::specs::ReadingCommands::unwait_at))]
+#[inline(never)]
 fn read_unwait(alloc: Global, words: &mut Parts) -> Result<Command, Fault>
     ensures { Reads result words.new (unwait_at words.old) }
 {
@@ -135,6 +143,7 @@ fn read_unwait(alloc: Global, words: &mut Parts) -> Result<Command, Fault>
 
 /// The command that adds an offering.
 #[tactic(auto, unfolding(crate::specs::ReadingCommands::offering_command_at))]
+#[inline(never)]
 fn read_offering_command(alloc: Global, words: &mut Parts) -> Result<Command, Fault>
     ensures { Reads result words.new (offering_command_at words.old) }
 {
@@ -143,6 +152,7 @@ fn read_offering_command(alloc: Global, words: &mut Parts) -> Result<Command, Fa
 
 /// The command that adds a student, or replaces the row of a known one.
 #[tactic(auto, unfolding(crate::specs::ReadingCommands::student_command_at))]
+#[inline(never)]
 fn read_student_command(alloc: Global, words: &mut Parts) -> Result<Command, Fault>
     ensures { Reads result words.new (student_command_at words.old) }
 {
@@ -151,6 +161,7 @@ fn read_student_command(alloc: Global, words: &mut Parts) -> Result<Command, Fau
 
 /// The command that adds a reservation.
 #[tactic(auto, unfolding(crate::specs::ReadingCommands::reserve_command_at))]
+#[inline(never)]
 fn read_reserve_command(alloc: Global, words: &mut Parts) -> Result<Command, Fault>
     ensures { Reads result words.new (reserve_command_at words.old) }
 {
@@ -159,6 +170,7 @@ fn read_reserve_command(alloc: Global, words: &mut Parts) -> Result<Command, Fau
 
 /// The command that adds a restriction.
 #[tactic(auto, unfolding(crate::specs::ReadingCommands::restrict_command_at))]
+#[inline(never)]
 fn read_restrict_command(alloc: Global, words: &mut Parts) -> Result<Command, Fault>
     ensures { Reads result words.new (restrict_command_at words.old) }
 {
@@ -167,6 +179,7 @@ fn read_restrict_command(alloc: Global, words: &mut Parts) -> Result<Command, Fa
 
 /// The command that takes a reservation back.
 #[tactic(auto, unfolding(crate::specs::ReadingCommands::unreserve_at))]
+#[inline(never)]
 fn read_unreserve_command(alloc: Global, words: &mut Parts) -> Result<Command, Fault>
     ensures { Reads result words.new (unreserve_at words.old) }
 {
@@ -175,6 +188,7 @@ fn read_unreserve_command(alloc: Global, words: &mut Parts) -> Result<Command, F
 
 /// The command that takes a restriction back.
 #[tactic(auto, unfolding(crate::specs::ReadingCommands::unrestrict_at))]
+#[inline(never)]
 fn read_unrestrict_command(alloc: Global, words: &mut Parts) -> Result<Command, Fault>
     ensures { Reads result words.new (unrestrict_at words.old) }
 {
@@ -183,6 +197,7 @@ fn read_unrestrict_command(alloc: Global, words: &mut Parts) -> Result<Command, 
 
 /// The command that cancels a section.
 #[tactic(auto, unfolding(crate::specs::ReadingCommands::cancel_at))]
+#[inline(never)]
 fn read_cancel_command(alloc: Global, words: &mut Parts) -> Result<Command, Fault>
     ensures { Reads result words.new (cancel_at words.old) }
 {
@@ -191,6 +206,7 @@ fn read_cancel_command(alloc: Global, words: &mut Parts) -> Result<Command, Faul
 
 /// The command that meets the requests of students.
 #[tactic(auto, unfolding(crate::specs::ReadingCommands::batch_at))]
+#[inline(never)]
 fn read_batch_command(alloc: Global, words: &mut Parts) -> Result<Command, Fault>
     ensures { Reads result words.new (batch_at words.old) }
 {
