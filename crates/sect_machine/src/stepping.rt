@@ -23,6 +23,7 @@ use crate::marking::{mark_after, mark_before};
 use crate::replies::reply_after;
 use crate::told::ToldStep;
 use crate::undo::MachineUndo;
+use crate::waits::own_refusal;
 use sect_base::{Caller, CourseId, Day, Items, Memory, Steps, StudentId};
 use sect_command::{Command, Reply};
 use sect_model::Placed;
@@ -171,7 +172,8 @@ fn answer<L: Ledger>(
     ensures others { OnOk result (OthersBut world.new.world queue.new.queue.entries marks.new opened.new) }
 {
     world.recall_kept();
-    match refusal(world, queue.entries(), caller, command) {
+    let own = own_refusal(queue, command);
+    match refusal(world, queue.entries(), own, caller, command) {
         Some(refusal) => Ok(Reply::Refused(refusal)),
         None => marked_act(
             alloc, world, queue, marks, opened, command, undo, queue_undo, steps,

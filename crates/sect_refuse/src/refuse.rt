@@ -2,7 +2,7 @@
 
 ghost use Rattle.std.specs.Prelude.{◌≡◌, ℕ};
 ghost use Rattle.sect_model.specs.Refusals.{refusal_of};
-ghost use Rattle.sect_refuse.specs.Refused.{refused_with};
+ghost use Rattle.sect_refuse.specs.Refused.{own_refusal, refused_with};
 
 use crate::yours::is_yours;
 use crate::{registrar, student};
@@ -12,25 +12,34 @@ use sect_model::Waiting;
 use sect_space::World;
 
 /// Why the command is refused in the world, with these entries waiting: the first condition that holds, in their order.
-/// None exactly where the command is not refused. What the next ticket is counts for nothing. It takes no memory.
+/// None exactly where the command is not refused. What the next ticket is counts for nothing. `own` is the last condition of a
+/// wait and of an unwait, on the student's own entries, which the caller finds without looking through all. It takes no memory.
 #[tactic(auto, unfolding(sect_model::specs::Refusals::refusal_of))]
 pub fn refusal(
     world: &World,
     entries: &[Waiting],
+    own: Option<Refusal>,
     caller: Caller,
     command: &Command,
 ) -> Option<Refusal>
+    requires own { own ≡ own_refusal entries.now command.now }
     ensures { (next : ℕ) → result ≡ refusal_of (record { world = world.now.world; entries = entries.now; next = next }) caller command.now }
 {
     if is_yours(caller, command) {
-        first_condition(world, entries, command)
+        first_condition(world, entries, own, command)
     } else {
         Some(Refusal::NotYours)
     }
 }
 
 /// The first condition that holds, whoever gives the command.
-fn first_condition(world: &World, entries: &[Waiting], command: &Command) -> Option<Refusal>
+fn first_condition(
+    world: &World,
+    entries: &[Waiting],
+    own: Option<Refusal>,
+    command: &Command,
+) -> Option<Refusal>
+    requires own { own ≡ own_refusal entries.now command.now }
     ensures { result ≡ refused_with world.now.world entries.now command.now }
 {
     match command {
@@ -57,8 +66,10 @@ fn first_condition(world: &World, entries: &[Waiting], command: &Command) -> Opt
             want,
             give,
             ..
-        } => student::wait(world, entries, *student, want, *give),
-        Command::Unwait { student, ticket } => student::unwait(world, entries, *student, *ticket),
+        } => student::wait(world, entries, own, *student, want, *give),
+        Command::Unwait { student, ticket } => student::unwait(
+            world, entries, own, *student, *ticket,
+        ),
         Command::Batch { students } => registrar::batch(world, entries, students.as_slice()),
     }
 }

@@ -11,14 +11,14 @@ ghost use Rattle.sect_model.specs.Refusals.{
   too_many as many_of,
   many_in_wants as wants_counts,
 };
-ghost use Rattle.sect_refuse.specs.Refused.{refused, refused_with};
+ghost use Rattle.sect_refuse.specs.Refused.{own_refusal, refused, refused_with};
 
 use crate::held::{not_enrolled, not_enrolled_in};
 use crate::told::too_many;
 use crate::unknown::{
     unknown_course, unknown_courses, unknown_in_want, unknown_in_wants, unknown_student,
 };
-use crate::waiting::{many_entries, not_waiting, waiting_already};
+use crate::waiting::many_entries;
 use crate::want::{any_empty_want, empty_want, many_in_want, many_in_wants};
 use sect_base::{CourseId, Items, StudentId, Want};
 use sect_command::{Command, Refusal};
@@ -86,14 +86,16 @@ fn nothing_moved(give: &[CourseId], take: &[Want]) -> Option<Refusal>
 }
 
 /// Something is unknown, the want has no course or too many, there is no place for an entry more, the course given up isn't
-/// held, or the student waits for one of the courses.
+/// held, or the student waits for one of the courses, as the caller found.
 pub fn wait(
     world: &World,
     entries: &[Waiting],
+    own: Option<Refusal>,
     student: StudentId,
     want: &Want,
     give: Option<CourseId>,
 ) -> Option<Refusal>
+    requires own { own ≡ own_refusal entries.now (Command.Wait student want.now give 0) }
     ensures { (class : ℕ) → result ≡ refused_with world.now.world entries.now (Command.Wait student want.now give class) }
 {
     unknown_student(world, student)
@@ -103,7 +105,7 @@ pub fn wait(
         .or_else(|| many_in_want(want))
         .or_else(|| many_entries(entries))
         .or_else(|| not_enrolled_given(world, student, give))
-        .or_else(|| waiting_already(entries, student, want.courses.as_slice()))
+        .or_else(|| own)
 }
 
 /// The course given up is unknown.
@@ -120,14 +122,18 @@ fn not_enrolled_given(world: &World, student: StudentId, give: Option<CourseId>)
     not_enrolled(world, student, give?)
 }
 
-/// The student is unknown, or has no entry with the ticket.
+/// The student is unknown, or has no entry with the ticket, as the caller found.
 pub fn unwait(
     world: &World,
     entries: &[Waiting],
+    own: Option<Refusal>,
     student: StudentId,
     ticket: u64,
 ) -> Option<Refusal>
+    requires own { own ≡ own_refusal entries.now (Command.Unwait student ticket) }
     ensures { result ≡ refused_with world.now.world entries.now (Command.Unwait student ticket) }
 {
-    unknown_student(world, student).or_else(|| not_waiting(entries, student, ticket))
+    let _ = entries;
+    let _ = ticket;
+    unknown_student(world, student).or_else(|| own)
 }

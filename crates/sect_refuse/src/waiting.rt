@@ -1,9 +1,8 @@
 // Entries of the wait-list.
 
-ghost use Rattle.std.specs.Prelude.{◌≡◌, ◌==◌, ◌&&◌, nat_le, not, map, filter, length, Some};
+ghost use Rattle.std.specs.Prelude.{◌≡◌, ◌==◌, ◌&&◌, nat_le, map, filter, length, Some};
 ghost use Rattle.std.specs.Bool.{then_some};
 ghost use Rattle.std.specs.List.{list_any};
-ghost use Rattle.std.specs.Option.{option_map};
 ghost use Rattle.sect_model.specs.Batch.{share_course as has_shared};
 ghost use Rattle.sect_model.specs.Rules.{least};
 ghost use Rattle.sect_refuse.specs.Tickets.{lesser, is_shared, with_entry as with_one};
@@ -26,30 +25,8 @@ pub fn many_entries(entries: &[Waiting]) -> Option<Refusal>
     }
 }
 
-/// The student waits for one of the courses: the least ticket.
-pub fn waiting_already(
-    entries: &[Waiting],
-    student: StudentId,
-    courses: &[CourseId],
-) -> Option<Refusal>
-    ensures { result ≡ option_map Refusal.WaitingAlready (least (map (λ e. e.ticket) (filter (is_shared student courses.now) entries.now))) }
-{
-    Some(Refusal::WaitingAlready(ticket_of(entries, student, courses)?))
-}
-
-/// No entry of the student has the ticket.
-pub fn not_waiting(entries: &[Waiting], student: StudentId, ticket: u64) -> Option<Refusal>
-    ensures { result ≡ then_some (not (list_any (λ e. e.student.0 == student.0 && e.ticket == ticket) entries.now)) Refusal.NotWaiting }
-{
-    if has_ticket(entries, student, ticket) {
-        None
-    } else {
-        Some(Refusal::NotWaiting)
-    }
-}
-
 /// Whether one of the student's entries has the ticket.
-fn has_ticket(entries: &[Waiting], student: StudentId, ticket: u64) -> bool
+pub fn has_ticket(entries: &[Waiting], student: StudentId, ticket: u64) -> bool
     ensures { result ≡ list_any (λ e. e.student.0 == student.0 && e.ticket == ticket) entries.now }
 {
     entries

@@ -5,6 +5,7 @@ ghost use Rattle.std.specs.Prelude.{
   ◌<◌,
   ◌≤◌,
   ◌==◌,
+  ◌&&◌,
   ◌++◌,
   [],
   ◌∷◌,
@@ -42,7 +43,7 @@ use crate::index::Index;
 use crate::undo::QueueUndo;
 use sect_base::{CourseId, Memory, StudentId, Want};
 use sect_model::Waiting;
-use sect_refuse::ticket_of;
+use sect_refuse::{has_ticket, ticket_of};
 use std::alloc::Global;
 use std::marker::Model;
 
@@ -214,6 +215,13 @@ impl Queue {
             Some(tickets) => !tickets.is_empty(),
             None => true,
         }
+    }
+
+    /// Whether one of the student's entries has the ticket. It takes no memory.
+    pub fn is_waiting(&self, student: StudentId, ticket: u64) -> bool
+        ensures { result ≡ list_any (λ e. e.student.0 == student.0 && e.ticket == ticket) self.now.queue.entries }
+    {
+        has_ticket(self.entries(), student, ticket)
     }
 
     /// The least ticket of the student's entries that share a course, None where there are none. The entries are looked
