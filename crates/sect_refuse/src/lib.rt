@@ -15,4 +15,4 @@ mod want;
 mod yours;
 
 pub use refuse::refusal;
-pub use waiting::{has_ticket, ticket_of};
+pub use waiting::ticket_of;

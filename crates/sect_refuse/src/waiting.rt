@@ -1,6 +1,6 @@
 // Entries of the wait-list.
 
-ghost use Rattle.std.specs.Prelude.{◌≡◌, ◌==◌, ◌&&◌, nat_le, map, filter, length, Some};
+ghost use Rattle.std.specs.Prelude.{◌≡◌, ◌==◌, nat_le, map, filter, length, Some};
 ghost use Rattle.std.specs.Bool.{then_some};
 ghost use Rattle.std.specs.List.{list_any};
 ghost use Rattle.sect_model.specs.Batch.{share_course as has_shared};
@@ -23,15 +23,6 @@ pub fn many_entries(entries: &[Waiting]) -> Option<Refusal>
     } else {
         None
     }
-}
-
-/// Whether one of the student's entries has the ticket.
-pub fn has_ticket(entries: &[Waiting], student: StudentId, ticket: u64) -> bool
-    ensures { result ≡ list_any (λ e. e.student.0 == student.0 && e.ticket == ticket) entries.now }
-{
-    entries
-        .iter()
-        .any(|entry| entry.student == student && entry.ticket == ticket)
 }
 
 /// The least ticket of the student's entries that share a course, None where there are none. It takes no memory.

@@ -4,13 +4,13 @@ pub mod IndexLemmas
 pub mod MarkLemmas
 pub mod NeedLemmas
 pub mod NextLemmas
-pub mod NobodyLemmas
 pub mod NoteLemmas
 pub mod OnlyLemmas
 pub mod OpenedLemmas
 pub mod PlacingLemmas
 pub mod QueueLemmas
 pub mod SettlingLemmas
+pub mod SharedLemmas
 pub mod SoughtLemmas
 pub mod ToldLemmas
 pub mod TouchedLemmas

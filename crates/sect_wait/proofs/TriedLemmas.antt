@@ -34,22 +34,22 @@ pub each-one : {P : Waiting → Type 0} (es : List Waiting) (e : Waiting) → Me
 each-one es e is_one each f (inl is) = each f (subst (Among es) is (among es e is_one))
 each-one es e is_one each f (inr a) = absurd a
 
+-- who has one of the tickets, has one of those before, or the last
+pub one-of : (ticket : ℕ) (before : List ℕ) (f : Waiting) → has_ticket f.ticket (before ++ ticket ∷ []) ≡ true → (has_ticket f.ticket before ≡ true) ⊎ (f.ticket ≡ ticket)
+one-of ticket before f has = by_place (either (has_ticket f.ticket before) ((ticket == f.ticket) || false) (sym (any-append (λ t. t == f.ticket) before (ticket ∷ [])) ∙ has))
+  where
+    by_last : (b : Bool) → ticket == f.ticket ≡ b → b || false ≡ true → f.ticket ≡ ticket
+    by_last true same h = sym (eqb-true ticket f.ticket same)
+    by_last false same h = absurd (not_both false h refl)
+
+    by_place : (has_ticket f.ticket before ≡ true) ⊎ ((ticket == f.ticket) || false ≡ true) → (has_ticket f.ticket before ≡ true) ⊎ (f.ticket ≡ ticket)
+    by_place (inl h) = inl h
+    by_place (inr h) = inr (by_last (ticket == f.ticket) refl h)
+
 module _ (w : World) (es : List Waiting) (ticket : ℕ) (spent : List ℕ) where
-  -- who has one of the tickets, has one of those before, or the last
-  one-of : (before : List ℕ) (f : Waiting) → has_ticket f.ticket (before ++ ticket ∷ []) ≡ true → (has_ticket f.ticket before ≡ true) ⊎ (f.ticket ≡ ticket)
-  one-of before f has = by_place (either (has_ticket f.ticket before) ((ticket == f.ticket) || false) (sym (any-append (λ t. t == f.ticket) before (ticket ∷ [])) ∙ has))
-    where
-      by_last : (b : Bool) → ticket == f.ticket ≡ b → b || false ≡ true → f.ticket ≡ ticket
-      by_last true same h = sym (eqb-true ticket f.ticket same)
-      by_last false same h = absurd (not_both false h refl)
-
-      by_place : (has_ticket f.ticket before ≡ true) ⊎ ((ticket == f.ticket) || false ≡ true) → (has_ticket f.ticket before ≡ true) ⊎ (f.ticket ≡ ticket)
-      by_place (inl h) = inl h
-      by_place (inr h) = inr (by_last (ticket == f.ticket) refl h)
-
   -- no entry has the ticket
   pub tried-unknown : (best : Option Candidate) (m : Left) → None ≡ find (λ e. e.ticket == ticket) es → (before : List ℕ) → Tried w es before best spent m → Tried w es (before ++ ticket ∷ []) best spent m
-  tried-unknown best m none before t = record { tried = t.tried; within = t.within; all = λ f a has. by_place f a (one-of before f has); first = t.first; others = t.others }
+  tried-unknown best m none before t = record { tried = t.tried; within = t.within; all = λ f a has. by_place f a (one-of ticket before f has); first = t.first; others = t.others }
     where
       by_place : (f : Waiting) → Among es f → (has_ticket f.ticket before ≡ true) ⊎ (f.ticket ≡ ticket) → Among t.tried f
       by_place f a (inl h) = t.all f a h
@@ -58,7 +58,7 @@ module _ (w : World) (es : List Waiting) (ticket : ℕ) (spent : List ℕ) where
 
   -- the ticket was tried already
   pub tried-again : (before : List ℕ) (best : Option Candidate) (m : Left) → has_ticket ticket before ≡ true → Tried w es before best spent m → Tried w es (before ++ ticket ∷ []) best spent m
-  tried-again before best m has t = record { tried = t.tried; within = t.within; all = λ f a has. by_place f a (one-of before f has); first = t.first; others = t.others }
+  tried-again before best m has t = record { tried = t.tried; within = t.within; all = λ f a has. by_place f a (one-of ticket before f has); first = t.first; others = t.others }
     where
       by_place : (f : Waiting) → Among es f → (has_ticket f.ticket before ≡ true) ⊎ (f.ticket ≡ ticket) → Among t.tried f
       by_place f a (inl h) = t.all f a h
@@ -71,7 +71,7 @@ module _ (w : World) (es : List Waiting) (ticket : ℕ) (spent : List ℕ) where
   tried-more next e best new m n rise found better others before t = record {
     tried = t.tried ++ e ∷ [];
     within = λ f a. by_list f (among-append t.tried e f a);
-    all = λ f a has. by_place f a (one-of before f has);
+    all = λ f a has. by_place f a (one-of ticket before f has);
     first = better t.tried t.first;
     others = others t.tried t.others;
   }

@@ -12,7 +12,6 @@ ghost use Rattle.std.specs.Prelude.{
   length,
   take,
   drop,
-  false,
   insert,
   find,
   position,
@@ -27,12 +26,11 @@ ghost use Rattle.std.specs.Prelude.{
 };
 ghost use Rattle.std.specs.Vec.{vec_len, vec_capacity};
 ghost use Rattle.std.specs.List.{list_any};
+ghost use Rattle.std.specs.Option.{option_map_or};
 ghost use Rattle.sect_people.specs.Index.{rank as rank_of};
-ghost use Rattle.sect_model.specs.Freer.{Among};
 ghost use Rattle.sect_model.specs.Kept.{is_ordered_by};
 ghost use Rattle.sect_model.specs.Rules.{least};
-ghost use Rattle.sect_model.specs.declared.held.Waiting.{Waiting as Entry};
-ghost use Rattle.sect_refuse.specs.Tickets.{is_shared};
+ghost use Rattle.sect_refuse.specs.Tickets.{is_shared, lesser as lesser_of, with_entry};
 ghost use Rattle.sect_wait.specs.Queued.{empty_queue, joined, left, IsQueue};
 ghost use Rattle.sect_wait.specs.Indexed.{AreTold};
 ghost use Rattle.sect_wait.specs.Undo.{left_back, taken_back, undone, Ready, Since, Undoable};
@@ -43,9 +41,10 @@ use crate::index::Index;
 use crate::undo::QueueUndo;
 use sect_base::{CourseId, Memory, StudentId, Want};
 use sect_model::Waiting;
-use sect_refuse::{has_ticket, ticket_of};
+use sect_refuse::ticket_of;
 use std::alloc::Global;
 use std::marker::Model;
+use std::slice::from_ref;
 
 /// Who waits, in order of ticket, and the next ticket, at first 1. Contracts see both, with the room of the list. An index
 /// tells the tickets of a student and of those who want a course.
@@ -207,32 +206,54 @@ impl Queue {
         self.index.of_student(student)
     }
 
-    /// Whether the student may wait: where not, no entry is the student's. It takes no memory.
-    fn may_have(&self, student: StudentId) -> bool
-        ensures { (e : Entry) → Among self.now.queue.entries e → result ≡ false → student.0 == e.student.0 ≡ false }
-    {
-        match self.of_student(student) {
-            Some(tickets) => !tickets.is_empty(),
-            None => true,
-        }
-    }
-
     /// Whether one of the student's entries has the ticket. It takes no memory.
     pub fn is_waiting(&self, student: StudentId, ticket: u64) -> bool
         ensures { result ≡ list_any (λ e. e.student.0 == student.0 && e.ticket == ticket) self.now.queue.entries }
     {
-        has_ticket(self.entries(), student, ticket)
+        self.recall_kept();
+        match self.entry(ticket) {
+            Some(entry) => entry.student == student,
+            None => false,
+        }
     }
 
-    /// The least ticket of the student's entries that share a course, None where there are none. The entries are looked
-    /// through where some may be the student's. It takes no memory.
+    /// The least ticket of the student's entries that share a course, None where there are none. Only the student's own
+    /// tickets are looked at, or all entries where these aren't known. It takes no memory.
     pub fn waiting_ticket(&self, student: StudentId, courses: &[CourseId]) -> Option<u64>
         ensures { result ≡ least (map (λ e. e.ticket) (filter (is_shared student courses.now) self.now.queue.entries)) }
     {
-        if self.may_have(student) {
-            ticket_of(self.entries(), student, courses)
-        } else {
-            None
+        match self.of_student(student) {
+            Some(tickets) => self.least_shared(tickets, student, courses),
+            None => ticket_of(self.entries(), student, courses),
+        }
+    }
+
+    /// The least of these tickets whose entries are the student's and share a course. It takes no memory.
+    fn least_shared(&self, tickets: &[u64], student: StudentId, courses: &[CourseId]) -> Option<u64>
+        requires { AreTold (λ e. student.0 == e.student.0) self.now.queue.entries (Some tickets.now) }
+        ensures { result ≡ least (map (λ e. e.ticket) (filter (is_shared student courses.now) self.now.queue.entries)) }
+    {
+        self.recall_kept();
+        let mut best = None;
+        for ticket in tickets {
+            best = self.with_ticket(student, courses, best, *ticket);
+        }
+        best
+    }
+
+    /// The least ticket so far with one more, which counts where its entry is the student's and shares a course.
+    fn with_ticket(
+        &self,
+        student: StudentId,
+        courses: &[CourseId],
+        best: Option<u64>,
+        ticket: u64,
+    ) -> Option<u64>
+        ensures { result ≡ option_map_or (with_entry student courses.now best) (find (λ e. e.ticket == ticket) self.now.queue.entries) best }
+    {
+        match self.entry(ticket) {
+            Some(entry) => lesser(best, ticket_of(from_ref(entry), student, courses)),
+            None => best,
         }
     }
 
@@ -280,6 +301,19 @@ impl Queue {
                 put_at(&mut self.entries, place, entry);
             }
         }
+    }
+}
+
+/// The lesser of the tickets, or the one that there is.
+fn lesser(best: Option<u64>, other: Option<u64>) -> Option<u64>
+    ensures { result ≡ lesser_of best other }
+{
+    match best {
+        Some(least) => match other {
+            Some(ticket) => Some(if least <= ticket { least } else { ticket }),
+            None => best,
+        },
+        None => other,
     }
 }
 

@@ -1,12 +1,8 @@
--- Where no entry is the student's, none shares a course.
-use Rattle.std.proofs.Common.{ap, sym, map}
-use Rattle.sect_model.specs.declared.held.Waiting.{Waiting}
-use Rattle.sect_model.specs.Rules.{least}
-use Rattle.std.specs.Prelude.{List}
-use Rattle.sect_wait.proofs.NobodyLemmas.{none-shared}
+-- What the index tells of the student are these tickets.
+use Rattle.std.specs.Prelude.{◌==◌}
+use Rattle.std.proofs.Common.{ap, option_copied, subst}
+use Rattle.sect_wait.specs.Indexed.{AreTold}
 use Rattle.sect_wait.proofs.queue.Queue.waiting_ticket.Goals as goal
 
-pub returns-else-may_have : goal.returns-else-may_have
-returns-else-may_have c =
-    ap (λ (es : List Waiting). least (map (λ (e : Waiting). e.ticket) es))
-    (sym (none-shared c.args.self.now.queue.entries c.args.student c.args.courses.now (λ e among. c.may_have.ensures e among c.if-may_have.false)))
+pub least_shared-requires : goal.least_shared-requires
+least_shared-requires c = subst (AreTold (λ e. c.args.student.0 == e.student.0) c.args.self.now.queue.entries) (ap option_copied c.in-Some.is) c.of_student.ensures
