@@ -170,7 +170,7 @@ fn better_by<L: Ledger>(
     }
 }
 
-/// The entry of the ticket with the choice that its search finds, where it comes before the best so far, and None where that
+/// The entry of the ticket, which comes before the best so far, with the choice that its search finds, and None where the best
 /// stays, or the entry was tried already.
 fn better_once<L: Ledger>(
     alloc: Global,
@@ -186,6 +186,7 @@ fn better_once<L: Ledger>(
     steps: &mut Steps<L>,
 ) -> Result<Option<Candidate>, Memory>
     requires found { Told entry.now ≡ find (λ e. e.ticket == ticket) queue.now.queue.entries }
+    requires ahead { is_best_before best.now entry.now ≡ false }
     requires fits { IsTrue (entry_fits world.now.world entry.now) }
     requires others { UnsoughtNeedNone world.now.world (entry.now ∷ []) marks.now opened.now }
     ensures tried { IfOk result (λ new. TriesMore world.now.world queue.now.queue.entries ticket tried.old marks.now.spent best.now left.old
@@ -223,14 +224,16 @@ fn best_of<L: Ledger>(
 {
     let mut best = None;
     for entry in entries {
+        if is_behind(&best, entry) {
+            continue;
+        }
         best = better(alloc, world, &best, entry, marks, opened, left, steps)?.or(best);
     }
     Ok(best)
 }
 
-/// The entry with the choice that its search finds, where it comes before the best so far, and None where that stays. The
-/// entry is searched only where it would come before and is sought. It must be tried again unless its search is blocked or
-/// spent.
+/// The entry, which comes before the best so far, with the choice that its search finds, and None where the best stays. The
+/// entry is searched only where it is sought. It must be tried again unless its search is blocked or spent.
 fn better<L: Ledger>(
     alloc: Global,
     world: &World,
@@ -241,6 +244,7 @@ fn better<L: Ledger>(
     left: &mut Left,
     steps: &mut Steps<L>,
 ) -> Result<Option<Candidate>, Memory>
+    requires ahead { is_best_before best.now entry.now ≡ false }
     requires fits { IsTrue (entry_fits world.now.world entry.now) }
     requires others { UnsoughtNeedNone world.now.world (entry.now ∷ []) marks.now opened.now }
     ensures best { IfOk result (λ new. (before : List Entry) → IsBest world.now.world before best.now
@@ -250,9 +254,6 @@ fn better<L: Ledger>(
     ensures again { OnOk result (ListsSought marks.now opened.now (entry.now ∷ []) left.old.again.items left.new.again.items) }
     ensures steps { steps.new ≤ steps.old + cond (is_sought marks.now opened.now entry.now) 1 0 }
 {
-    if is_behind(best, entry) {
-        return Ok(None);
-    }
     if !seeks(marks, opened, entry) {
         return Ok(None);
     }

@@ -1,15 +1,36 @@
--- Each turn takes one entry more into account.
-use Rattle.std.proofs.Common.{[], ◌≤◌, ◌∷◌, ◌+◌, ◌++◌, ◌∙◌, arith, length, sym, subst, take, ap}
+-- Each turn takes one entry more into account, and an entry behind the best so far changes nothing.
+use Rattle.std.proofs.Common.{[], ◌≤◌, ◌∷◌, ◌+◌, ◌++◌, ◌∙◌, arith, length, sym, subst, take, ap, cond}
 use Rattle.std.proofs.lemmas.List.{take_all, take_more}
 use Rattle.std.specs.Option.{option_or}
 use Rattle.sect_wait.specs.Placing.{IsBest, OthersTried}
+use Rattle.sect_wait.specs.Opened.{is_sought}
 use Rattle.sect_wait.specs.Touched.{count_sought}
-use Rattle.sect_wait.proofs.CountLemmas.{again-at, again-both, sought-more}
+use Rattle.sect_wait.proofs.CountLemmas.{again-at, again-both, at-least, sought-more}
 use Rattle.sect_wait.proofs.MarkLemmas.{each-at}
+use Rattle.sect_wait.proofs.NextLemmas.{best-stays, tried-behind}
 use Rattle.sect_wait.proofs.next.best_of.Goals as goal
 
 pub better-requires-clause-others : goal.better-requires-clause-others
 better-requires-clause-others g c = each-at c.args.entries.now c.loop-entry.entry-index c.entry-item.result c.loop-entry-test.true c.entry-item.is c.requires.others
+
+pub loop-entry-preserved-then-is_behind : goal.loop-entry-preserved-then-is_behind
+loop-entry-preserved-then-is_behind g c =
+    let w = c.args.world.now.world in
+    let m = c.args.marks.now in
+    let es = c.args.entries.now in
+    let i = c.loop-entry.entry-index in
+    let e = c.entry-item.result in
+    let before = take i es in
+    let best = c.loop-entry.best in
+    let left = c.loop-entry.left in
+    let more = take_more es i e c.loop-entry-test.true ∙ ap (λ e. before ++ e ∷ []) (sym c.entry-item.is) in
+    let behind = sym c.if-is_behind.true ∙ c.is_behind.ensures in (
+      subst (λ fs. IsBest w fs best) (sym more) (best-stays w before e best behind c.loop-entry.invariant.0),
+      subst (λ fs. OthersTried w fs best m.spent left) (sym more) (tried-behind w before e m.spent best left behind c.loop-entry.invariant.1),
+      sought-more m c.args.opened.now es i e c.args.steps.now c.loop-entry.steps c.loop-entry.steps c.loop-entry-test.true c.entry-item.is c.loop-entry.invariant.2
+          (at-least c.loop-entry.steps (cond (is_sought m c.args.opened.now e) 1 0)),
+      c.loop-entry.invariant.3,
+    )
 
 pub loop-entry-preserved : goal.loop-entry-preserved
 loop-entry-preserved g c =

@@ -1,19 +1,11 @@
--- The entry is compared with the best so far before it is searched.
+-- The entry comes before the best so far.
 use Rattle.std.proofs.Common.{◌∙◌, [], ◌∷◌, ◌++◌, Some, ap, inl, refl, sym, subst}
 use Rattle.std.specs.Option.{option_map}
 use Rattle.sect_base.specs.declared.choice.Choice.{Choice}
 use Rattle.sect_wait.specs.Placing.{IsBest, OthersTried}
-use Rattle.sect_wait.proofs.NextLemmas.{best-stays, best-found, best-unplaced, tried-behind, tried-found, tried-unplaced, tried-unsought, unsought-unplaced}
+use Rattle.sect_wait.proofs.NextLemmas.{best-found, best-unplaced, tried-found, tried-unplaced, tried-unsought, unsought-unplaced}
 use Rattle.sect_wait.proofs.CountLemmas.{again-one}
 use Rattle.sect_wait.proofs.next.better.Goals as goal
-
-pub returns-then-is_behind-clause-best : goal.returns-then-is_behind-clause-best
-returns-then-is_behind-clause-best g c = λ before b.
-    best-stays c.args.world.now.world before c.args.entry.now c.args.best.now (sym c.if-is_behind.true ∙ c.is_behind.ensures) b
-
-pub returns-then-is_behind-clause-others : goal.returns-then-is_behind-clause-others
-returns-then-is_behind-clause-others g c = λ before b.
-    tried-behind c.args.world.now.world before c.args.entry.now c.args.marks.now.spent c.args.best.now c.args.left.now (sym c.if-is_behind.true ∙ c.is_behind.ensures) b
 
 pub returns-then-not-seeks-clause-best : goal.returns-then-not-seeks-clause-best
 returns-then-not-seeks-clause-best g c = λ before b.
@@ -31,14 +23,14 @@ returns-in-Some-clause-best g c = λ before b.
     let e = c.args.entry.now in
     let found = ap (option_map (λ (x : Choice). x ∷ [])) (sym c.in-Some.is) ∙ c.in_ok-choice.ensures.choice in
     subst (λ x. IsBest w (before ++ e ∷ []) (Some x)) (sym c.chosen.ensures)
-    (best-found w before e c.args.best.now c.in-Some.choice (sym c.if-is_behind.false ∙ c.is_behind.ensures) found b)
+    (best-found w before e c.args.best.now c.in-Some.choice (sym c.requires.ahead) found b)
 
 pub returns-in-Some-clause-others : goal.returns-in-Some-clause-others
 returns-in-Some-clause-others g c = λ before b.
     let w = c.args.world.now.world in
     let e = c.args.entry.now in
     subst (λ x. OthersTried w (before ++ e ∷ []) (Some x) c.args.marks.now.spent c.placement.new.left) (sym c.chosen.ensures)
-    (tried-found w before e c.args.marks.now.spent c.args.best.now c.in-Some.choice c.args.left.now c.placement.new.left (sym c.if-is_behind.false ∙ c.is_behind.ensures) c.placement.ensures.kept b)
+    (tried-found w before e c.args.marks.now.spent c.args.best.now c.in-Some.choice c.args.left.now c.placement.new.left (sym c.requires.ahead) c.placement.ensures.kept b)
 
 pub returns-in-None-clause-others : goal.returns-in-None-clause-others
 returns-in-None-clause-others g c = λ before b.

@@ -10,6 +10,9 @@ use Rattle.sect_wait.proofs.next.better_by.Goals as goal
 pub better_once-requires-clause-found : goal.better_once-requires-clause-found
 better_once-requires-clause-found g c = sym (ap option_copied c.in-Some.is) ∙ c.entry.ensures
 
+pub better_once-requires-clause-ahead : goal.better_once-requires-clause-ahead
+better_once-requires-clause-ahead g c = sym c.is_behind.ensures ∙ c.if-is_behind.false
+
 pub better_once-requires-clause-fits : goal.better_once-requires-clause-fits
 better_once-requires-clause-fits g c =
     let es = c.args.queue.now.queue.entries in
