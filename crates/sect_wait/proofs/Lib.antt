@@ -1,5 +1,6 @@
 pub mod CountLemmas
 pub mod FreedLemmas
+pub mod GiverLemmas
 pub mod IndexLemmas
 pub mod MarkLemmas
 pub mod NeedLemmas

@@ -1,5 +1,5 @@
--- Which tickets an index has: those of each student, and those that want each course.
-use Rattle.std.specs.Prelude.{◌≡◌, ℕ, Bool, true, false, ◌&&◌, ◌==◌, cond, List, [], Option}
+-- Which tickets an index has: those of each student, and those that want each course; and how many entries give one up.
+use Rattle.std.specs.Prelude.{◌≡◌, ℕ, Bool, true, false, ◌&&◌, ◌==◌, cond, List, [], length, filter, Option}
 use Rattle.std.specs.List.{list_any, list_all}
 use Rattle.std.specs.Option.{is_some, option_map_or}
 use Rattle.std.specs.Ordering.{nat_cmp}
@@ -55,10 +55,19 @@ is_indexed i e = has_ticket e.ticket (own_tickets i.students e.student.0) && lis
 abbrev pub IsIndexOf : Index → List Waiting → Type 0
 IsIndexOf i entries = i.whole ≡ true → (e : Waiting) → Among entries e → is_indexed i e ≡ true
 
--- the entries and the next ticket are those of a queue, and the index is theirs
-pub record IsIndexed (q : Queued) (i : Index) : Type 0 where
+-- the entry gives a course up
+abbrev pub gives : Waiting → Bool
+gives e = is_some e.give
+
+-- how many of the entries give a course up
+abbrev pub count_givers : List Waiting → ℕ
+count_givers es = length (filter gives es)
+
+-- the entries and the next ticket are those of a queue, the index is theirs, and so many of them give a course up
+pub record IsIndexed (q : Queued) (i : Index) (counted : ℕ) : Type 0 where
   pub queue : IsQueue q
   pub index : IsIndexOf i q.entries
+  pub givers : counted ≡ count_givers q.entries
 
 -- the ticket is one of those that are told; where none are told, all tickets are meant
 abbrev pub is_told : Option (List ℕ) → ℕ → Bool

@@ -1,8 +1,8 @@
 // What a student's leaving a course opened: levels that were closed before, and a reservation that was used up.
 
 ghost use Rattle.std.specs.Prelude.{◌≡◌, ◌&&◌, not, true, false, [], List, OnOk};
-ghost use Rattle.std.specs.List.{list_all, list_any};
-ghost use Rattle.std.specs.Option.{is_some, option_map_or};
+ghost use Rattle.std.specs.List.{list_all};
+ghost use Rattle.std.specs.Option.{option_map_or};
 ghost use Rattle.sect_model.specs.Space.{has_place as has_place_at, has_unreserved as has_unreserved_at};
 ghost use Rattle.sect_model.specs.World.{reservation_of};
 ghost use Rattle.sect_model.specs.Freer.{has_room as has_room_in};
@@ -14,7 +14,6 @@ ghost use Rattle.sect_wait.specs.Touched.{MarksOnly, SeeksOnly};
 use crate::marks::Marks;
 use crate::queue::Queue;
 use sect_base::{CourseId, Level, Limit, Memory, ReservationId};
-use sect_model::Waiting;
 use sect_reserve::Reservation;
 use sect_space::World;
 use std::alloc::Global;
@@ -43,7 +42,10 @@ impl Drop for Opened {
 impl Opened {
     /// Nothing opened. It takes no memory.
     pub fn none(alloc: Global) -> Opened
-        ensures { result.courses.items ≡ [] }
+        ensures courses { result.courses.items ≡ [] }
+        ensures full { result.full.items ≡ [] }
+        ensures reserved { result.reserved.items ≡ [] }
+        ensures used_up { result.used_up.items ≡ [] }
     {
         Opened {
             courses: Vec::new(alloc),
@@ -55,7 +57,10 @@ impl Opened {
 
     /// Forgets what opened, and keeps the room of the lists. It takes no memory.
     pub fn clear(&mut self)
-        ensures { self.new.courses.items ≡ [] }
+        ensures courses { self.new.courses.items ≡ [] }
+        ensures full { self.new.full.items ≡ [] }
+        ensures reserved { self.new.reserved.items ≡ [] }
+        ensures used_up { self.new.used_up.items ≡ [] }
     {
         self.courses.clear();
         self.full.clear();
@@ -106,32 +111,21 @@ pub(crate) fn shut(
         return Ok(());
     }
     world.recall_kept();
-    mark_givers_among(queue.entries(), opened.courses.as_slice(), marks)?;
+    mark_givers_among(queue, opened.courses.as_slice(), marks)?;
     opened.courses.clear();
     Ok(())
 }
 
-/// Marks those of the entries that want one of the courses and give one up.
-fn mark_givers_among(
-    entries: &[Waiting],
-    courses: &[CourseId],
-    marks: &mut Marks,
-) -> Result<(), Memory>
-    ensures more { OnOk result (MarksMore (gives_and_wants courses.now) entries.now marks.old marks.new) }
-    ensures only { OnOk result (MarksOnly (gives_and_wants courses.now) entries.now marks.old marks.new) }
+/// Marks those of the entries that want one of the courses and give one up. Where none gives one up, no course is looked at.
+fn mark_givers_among(queue: &Queue, courses: &[CourseId], marks: &mut Marks) -> Result<(), Memory>
+    ensures more { OnOk result (MarksMore (gives_and_wants courses.now) queue.now.queue.entries marks.old marks.new) }
+    ensures only { OnOk result (MarksOnly (gives_and_wants courses.now) queue.now.queue.entries marks.old marks.new) }
 {
-    if gives_some(entries) {
+    if queue.gives_some() {
         mark_givers(courses, marks)
     } else {
         Ok(())
     }
-}
-
-/// Whether one of the entries gives a course up.
-fn gives_some(entries: &[Waiting]) -> bool
-    ensures { result ≡ list_any (λ e. is_some e.give) entries.now }
-{
-    entries.iter().any(|entry| entry.give.is_some())
 }
 
 /// Marks the courses for those who want them and give one up.

@@ -4,6 +4,8 @@ ghost use Rattle.std.specs.Prelude.{
   ◌≡◌,
   ◌<◌,
   ◌≤◌,
+  ◌+◌,
+  ◌^◌,
   ◌==◌,
   ◌&&◌,
   ◌++◌,
@@ -17,6 +19,8 @@ ghost use Rattle.std.specs.Prelude.{
   position,
   map,
   filter,
+  cond,
+  false,
   option_copied,
   Some,
   IfOk,
@@ -26,7 +30,7 @@ ghost use Rattle.std.specs.Prelude.{
 };
 ghost use Rattle.std.specs.Vec.{vec_len, vec_capacity};
 ghost use Rattle.std.specs.List.{list_any};
-ghost use Rattle.std.specs.Option.{option_map_or};
+ghost use Rattle.std.specs.Option.{is_some, option_map_or};
 ghost use Rattle.sect_people.specs.Index.{rank as rank_of};
 ghost use Rattle.sect_model.specs.Kept.{is_ordered_by};
 ghost use Rattle.sect_model.specs.Rules.{least};
@@ -47,11 +51,12 @@ use std::marker::Model;
 use std::slice::from_ref;
 
 /// Who waits, in order of ticket, and the next ticket, at first 1. Contracts see both, with the room of the list. An index
-/// tells the tickets of a student and of those who want a course.
+/// tells the tickets of a student and of those who want a course, and it is kept how many give a course up.
 pub struct Queue {
     entries: Vec<Waiting>,
     next: u64,
     index: Index,
+    givers: usize,
 }
 
 /// It is written out, so that a caller does not prove again how each part is dropped.
@@ -61,6 +66,7 @@ impl Drop for Queue {
             entries: _,
             next: _,
             index: _,
+            givers: _,
         } = self;
     }
 }
@@ -74,7 +80,7 @@ impl Model for Queue {
 
     ghost view = { λ q. record { queue = record { entries = q.entries.items; next = q.next }; room = vec_capacity q.entries } };
 
-    ghost invariant = { λ q. IsIndexed (record { entries = q.entries.items; next = q.next }) q.index };
+    ghost invariant = { λ q. IsIndexed (record { entries = q.entries.items; next = q.next }) q.index q.givers };
 }
 
 impl Queue {
@@ -86,6 +92,7 @@ impl Queue {
             entries: Vec::new(alloc),
             next: 1,
             index: Index::empty(alloc),
+            givers: 0,
         }
     }
 
@@ -134,9 +141,11 @@ impl Queue {
             give,
             class,
         };
+        let gives = entry.give.is_some();
         self.index.note(&entry)?;
         self.entries.push(entry)?;
         self.next += 1;
+        self.givers = with_giver(self.givers, gives);
         undo.backs.push(QueueBack::Joined)?;
         Ok(ticket)
     }
@@ -173,6 +182,7 @@ impl Queue {
         undo.backs.reserve(1)?;
         let entry = self.entries.remove(place);
         self.index.strike(&entry);
+        self.givers = without_giver(self.givers, entry.give.is_some());
         undo.backs.push(QueueBack::Left(place, entry))?;
         Ok(())
     }
@@ -264,6 +274,13 @@ impl Queue {
         self.index.of_course(course)
     }
 
+    /// Whether one of the entries gives a course up. It takes no memory.
+    pub(crate) fn gives_some(&self) -> bool
+        ensures { result ≡ list_any (λ e. is_some e.give) self.now.queue.entries }
+    {
+        self.givers > 0
+    }
+
     /// Takes all recorded changes back. It takes no memory.
     pub fn undo(&mut self, undo: QueueUndo)
         requires { Undoable self.old undo }
@@ -294,13 +311,42 @@ impl Queue {
         match back {
             QueueBack::Joined => {
                 self.next -= 1;
-                let _ = self.entries.pop();
+                let gives = does_give(self.entries.pop());
+                self.givers = without_giver(self.givers, gives);
             }
             QueueBack::Left(place, entry) => {
+                let gives = entry.give.is_some();
                 self.index.note_again(&entry);
                 put_at(&mut self.entries, place, entry);
+                self.givers = with_giver(self.givers, gives);
             }
         }
+    }
+}
+
+/// One more, where an entry more gives a course up.
+fn with_giver(givers: usize, gives: bool) -> usize
+    requires { givers + cond gives 1 0 < 2 ^ 64 }
+    ensures { result ≡ givers + cond gives 1 0 }
+{
+    if gives { givers + 1 } else { givers }
+}
+
+/// One less, where an entry that gives a course up is taken away.
+fn without_giver(givers: usize, gives: bool) -> usize
+    requires { cond gives 1 0 ≤ givers }
+    ensures { result + cond gives 1 0 ≡ givers }
+{
+    if gives { givers - 1 } else { givers }
+}
+
+/// Whether there is an entry, and it gives a course up.
+fn does_give(entry: Option<Waiting>) -> bool
+    ensures { result ≡ option_map_or (λ e. is_some e.give) entry false }
+{
+    match entry {
+        Some(entry) => entry.give.is_some(),
+        None => false,
     }
 }
 

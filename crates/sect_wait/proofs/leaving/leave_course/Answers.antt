@@ -23,5 +23,5 @@ returns-in_ok-make-clause-only c =
     let w = c.args.world.now.world in
     let es = c.args.queue.now.queue.entries in
     let n = c.mark_leaving.new.marks in
-    subst (λ cs. SeeksOnly (is_concerned w c.args.student c.args.course) es c.args.marks.now [] n cs) (sym c.none.ensures)
+    subst (λ cs. SeeksOnly (is_concerned w c.args.student c.args.course) es c.args.marks.now [] n cs) (sym c.none.ensures.courses)
     (marks-seek (is_concerned w c.args.student c.args.course) es c.args.marks.now n [] c.in_ok-mark_leaving.ensures.only)

@@ -13,13 +13,11 @@ returns-clause-others c = λ but.
     let es = c.args.queue.now.queue.entries in
     let n = c.mark_givers_among.new.marks in
     shut-but w es c.args.marks.now n c.args.opened.now _ c.recall_kept.ensures (sym c.is_closed_again.ensures ∙ c.if-not-is_closed_again.false)
-    (subst (λ cs. MarksMore (gives_and_wants cs) es c.args.marks.now n) c.as_slice.ensures.value
-    (subst (λ fs. MarksMore (gives_and_wants c.as_slice.result.now) fs c.args.marks.now n) c.entries.ensures c.in_ok-mark_givers_among.ensures.more)) but
+    (subst (λ cs. MarksMore (gives_and_wants cs) es c.args.marks.now n) c.as_slice.ensures.value c.in_ok-mark_givers_among.ensures.more) but
 
 pub returns-clause-only : goal.returns-clause-only
 returns-clause-only c =
     let es = c.args.queue.now.queue.entries in
     let n = c.mark_givers_among.new.marks in
     shut-seek es c.args.marks.now n c.args.opened.now.courses.items c.clear.new.self.items c.clear.ensures.items
-    (subst (λ cs. MarksOnly (gives_and_wants cs) es c.args.marks.now n) c.as_slice.ensures.value
-    (subst (λ fs. MarksOnly (gives_and_wants c.as_slice.result.now) fs c.args.marks.now n) c.entries.ensures c.in_ok-mark_givers_among.ensures.only))
+    (subst (λ cs. MarksOnly (gives_and_wants cs) es c.args.marks.now n) c.as_slice.ensures.value c.in_ok-mark_givers_among.ensures.only)

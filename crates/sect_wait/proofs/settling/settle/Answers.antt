@@ -10,4 +10,4 @@ settle_opened-requires-clause-others g c = all-but c.args.world.now.world c.args
 pub returns-clause-steps : goal.returns-clause-steps
 returns-clause-steps g c =
     subst (λ cs. IfOk c.settle_opened.result (λ placed. c.settle_opened.new.steps ≤ c.args.steps.now + (length placed + 1) * count_touched c.args.world.now.world c.args.queue.now.queue.entries c.args.marks.now cs placed))
-    c.none-opened.ensures c.settle_opened.ensures.steps
+    c.none-opened.ensures.courses c.settle_opened.ensures.steps
