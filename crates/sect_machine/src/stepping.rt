@@ -85,6 +85,7 @@ pub fn step<L: Ledger>(
 }
 
 /// The day, what the command does, and settling, with whom it placed. Where memory runs out, some of it is done.
+#[inline(always)]
 fn settled<L: Ledger>(
     alloc: Global,
     world: &mut World,
