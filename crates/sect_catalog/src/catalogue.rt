@@ -141,6 +141,7 @@ impl Catalogue {
     }
 
     /// The course of an id, with the offering that has it. It takes no memory.
+    #[inline(always)]
     pub fn course(&self, id: CourseId) -> Option<(&OfferingRow, &CourseRow)>
         ensures course { option_map (λ found. found.1.now) result ≡ find_course self.now.rows id }
         ensures offering { option_map (λ found. found.0.now) result ≡ offering_of_course self.now.rows id }

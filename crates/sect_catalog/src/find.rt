@@ -34,6 +34,7 @@ pub fn section_at(rows: &[OfferingRow], at: Option<Place>) -> Option<&SectionRow
 }
 
 /// The course at a place of the rows, with its offering.
+#[inline(always)]
 pub fn course_at(rows: &[OfferingRow], at: Option<Place>) -> Option<(&OfferingRow, &CourseRow)>
     ensures { option_map (λ found. (found.0.now, found.1.now)) result ≡ option_and_then (course_of rows.now) at }
 {
