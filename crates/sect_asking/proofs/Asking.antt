@@ -1,6 +1,6 @@
 -- Lines that ask, and what answers them.
 use Rattle.std.proofs.Common.{◌≡◌, ℕ, false, true, List, ◌++◌, refl, sym, ap, ◌∙◌, subst}
-use Rattle.std.specs.Prelude.{Option, Some, Ok, Err, codes, decimal, slice_get}
+use Rattle.std.specs.Prelude.{Option, None, Some, Result, Ok, Err, IfSome, OnOk, codes, decimal, slice_get}
 use Rattle.sect_base.specs.declared.limit.Caller.{Caller}
 use Rattle.sect_base.specs.declared.limit.Id.{Id}
 use Rattle.sect_command.specs.declared.command.Command.{Command}
@@ -16,6 +16,7 @@ use Rattle.sect_once.specs.History.{history, IsFull}
 use Rattle.sect_once.specs.Told.{TellsReply}
 use Rattle.sect_text.specs.Replies.{reply_text}
 use Rattle.sect_wire.specs.Objects.{TellsTexts}
+use Rattle.sect_script.specs.declared.script.LineFault.{LineFault}
 use Rattle.sect_read.specs.declared.fault.WireFault.{WireFault}
 use Rattle.sect_read.specs.declared.fault.WireFault.TheVariants as wire
 use Rattle.sect_read.specs.declared.line.LineAsk.{LineAsk}
@@ -43,6 +44,16 @@ told_line is_told tells log answer place reply text has is told =
     let entry : (e : Entry Command Reply) × (slice_get (history log) place ≡ Some e) × (e.reply ≡ reply) = subst (HasReply log) is has in
     let same : text ≡ reply_text reply = tells entry.0.reply text (told entry.0 entry.1) ∙ ap reply_text entry.2 in
     ap answer_line is ∙ ap (λ (t : List ℕ). decimal place ++ (codes " " ++ (t ++ codes "\n"))) (sym same)
+
+-- what holds where it went well
+pub on_ok : {P Q : Type 0} (r : Result (Unit {0}) LineFault) → (P → Q) → OnOk r P → OnOk r Q
+on_ok (Ok x) f p = f p
+on_ok (Err fault) f p = tt
+
+-- what holds of what is there
+pub if_some : {A : Type 0} {P Q : A → Type 0} (o : Option A) → ((x : A) → P x → Q x) → IfSome o P → IfSome o Q
+if_some None f p = tt
+if_some (Some x) f p = f x p
 
 -- the command of a line has a text
 command_fits : (command : Command) (words : List (List ℕ)) → IsCommand true command words → FitsCommand command

@@ -1,36 +1,43 @@
 // Answers the lines of a script.
-ghost use Rattle.std.specs.Prelude.{◌≡◌, ℕ, List, ◌++◌, false, length, take, IfOk, OnOk, OnErr, IsErrOf};
+ghost use Rattle.std.specs.Prelude.{◌≡◌, ℕ, List, ◌++◌, false, length, take, IfOk, IfSome, OnOk, OnErr, IsErrOf};
 ghost use Rattle.sect_script.specs.declared.script.LineFault.TheVariants as faults;
 ghost use Rattle.sect_once.specs.Desks.{Answers as AnswersAsk, IsSound};
 ghost use Rattle.sect_asking.specs.Asks.{is_passed_over, AnswersScript, HasReply, IsAskedOn, IsKnown};
 ghost use Rattle.sect_asking.specs.AnswerLines.{answer_line};
 ghost use Rattle.sect_script.specs.Run.{AnswersBehind, MayAnswer};
 ghost use Rattle.sect_read.specs.declared.fault.WireFault.TheVariants as wire;
+ghost use Rattle.sect_text.specs.Rows.{asked_part};
 ghost use Rattle.sect_wire.specs.Fits.{FitsCommand, FitsDay, FitsId};
 ghost use Rattle.sect_wire.specs.Lines.{IsLine};
 
 use crate::answer::{print_answer, print_told};
+use crate::dated::Dated;
 use sect_base::{Day, Id, Memory};
 use sect_command::{Command, Reply};
 use sect_edge::{Clock, Keeper};
-use sect_once::{Answer, Desk, Object};
-use sect_read::{read_line_command, read_line_front};
+use sect_once::{Answer, AskedText, Desk, Object};
+use sect_read::{behind_day, read_line_command, read_line_front};
 use sect_script::{Handler, LineFault};
 use sect_wire::{LineAsk, TextObject, WireFault, read_line};
 use sect_words::Parts;
 use std::alloc::Global;
 use std::marker::Model;
 
-/// A desk whose requests come in lines, and the clock that gives the day of those that name none.
+/// A desk whose requests come in lines, and the clock that gives the day of those that name none. The text of a day is kept.
 pub struct Asker<O: Object, K: Keeper, C: Clock> {
     desk: Desk<O, K>,
     clock: C,
+    dated: Dated,
 }
 
 /// It is written out, so that a caller does not prove again how each part is dropped.
 impl<O: Object + Drop, K: Keeper + Drop, C: Clock + Drop> Drop for Asker<O, K, C> {
     fn drop(self) {
-        let Asker { desk: _, clock: _ } = self;
+        let Asker {
+            desk: _,
+            clock: _,
+            dated: _,
+        } = self;
     }
 }
 
@@ -52,7 +59,11 @@ impl<O: Object, K: Keeper, C: Clock> Asker<O, K, C> {
         requires { IsSound O.stepped O.is_row K.rows K.faults O.start desk }
         ensures { result ≡ record { desk = desk; days = C.days clock } }
     {
-        Asker { desk, clock }
+        Asker {
+            desk,
+            clock,
+            dated: Dated::first(),
+        }
     }
 
     /// The keeper, with the rows that it has.
@@ -63,7 +74,11 @@ impl<O: Object, K: Keeper, C: Clock> Asker<O, K, C> {
         ensures keeper { result ≡ self.desk.keeper }
         ensures sound { IsSound O.stepped O.is_row K.rows K.faults O.start self.desk }
     {
-        let Asker { desk, clock: _ } = self;
+        let Asker {
+            desk,
+            clock: _,
+            dated: _,
+        } = self;
         desk.close()
     }
 
@@ -76,7 +91,11 @@ impl<O: Object, K: Keeper, C: Clock> Asker<O, K, C> {
         ensures keeper { result ≡ self.desk.keeper }
         ensures sound { IsSound O.stepped O.is_row K.rows K.faults O.start self.desk }
     {
-        let Asker { desk, clock: _ } = self;
+        let Asker {
+            desk,
+            clock: _,
+            dated: _,
+        } = self;
         desk.leave()
     }
 }
@@ -90,18 +109,33 @@ impl<O: TextObject, K: Keeper, C: Clock> Asker<O, K, C> {
     {
         let LineAsk { day, id, command } = ask;
         let mut command = command;
-        self.ask_lent(day, id, &mut command)
+        self.ask_lent(day, id, &mut command, None)
     }
 
-    /// Asks a command with a text, which the caller lends, on the day that was named, or where none was on the clock's. What is
-    /// left of the command isn't told.
-    fn ask_lent(&mut self, named: Option<Day>, id: Id, command: &mut Command) -> Answer<Reply>
-        requires { FitsId id × FitsCommand command.old }
+    /// Asks a command with a text, which the caller lends, on the day that was named, or where none was on the clock's. Where the
+    /// caller has what stands behind the day in the text of the request, that is copied. What is left of the command isn't told.
+    fn ask_lent(
+        &mut self,
+        named: Option<Day>,
+        id: Id,
+        command: &mut Command,
+        rest: Option<&[u8]>,
+    ) -> Answer<Reply>
+        requires fits { FitsId id × FitsCommand command.old }
+        requires rest { IfSome rest (λ text. text.now ≡ asked_part id command.old) }
         ensures { (day : ℕ) × IsAskedOn named self.old.days self.new.days day
             × AnswersAsk O.stepped O.is_row K.rows K.faults id day command.old self.old.desk self.new.desk result }
     {
         let day = asked_on(named, &mut self.clock);
-        self.desk.ask_lent(id, day, command)
+        let Some(rest) = rest else {
+            return self.desk.ask_lent(id, day, command, None);
+        };
+        self.dated.turn_to(day);
+        let asked = AskedText {
+            day: self.dated.text(),
+            rest,
+        };
+        self.desk.ask_lent(id, day, command, Some(asked))
     }
 
     /// Appends the line of an answer of the desk. Where its entry is the last, the text of the reply is that in the entry's row.
@@ -133,17 +167,40 @@ impl<O: TextObject, K: Keeper, C: Clock> Asker<O, K, C> {
             Ok(front) => front,
             Err(fault) => return Err(line_fault(fault)),
         };
-        let mut read = read_line_command(alloc, front.verb, &mut words);
-        let command = match &mut read {
-            Ok(command) => command,
-            Err(fault) => return Err(line_fault(WireFault::from(*fault))),
-        };
-        match words.end() {
-            Ok(()) => {}
-            Err(fault) => return Err(line_fault(WireFault::from(fault))),
+        let mut read = read_line_command(alloc, false, front.verb, &mut words);
+        if let Ok(command) = &mut read {
+            if words.is_empty() {
+                let answer = self.ask_lent(front.day, front.id, command, behind_day(line));
+                return self.print_answer(&answer, into);
+            }
         }
-        let answer = self.ask_lent(front.day, front.id, command);
-        match self.print_line(&answer, into) {
+        self.answer_shown(line, into)
+    }
+
+    /// The same of a line in which what has a default may be written though it is the default, or which isn't a request.
+    #[inline(never)]
+    fn answer_shown(&mut self, line: &[u8], into: &mut Vec<u8>) -> Result<(), LineFault>
+        requires request { is_passed_over line.now ≡ false }
+        ensures answered { OnOk result (AnswersBehind (AnswersScript O.stepped O.is_row K.rows K.faults) self.old line.now into.old.items into.new.items self.new) }
+        ensures front { OnErr result (take (length into.old.items) into.new.items ≡ into.old.items) }
+        ensures bad { IsErrOf result faults.Bad → IsKnown line.now → ⊥ }
+        ensures kept { IsErrOf result faults.Bad → self.new ≡ self.old }
+        ensures memory { IsErrOf result faults.Memory → MayAnswer (AnswersScript O.stepped O.is_row K.rows K.faults) self.old line.now self.new }
+    {
+        let ask = read_request(*into.allocator(), line)?;
+        let answer = self.ask(ask);
+        self.print_answer(&answer, into)
+    }
+
+    /// Appends the line of an answer, and tells as a fault of the line that memory was wanted.
+    #[inline(always)]
+    fn print_answer(&self, answer: &Answer<Reply>, into: &mut Vec<u8>) -> Result<(), LineFault>
+        requires { HasReply self.now.desk.log answer.now }
+        ensures text { OnOk result (into.new.items ≡ into.old.items ++ answer_line answer.now) }
+        ensures front { take (length into.old.items) into.new.items ≡ into.old.items }
+        ensures fault { IsErrOf result faults.Bad → ⊥ }
+    {
+        match self.print_line(answer, into) {
             Ok(()) => Ok(()),
             Err(Memory) => Err(LineFault::Memory),
         }

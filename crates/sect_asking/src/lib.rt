@@ -3,6 +3,7 @@
 
 mod answer;
 mod asker;
+mod dated;
 mod runs;
 
 pub use answer::print_answer;

@@ -6,7 +6,7 @@ ghost use Rattle.sect_model.specs.Look.{look as looked_at};
 ghost use Rattle.sect_model.specs.Step.{step as step_of};
 ghost use Rattle.sect_rows.specs.Laws.{MayAsk};
 ghost use Rattle.sect_read.specs.ReadingLines.{row_of};
-ghost use Rattle.sect_wire.specs.ToldRows.{IsReplyText, IsRequestText};
+ghost use Rattle.sect_wire.specs.ToldRows.{IsAskedText, IsReplyText, IsRequestText};
 ghost use Rattle.sect_wire.specs.Laws.{IsRow};
 ghost use Rattle.sect_machine.specs.Standing.{state_in, Restores};
 
@@ -15,14 +15,18 @@ use crate::state::State;
 use crate::undo::MachineUndo;
 use sect_base::{Caller, Day, Id, Memory, Same};
 use sect_command::{Command, Query, Reply, View};
-use sect_once::{Entry, Object, Request};
+use sect_once::{AskedText, Entry, Object, Request};
 use sect_space::World;
 use sect_wait::{Marks, Opened, Queue};
-use sect_wire::{TextObject, print_request, print_told_reply, read_request, read_row};
+use sect_wire::{
+    TextObject, copy_request, print_request, print_told_reply, read_request, read_row,
+};
 use std::alloc::Global;
 
 impl TextObject for Machine {
     ghost takes_texts = { λ id day command named dated told. (named, dated, told) };
+
+    ghost asks_texts = { λ id day command dated rest told. told };
 
     ghost tells_texts = { λ reply text told. told };
 }
@@ -49,6 +53,8 @@ impl Object for Machine {
     ghost looked = { looked_at };
 
     ghost is_request = { IsRequestText };
+
+    ghost is_asked = { IsAskedText };
 
     ghost is_row = { IsRow };
 
@@ -97,6 +103,11 @@ impl Object for Machine {
     ) -> Result<(), Memory> {
         into.clear();
         print_request(id, day, command, into)
+    }
+
+    fn copy_request(command: &Command, asked: AskedText, into: &mut Vec<u8>) -> Result<(), Memory> {
+        into.clear();
+        copy_request(command, asked, into)
     }
 
     fn print_reply(reply: &Reply, into: &mut Vec<u8>) -> Result<usize, Memory> {

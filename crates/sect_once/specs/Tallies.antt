@@ -20,13 +20,21 @@ caller_number (Student s) = s.0
 abbrev pub tally_row : Entry ℕ ℕ → List ℕ
 tally_row e = to_be_bytes w32 e.day ++ caller_tag e.id.caller ∷ (to_be_bytes w32 (caller_number e.id.caller) ++ (to_be_bytes w64 e.id.number ++ e.command ∷ to_be_bytes w64 e.reply))
 
--- a request's part of a row: the day, the caller's letter and number, the request's number and the command
+-- a request behind its day: the caller's letter and number, the request's number and the command
+abbrev pub tally_asked : Id → ℕ → List ℕ
+tally_asked id command = caller_tag id.caller ∷ (to_be_bytes w32 (caller_number id.caller) ++ (to_be_bytes w64 id.number ++ command ∷ []))
+
+-- a request's part of a row: the day, and the request behind it
 abbrev pub tally_request : Id → ℕ → ℕ → List ℕ
-tally_request id day command = to_be_bytes w32 day ++ caller_tag id.caller ∷ (to_be_bytes w32 (caller_number id.caller) ++ (to_be_bytes w64 id.number ++ command ∷ []))
+tally_request id day command = to_be_bytes w32 day ++ tally_asked id command
 
 -- the text is that of the request
 abbrev pub IsTallyRequest : Id → ℕ → ℕ → List ℕ → Type 0
 IsTallyRequest id day command text = text ≡ tally_request id day command
+
+-- the texts are those of the request's day and of the rest
+abbrev pub IsTallyAsked : Id → ℕ → ℕ → List ℕ → List ℕ → Type 0
+IsTallyAsked id day command dated rest = (dated ≡ to_be_bytes w32 day) × (rest ≡ tally_asked id command)
 
 -- the caller with a letter and a number
 abbrev pub tagged : Bool → ℕ → Caller

@@ -1,6 +1,6 @@
 // How a request acts: it is printed, it steps, its reply is printed behind it, and the row is taken behind the others and appended
 // to the keeper's.
-ghost use Rattle.std.specs.Prelude.{◌≡◌, ℕ, ◌+◌, ◌<◌, ◌≤◌, ◌^◌, ◌++◌, ◌==◌, nat_eq, [], ◌∷◌, List, cond, length, None, Some, IfOk, OnOk, OnErr, IfErr};
+ghost use Rattle.std.specs.Prelude.{◌≡◌, ℕ, ◌+◌, ◌<◌, ◌≤◌, ◌^◌, ◌++◌, ◌==◌, nat_eq, [], ◌∷◌, List, cond, length, None, Some, IfOk, IfSome, OnOk, OnErr, IfErr};
 ghost use Rattle.std.specs.HashMap.{get};
 ghost use Rattle.sect_base.specs.declared.limit.Id.{Id};
 ghost use Rattle.sect_edge.specs.declared.edge.KeepFault.{KeepFault};
@@ -10,6 +10,7 @@ ghost use Rattle.sect_once.specs.Desks.{Adds};
 ghost use Rattle.sect_once.specs.History.{IsNew, key_of};
 ghost use Rattle.sect_once.specs.Told.{TellsFrom};
 
+use crate::entry::AskedText;
 use crate::object::Object;
 use crate::past::{Past, add, remove};
 use crate::texts::Texts;
@@ -71,9 +72,26 @@ fn keep<K: Keeper>(
     }
 }
 
+/// Writes the request, as it stands in a row, in place of what is there. Where its text is known, that is copied.
+fn write_request<O: Object>(
+    id: Id,
+    day: Day,
+    command: &O::Command,
+    asked: Option<AskedText>,
+    row: &mut Vec<u8>,
+) -> Result<(), Memory>
+    requires { IfSome asked (λ text. O.is_asked id day command.now text.day.now text.rest.now) }
+    ensures { OnOk result (O.is_request id day command.now row.new.items) }
+{
+    match asked {
+        Some(text) => O::copy_request(command, text, row),
+        None => O::print_request(id, day, command, row),
+    }
+}
+
 impl<O: Object> Past<O> {
-    /// A new request acts, and its row, which is printed into the buffer, is appended. The request is printed before it acts, since
-    /// the object may take over what it keeps of the command. The place of the reply's text comes with the reply. On a fault the
+    /// A new request acts, and its row, which is written into the buffer, is appended. The request is written before it acts, since
+    /// the object may take over what it keeps of the command; where its text is known, that is copied. The place of the reply's text comes with the reply. On a fault the
     /// past and the keeper's rows are as before.
     pub(crate) fn act<K: Keeper>(
         &mut self,
@@ -82,8 +100,10 @@ impl<O: Object> Past<O> {
         id: Id,
         day: Day,
         command: &mut O::Command,
+        asked: Option<AskedText>,
     ) -> Result<(O::Reply, usize), KeepFault>
         requires askable { O.may_ask id day command.old }
+        requires asked { IfSome asked (λ text. O.is_asked id day command.old text.day.now text.rest.now) }
         requires new { IsNew id self.old.entries }
         requires notes { length self.old.entries < 2 ^ 20 }
         ensures ok { IfOk result (λ r. Adds O.stepped O.is_row
@@ -94,7 +114,7 @@ impl<O: Object> Past<O> {
         ensures rows { OnErr result (KeepsRows (K.rows keeper.old) (K.rows keeper.new)) }
         ensures cause { HasCauseFor KeepFault.Failed (K.faults keeper.old) (K.faults keeper.new) result }
     {
-        let Ok(()) = O::print_request(id, day, command, row) else {
+        let Ok(()) = write_request::<O>(id, day, command, asked, row) else {
             return Err(KeepFault::Memory);
         };
         let Ok(reply) = step_in(&mut self.object, day, id.caller, command) else {

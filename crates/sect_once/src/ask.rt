@@ -8,7 +8,7 @@ ghost use Rattle.sect_once.specs.History.{history, state_after, IsFull, IsNew};
 
 use crate::answer::Answer;
 use crate::desk::Desk;
-use crate::entry::{Entry, Note, Unkept};
+use crate::entry::{AskedText, Entry, Note, Unkept};
 use crate::object::Object;
 use sect_base::{Chronicle, Day, Id, Memory};
 use sect_edge::{KeepFault, Keeper};
@@ -53,9 +53,16 @@ impl<O: Object, K: Keeper> Desk<O, K> {
         }
     }
 
-    /// A new request acts.
-    fn act(&mut self, id: Id, day: Day, command: &mut O::Command) -> Answer<O::Reply>
+    /// A new request acts, of which the text may be known.
+    fn act(
+        &mut self,
+        id: Id,
+        day: Day,
+        command: &mut O::Command,
+        asked: Option<AskedText>,
+    ) -> Answer<O::Reply>
         requires askable { O.may_ask id day command.old }
+        requires asked { IfSome asked (λ text. O.is_asked id day command.old text.day.now text.rest.now) }
         requires new { IsNew id (history self.old.log) }
         requires room { IsFull O.is_row self.old.log → ⊥ }
         ensures sound { IsSound O.stepped O.is_row K.rows K.faults O.start self.new }
@@ -69,7 +76,7 @@ impl<O: Object, K: Keeper> Desk<O, K> {
         self.reply_at = None;
         let acted = self
             .past
-            .act(&mut self.keeper, &mut self.row, id, day, command);
+            .act(&mut self.keeper, &mut self.row, id, day, command, asked);
         match acted {
             Ok((reply, at)) => {
                 self.reply_at = Some(at);
@@ -105,12 +112,19 @@ impl<O: Object, K: Keeper> Desk<O, K> {
         ensures sound { IsSound O.stepped O.is_row K.rows K.faults O.start self.new }
     {
         let mut command = command;
-        self.ask_lent(id, day, &mut command)
+        self.ask_lent(id, day, &mut command, None)
     }
 
-    /// Asks the same of a command that the caller lends. The object may take over what it keeps of it: what is left isn't told.
-    pub fn ask_lent(&mut self, id: Id, day: Day, command: &mut O::Command) -> Answer<O::Reply>
-        requires { O.may_ask id day command.old }
+    /// Asks the same of a command that the caller lends, with the text of the request, where the caller has that. The object may take over what it keeps of the command: what is left isn't told.
+    pub fn ask_lent(
+        &mut self,
+        id: Id,
+        day: Day,
+        command: &mut O::Command,
+        asked: Option<AskedText>,
+    ) -> Answer<O::Reply>
+        requires askable { O.may_ask id day command.old }
+        requires asked { IfSome asked (λ text. O.is_asked id day command.old text.day.now text.rest.now) }
         ensures answer { Answers O.stepped O.is_row K.rows K.faults id day command.old self.old self.new result }
         ensures sound { IsSound O.stepped O.is_row K.rows K.faults O.start self.new }
     {
@@ -121,7 +135,7 @@ impl<O: Object, K: Keeper> Desk<O, K> {
         if self.is_full() {
             return Answer::LogFull;
         }
-        self.act(id, day, command)
+        self.act(id, day, command, asked)
     }
 
     /// Looks at the object, which is the replay of the history.

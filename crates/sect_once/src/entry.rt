@@ -19,6 +19,13 @@ pub struct Request<C> {
     pub command: C,
 }
 
+/// The text of a request in two parts: its day with what stands before the rest, and the rest.
+#[derive(Clone, Copy)]
+pub struct AskedText<'a> {
+    pub day: &'a [u8],
+    pub rest: &'a [u8],
+}
+
 /// What stands in the log: a request that acted, or the id of one that the keeper failed to keep.
 #[derive(Drop)]
 pub enum Note<C, R> {

@@ -18,7 +18,7 @@ mod texts;
 pub use again::replay;
 pub use answer::{Answer, OpenFault, Seen};
 pub use desk::Desk;
-pub use entry::{Entry, Note, Request};
+pub use entry::{AskedText, Entry, Note, Request};
 pub use object::Object;
 pub use sect_base::Chronicle;
 pub use tally::Tally;

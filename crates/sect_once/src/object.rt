@@ -7,7 +7,7 @@ ghost use Rattle.sect_once.specs.Desks.{NextHasRow};
 ghost use Rattle.sect_once.specs.History.{HasRow};
 ghost use Rattle.sect_once.specs.Told.{TellsFrom};
 
-use crate::entry::{Entry, Request};
+use crate::entry::{AskedText, Entry, Request};
 use sect_base::{Caller, Day, Id, Memory};
 use std::alloc::Global;
 
@@ -41,6 +41,9 @@ pub trait Object: Sized {
 
     /// The text is that of the request, as it stands in front of a reply's in a row.
     ghost is_request: { Id → ℕ → Self.Command → List ℕ → Type 0 };
+
+    /// The two texts are those of the request's day and of the rest, as they stand in a row.
+    ghost is_asked: { Id → ℕ → Self.Command → List ℕ → List ℕ → Type 0 };
 
     /// The row is the text of the entry.
     ghost is_row: { Entry Self.Command Self.Reply → List ℕ → Type 0 };
@@ -94,6 +97,14 @@ pub trait Object: Sized {
         into: &mut Vec<u8>,
     ) -> Result<(), Memory>
         ensures { OnOk result (is_request id day command.now into.new.items) };
+
+    /// Writes the same of the text that the request has.
+    fn copy_request(
+        command: &Self::Command,
+        asked: AskedText,
+        into: &mut Vec<u8>,
+    ) -> Result<(), Memory>
+        ensures { OnOk result ((id : Id) (day : ℕ) → is_asked id day command.now asked.entry.day.now asked.entry.rest.now → is_request id day command.now into.new.items) };
 
     /// Writes the text of the reply behind a request, which completes the row of each entry with this request and this reply that
     /// has one, and gives the place of the text.

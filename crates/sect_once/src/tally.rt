@@ -3,9 +3,9 @@ ghost use Rattle.std.specs.Prelude.{◌≡◌, ℕ, ◌<◌, ◌≤◌, ◌+◌,
 ghost use Rattle.std.specs.Int.{from_be_bytes, to_be_bytes, w32, w64};
 ghost use Rattle.sect_base.specs.declared.limit.Caller.{Caller};
 ghost use Rattle.sect_once.specs.declared.entry.Entry.{Entry};
-ghost use Rattle.sect_once.specs.Tallies.{IsSumText, IsTallyRequest, IsTallyRow, MayAsk, caller_number, caller_tag, tallied, tally_entry};
+ghost use Rattle.sect_once.specs.Tallies.{IsSumText, IsTallyAsked, IsTallyRequest, IsTallyRow, MayAsk, caller_number, caller_tag, tallied, tally_entry};
 
-use crate::entry::{Entry, Request};
+use crate::entry::{AskedText, Entry, Request};
 use crate::object::Object;
 use sect_base::{Caller, Day, Id, Memory, StudentId};
 use std::alloc::Global;
@@ -40,6 +40,8 @@ impl Object for Tally {
     ghost looked = { λ sum q. sum };
 
     ghost is_request = { IsTallyRequest };
+
+    ghost is_asked = { IsTallyAsked };
 
     ghost is_row = { IsTallyRow };
 
@@ -78,6 +80,13 @@ impl Object for Tally {
     fn print_request(id: Id, day: Day, command: &u8, into: &mut Vec<u8>) -> Result<(), Memory> {
         into.clear();
         into.extend_from_slice(&request_of(day, id.caller, id.number, *command))?;
+        Ok(())
+    }
+
+    fn copy_request(_command: &u8, asked: AskedText, into: &mut Vec<u8>) -> Result<(), Memory> {
+        into.clear();
+        into.extend_from_slice(asked.day)?;
+        into.extend_from_slice(asked.rest)?;
         Ok(())
     }
 

@@ -5,6 +5,7 @@ pub mod CommandSpaces
 pub mod Found
 pub mod LineLaws
 pub mod PartLaws
+pub mod Plain
 pub mod ReplyLaws
 pub mod RequestText
 pub mod RowLaws

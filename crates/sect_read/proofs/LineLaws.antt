@@ -82,14 +82,14 @@ id_again x rest fits stop = word_back exact_caller x.caller _ _ _ fits.0 (word_b
 takes_id : Takes id_at FitsId id_words Any
 takes_id = record { found = id_found; again = id_again }
 
-no_at : (id : Id) (rest : List (List ℕ)) → StopDay (id_words id ++ rest)
+pub no_at : (id : Id) (rest : List (List ℕ)) → StopDay (id_words id ++ rest)
 no_at id rest = by id.caller
   where
     by : (caller : Caller) → at_of (caller_text caller ∷ decimal id.number ∷ rest) ≡ None
     by (callers.Registrar n) = refl
     by (callers.Student s) = refl
 
-front_found : (ws : List (List ℕ)) (x : Option ℕ × Id) (rest : List (List ℕ)) → front_at ws ≡ Some (x, rest) → FitsOptional FitsDay x.0 × FitsId x.1 × (ws ≡ day_words x.0 ++ (id_words x.1 ++ rest))
+pub front_found : (ws : List (List ℕ)) (x : Option ℕ × Id) (rest : List (List ℕ)) → front_at ws ≡ Some (x, rest) → FitsOptional FitsDay x.0 × FitsId x.1 × (ws ≡ day_words x.0 ++ (id_words x.1 ++ rest))
 unfolding front_at
 front_found ws x rest e = words_step takes_line_day ws _ _ e (λ day r1 f1 e1 p.
     words_step takes_id r1 _ _ p (λ id r2 f2 e2 p.

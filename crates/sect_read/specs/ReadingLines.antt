@@ -31,6 +31,14 @@ day_behind parts (Some text) = day_of text >>= λ day. Some (Some day, later_par
 unfoldable pub line_day_at : List (List ℕ) → Option (Option ℕ × List (List ℕ))
 line_day_at parts = day_behind parts (at_of parts)
 
+abbrev pub parts_behind : List (List ℕ) → Option (List ℕ) → List (List ℕ)
+parts_behind parts None = parts
+parts_behind parts (Some text) = later_parts parts
+
+-- the parts of a line behind its day, where it names one
+abbrev pub undated : List (List ℕ) → List (List ℕ)
+undated parts = parts_behind parts (at_of parts)
+
 -- a caller and a number
 unfoldable pub id_at : List (List ℕ) → Option (Id × List (List ℕ))
 id_at parts = do

@@ -21,7 +21,8 @@ pub use laws::{
     an_entry_has_one_row,
 };
 pub use line::{
-    LineAsk, LineFront, behind_at, read_command, read_line, read_line_command, read_line_front,
+    LineAsk, LineFront, behind_at, behind_day, read_command, read_line, read_line_command,
+    read_line_front,
 };
 pub use reply::read_reply;
 pub use row::{read_request, read_row};

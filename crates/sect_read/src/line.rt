@@ -1,11 +1,11 @@
 // Reading script lines.
 
-ghost use Rattle.std.specs.Prelude.{◌≡◌, IfOk, Ok, Err, true};
+ghost use Rattle.std.specs.Prelude.{◌≡◌, ◌==◌, ◌∷◌, position, IfOk, IfSome, Ok, Err, Some, true};
 ghost use Rattle.std.specs.Option.{option_map};
 ghost use Rattle.sect_words.specs.Parts.{pieces};
-ghost use Rattle.sect_words.specs.Reading.{Reads};
-ghost use Rattle.sect_read.specs.ReadingCommands.{arguments_at};
-ghost use Rattle.sect_read.specs.ReadingLines.{at_of, line_day_at, front_at, line_at, line_of, command_in, Fronts, Says};
+ghost use Rattle.sect_words.specs.Reading.{Reads, later_parts};
+ghost use Rattle.sect_read.specs.ReadingCommands.{arguments_at, verb_text};
+ghost use Rattle.sect_read.specs.ReadingLines.{at_of, line_day_at, front_at, line_at, line_of, command_in, undated, Fronts, Says};
 ghost use Rattle.sect_read.specs.Lines.{IsCommand, IsLine, HasUnknownVerb};
 ghost use Rattle.sect_command.specs.declared.command.Command.{Command};
 ghost use Rattle.sect_read.specs.declared.line.LineAsk.{LineAsk};
@@ -68,8 +68,10 @@ fn read_front(alloc: Global, words: &mut Parts) -> Result<(Option<Day>, Id), Fau
 }
 
 /// What stands in the words of a line before its command's arguments, which are left.
+#[inline(always)]
 pub fn read_line_front(alloc: Global, words: &mut Parts) -> Result<LineFront, WireFault>
-    ensures { Fronts result words.new (line_at (front_at words.old)) }
+    ensures reads { Fronts result words.new (line_at (front_at words.old)) }
+    ensures front { IfOk result (λ front. front_at words.old ≡ Some ((front.day, front.id), verb_text front.verb ∷ words.new)) }
 {
     let (day, id) = read_front(alloc, words)?;
     let Some(verb) = words.next() else {
@@ -81,11 +83,43 @@ pub fn read_line_front(alloc: Global, words: &mut Parts) -> Result<LineFront, Wi
     Ok(LineFront { day, id, verb })
 }
 
-/// The command of a line whose verb was read. What is left behind it has to be nothing. It takes memory.
-pub fn read_line_command(alloc: Global, verb: Verb, words: &mut Parts) -> Result<Command, Fault>
-    ensures { Reads result words.new (arguments_at true verb words.old) }
+/// The command of a line whose verb was read. Where `shown`, a default may be written. What is left behind it has to be nothing.
+/// It takes memory.
+pub fn read_line_command(
+    alloc: Global,
+    shown: bool,
+    verb: Verb,
+    words: &mut Parts,
+) -> Result<Command, Fault>
+    ensures { Reads result words.new (arguments_at shown verb words.old) }
 {
-    read_arguments(alloc, true, verb, words)
+    read_arguments(alloc, shown, verb, words)
+}
+
+/// What stands in a line behind its day, which is all of it where it names none. None where it is `@` and one word.
+pub fn behind_day(line: &[u8]) -> Option<&[u8]>
+    ensures { IfSome result (λ text. pieces 32 text.now ≡ undated (pieces 32 line.now)) }
+{
+    match line {
+        [b'@', ..] => behind_space(line),
+        _ => Some(line),
+    }
+}
+
+/// The place of the first space.
+fn space_in(line: &[u8]) -> Option<usize>
+    ensures { result ≡ position (λ byte. byte == 32) line.now }
+{
+    line.iter().position(|byte| *byte == b' ')
+}
+
+/// What stands behind the first space, where there is one.
+fn behind_space(line: &[u8]) -> Option<&[u8]>
+    ensures { IfSome result (λ text. pieces 32 text.now ≡ later_parts (pieces 32 line.now)) }
+{
+    let at = space_in(line)?;
+    let (_, text) = line.split_at(at + 1);
+    Some(text)
 }
 
 /// What the line asks.
@@ -94,7 +128,7 @@ fn read_ask(alloc: Global, line: &[u8]) -> Result<LineAsk, WireFault>
 {
     let mut words = Parts::new(line, b' ');
     let LineFront { day, id, verb } = read_line_front(alloc, &mut words)?;
-    let command = read_line_command(alloc, verb, &mut words)?;
+    let command = read_line_command(alloc, true, verb, &mut words)?;
     words.end()?;
     Ok(LineAsk { day, id, command })
 }

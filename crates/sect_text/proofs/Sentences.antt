@@ -12,7 +12,8 @@ use Rattle.sect_words.specs.Words.{caller_text}
 use Rattle.sect_text.specs.Commands.{command_words, command_text}
 use Rattle.sect_text.specs.Replies.{reply_words, reply_text}
 use Rattle.sect_once.specs.declared.entry.Entry.{Entry}
-use Rattle.sect_text.specs.Rows.{behind_mark, row_front, id_words, request_part, row_rest, row_text, is_marked}
+use Rattle.sect_text.specs.ToldRows.{IsAskedText}
+use Rattle.sect_text.specs.Rows.{asked_part, behind_mark, day_part, row_front, id_words, request_part, row_rest, row_text, is_marked}
 
 -- a space and a command are its words behind spaces
 pub spaced_command : (c : Command) → 32 ∷ command_text c ≡ behind 32 (command_words c)
@@ -57,6 +58,37 @@ pub front_bytes : (marked : Bool) (day : ℕ) (id : Id)
     → behind_mark marked (day_text day ++ (32 ∷ caller_text id.caller ++ (32 ∷ decimal id.number ++ (32 ∷ [])))) ≡ sentence (row_front marked day ++ id_words id) ++ (32 ∷ [])
 front_bytes true day id = simp append_assoc
 front_bytes false day id = simp append_assoc
+
+-- words behind a day, grouped as the front of a row and the rest
+regrouped : (day caller number command end : List ℕ) → (day ++ (32 ∷ [])) ++ ((caller ++ (32 ∷ number ++ (32 ∷ command))) ++ end) ≡ (day ++ (32 ∷ caller ++ (32 ∷ number ++ (32 ∷ [])))) ++ (command ++ end)
+regrouped day caller number command end = simp append_assoc
+
+-- the day, and the id, the command and `=` behind it, are the request
+asked_by : (marked : Bool) (day : ℕ) (id : Id) (c : Command)
+    → behind_mark marked (day_part day) ++ (asked_part id c ++ (32 ∷ 61 ∷ 32 ∷ [])) ≡ (sentence (row_front marked day ++ id_words id) ++ (32 ∷ [])) ++ (command_text c ++ (32 ∷ 61 ∷ 32 ∷ []))
+asked_by marked day id c = by marked ∙ ap (λ (bytes : List ℕ). bytes ++ (command_text c ++ (32 ∷ 61 ∷ 32 ∷ []))) (front_bytes marked day id)
+  where
+    front : List ℕ
+    front = day_text day ++ (32 ∷ caller_text id.caller ++ (32 ∷ decimal id.number ++ (32 ∷ [])))
+
+    behind_day : day_part day ++ (asked_part id c ++ (32 ∷ 61 ∷ 32 ∷ [])) ≡ front ++ (command_text c ++ (32 ∷ 61 ∷ 32 ∷ []))
+    behind_day =
+        ap (λ (bytes : List ℕ). day_part day ++ ((caller_text id.caller ++ (32 ∷ decimal id.number ++ bytes)) ++ (32 ∷ 61 ∷ 32 ∷ []))) (sym (spaced_command c))
+        ∙ regrouped (day_text day) (caller_text id.caller) (decimal id.number) (command_text c) (32 ∷ 61 ∷ 32 ∷ [])
+
+    by : (b : Bool) → behind_mark b (day_part day) ++ (asked_part id c ++ (32 ∷ 61 ∷ 32 ∷ [])) ≡ behind_mark b front ++ (command_text c ++ (32 ∷ 61 ∷ 32 ∷ []))
+    by true = ap (λ (bytes : List ℕ). 50 ∷ 32 ∷ bytes) behind_day
+    by false = behind_day
+
+-- what is appended behind the day of a row makes up the request
+pub asked_request : (old dated front rest new : List ℕ) (id : Id) (day : ℕ) (c : Command) → front ≡ old ++ behind_mark (is_marked c) dated → new ≡ (front ++ rest) ++ (32 ∷ 61 ∷ 32 ∷ [])
+    → IsAskedText id day c dated rest → new ≡ old ++ request_part id day c
+asked_request old dated front rest new id day c begun told is =
+    told ∙ ap (λ bytes. (bytes ++ rest) ++ (32 ∷ 61 ∷ 32 ∷ [])) begun
+    ∙ (λ i. ((old ++ behind_mark (is_marked c) (is.0 i)) ++ is.1 i) ++ (32 ∷ 61 ∷ 32 ∷ []))
+    ∙ append_assoc (old ++ behind_mark (is_marked c) (day_part day)) (asked_part id c) (32 ∷ 61 ∷ 32 ∷ [])
+    ∙ append_assoc old (behind_mark (is_marked c) (day_part day)) (asked_part id c ++ (32 ∷ 61 ∷ 32 ∷ []))
+    ∙ ap (λ bytes. old ++ bytes) (asked_by (is_marked c) day id c)
 
 -- a command, `=` and a reply, behind a space
 spaced_rest : (c : Command) (r : Reply) → behind 32 (command_words c ++ ((61 ∷ []) ∷ reply_words r)) ≡ 32 ∷ command_text c ++ (32 ∷ 61 ∷ 32 ∷ reply_text r)

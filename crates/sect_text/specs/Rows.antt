@@ -32,9 +32,17 @@ behind_mark false bytes = bytes
 abbrev pub id_words : Id → List (List ℕ)
 id_words id = caller_text id.caller ∷ decimal id.number ∷ []
 
+-- a day with the space behind it
+abbrev pub day_part : ℕ → List ℕ
+day_part day = day_text day ++ 32 ∷ []
+
 -- a request in a row: the mark, the day, the id, the command and `=`, each behind the one before it, and a space
 abbrev pub request_part : Id → ℕ → Command → List ℕ
 request_part id day command = (sentence (row_front (is_marked command) day ++ id_words id) ++ 32 ∷ []) ++ (command_text command ++ 32 ∷ 61 ∷ 32 ∷ [])
+
+-- a request behind its day and a space: the caller, the number and the command
+abbrev pub asked_part : Id → Command → List ℕ
+asked_part id command = sentence (id_words id ++ command_words command)
 
 -- the id, the command, `=` and the reply
 abbrev pub row_rest : Entry Command Reply → List (List ℕ)

@@ -13,4 +13,4 @@ mod want_text;
 pub use command_text::print_command;
 pub use reply_text::print_reply;
 pub use row_text::{is_marked, print_row};
-pub use told_row::{print_request, print_told_reply};
+pub use told_row::{copy_request, print_request, print_told_reply};

@@ -61,6 +61,17 @@ pub(crate) fn print_front(marked: bool, day: Day, id: Id, into: &mut Vec<u8>) ->
     print_bytes(&bytes[start..], into)
 }
 
+/// Appends the text of a day, behind `2` and a space where a row is marked. After `Memory` a part of it may stand at the end.
+pub(crate) fn print_dated(marked: bool, day: &[u8], into: &mut Vec<u8>) -> Result<(), Memory>
+    ensures text { OnOk result (into.new.items ≡ into.old.items ++ behind_mark marked day.now) }
+    ensures front { take (length into.old.items) into.new.items ≡ into.old.items }
+{
+    if marked {
+        print_bytes(b"2 ", into)?;
+    }
+    print_bytes(day, into)
+}
+
 /// Appends `=` between two spaces. After `Memory` a part of it may stand at the end.
 pub(crate) fn print_equals(into: &mut Vec<u8>) -> Result<(), Memory>
     ensures text { OnOk result (into.new.items ≡ into.old.items ++ (32 ∷ 61 ∷ 32 ∷ [])) }

@@ -19,4 +19,6 @@ pub use sect_read::{
     a_printed_text_is_of_one_command, a_row_is_of_one_entry, a_text_is_of_one_reply,
     an_entry_has_one_row, read_command, read_line, read_reply, read_request, read_row,
 };
-pub use sect_text::{print_command, print_reply, print_request, print_row, print_told_reply};
+pub use sect_text::{
+    copy_request, print_command, print_reply, print_request, print_row, print_told_reply,
+};
