@@ -19,7 +19,7 @@ OTHER = re.compile(r'^\s*(?:\(\w+ [^→]*\) → )*(IfOk|OnOk|IfSome|HasCause|Has
 # Those of which docs/PROVED.md says why nothing is promised.
 DESCRIBED = {
     'sect_check: print_complaint', 'sect_edge: Keeper::row', 'sect_head: read_head', 'sect_journal: Disk::read_at',
-    'sect_machine: Machine::step_counted', 'sect_app: make', 'sect_machine: Machine::step_told', 'sect_once: Desk::ask_lent', 'sect_once: Object::step', 'sect_once: Object::print_request',
+    'sect_machine: Machine::step_counted', 'sect_app: make', 'sect_machine: Machine::step_told', 'sect_once: Desk::ask_lent', 'sect_once: Object::step', 'sect_once: Object::copy_request', 'sect_once: Object::print_request',
     'sect_once: Object::print_reply', 'sect_tables: Reading::take',
     'sect_tables: Reading::end', 'sect_talk: await_head', 'sect_tell: Teller::text', 'sect_wait: leave_course',
     'sect_wait: mark_enrolment', 'sect_wait: mark_leaving', 'sect_wait: mark_noted', 'sect_wait: mark', 'sect_wait: settle_opened',

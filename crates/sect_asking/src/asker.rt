@@ -114,6 +114,7 @@ impl<O: TextObject, K: Keeper, C: Clock> Asker<O, K, C> {
 
     /// Asks a command with a text, which the caller lends, on the day that was named, or where none was on the clock's. Where the
     /// caller has what stands behind the day in the text of the request, that is copied. What is left of the command isn't told.
+    #[inline(always)]
     fn ask_lent(
         &mut self,
         named: Option<Day>,
@@ -139,6 +140,7 @@ impl<O: TextObject, K: Keeper, C: Clock> Asker<O, K, C> {
     }
 
     /// Appends the line of an answer of the desk. Where its entry is the last, the text of the reply is that in the entry's row.
+    #[inline(always)]
     fn print_line(&self, answer: &Answer<Reply>, into: &mut Vec<u8>) -> Result<(), Memory>
         requires { HasReply self.now.desk.log answer.now }
         ensures text { OnOk result (into.new.items ≡ into.old.items ++ answer_line answer.now) }

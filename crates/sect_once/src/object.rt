@@ -98,7 +98,7 @@ pub trait Object: Sized {
     ) -> Result<(), Memory>
         ensures { OnOk result (is_request id day command.now into.new.items) };
 
-    /// Writes the same of the text that the request has.
+    /// Writes the same of the text that the request has, in place of what is there.
     fn copy_request(
         command: &Self::Command,
         asked: AskedText,

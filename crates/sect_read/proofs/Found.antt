@@ -1,5 +1,5 @@
 -- What a reader that is exact says of a text.
-use Rattle.std.proofs.Common.{◌≡◌, ℕ, false, true, List, [], ◌∷◌, Option, None, Some, refl, ap, sym, ◌∙◌, subst, append-nil}
+use Rattle.std.proofs.Common.{◌≡◌, ℕ, true, List, [], Option, None, Some, refl, ap, sym, ◌∙◌, subst, append-nil}
 use Rattle.std.specs.Prelude.{Result, Ok, Err, IfOk, IfSome}
 use Rattle.sect_base.specs.declared.duplicate.Memory.{Memory}
 use Rattle.sect_read.specs.declared.line.LineAsk.{LineAsk}
@@ -8,13 +8,9 @@ use Rattle.sect_read.specs.declared.fault.WireFault.TheVariants as wire
 use Rattle.sect_command.specs.declared.command.Command.{Command}
 use Rattle.sect_read.specs.Lines.{IsCommand, IsLine, HasUnknownVerb}
 use Rattle.sect_words.specs.Parts.{pieces}
-use Rattle.sect_words.specs.Reading.{Ends, Finds, is_nil, Reads, whole}
-use Rattle.sect_read.specs.declared.line.LineFront.{LineFront}
-use Rattle.sect_words.specs.declared.fault.Fault.{Fault}
-use Rattle.sect_words.specs.declared.fault.Fault.TheVariants as faults
-use Rattle.sect_read.specs.Faults.{line_fault}
-use Rattle.sect_read.specs.ReadingCommands.{arguments_at, command_at}
-use Rattle.sect_read.specs.ReadingLines.{asked, command_in, commanded, line_of, Says}
+use Rattle.sect_words.specs.Reading.{Finds, whole}
+use Rattle.sect_read.specs.ReadingCommands.{command_at}
+use Rattle.sect_read.specs.ReadingLines.{command_in, commanded, line_of, Says}
 use Rattle.sect_read.proofs.Steps.{Exact, quiet_end, whole_found}
 use Rattle.sect_read.proofs.CommandLaws.{command_again, command_found}
 use Rattle.sect_read.proofs.LineLaws.{Outcome, line_found, line_again, unknown_again}
@@ -65,25 +61,3 @@ command_only text r e c is =
     (ap (λ (ws : List (List ℕ)). commanded (whole (command_at true ws))) (sym (append-nil (pieces 32 text)))
     ∙ ap (λ o. commanded (whole o)) (command_again true c (pieces 32 text) [] is quiet_end))
     e
-
--- the value behind which something is left isn't all
-whole_longer : {X : Type 0} (x : X) (left : List (List ℕ)) → is_nil left ≡ false → whole (Some (x, left)) ≡ None
-whole_longer x [] more = absurd (cc)
-whole_longer x (part ∷ parts) more = refl
-
-module _ (line : List ℕ) (front : LineFront) (rest : List (List ℕ)) (at : line_of line ≡ asked (front.day, front.id) (whole (arguments_at true front.verb rest))) where
-  -- the command behind the front of a line, behind which nothing is left, is that of the line
-  pub front_found : (command : Command) (left : List (List ℕ)) → arguments_at true front.verb rest ≡ Some (command, left) → left ≡ [] → IsLine line (record { day = front.day; id = front.id; command = command })
-  front_found command left is none =
-      let all : whole (arguments_at true front.verb rest) ≡ Some command = ap whole (is ∙ ap (λ (l : List (List ℕ)). Some (command, l)) none) in
-      says_found line (Ok (record { day = front.day; id = front.id; command = command })) (at ∙ ap (asked (front.day, front.id)) all)
-
-  -- where no command is behind the front, the line asks nothing
-  pub front_only : (fault : Fault) (left : List (List ℕ)) → Reads {X = Command} (Err fault) left (arguments_at true front.verb rest) → (ask : LineAsk) → IsLine line ask → Says {X = LineAsk} (Err (line_fault fault)) (Ok ask)
-  front_only faults.Bad left none = λ ask is. says_only line (Err wire.BadLine) (at ∙ ap (asked (front.day, front.id)) (ap whole none)) ask is
-  front_only faults.Memory left none = λ ask is. tt
-
-  -- where something is left behind the command, the line asks nothing
-  pub front_longer : (fault : Fault) (command : Command) (left : List (List ℕ)) → arguments_at true front.verb rest ≡ Some (command, left) → Ends (Err fault) left → (ask : LineAsk) → IsLine line ask → Says {X = LineAsk} (Err (line_fault fault)) (Ok ask)
-  front_longer faults.Bad command left is more = λ ask asked_so. says_only line (Err wire.BadLine) (at ∙ ap (asked (front.day, front.id)) (ap whole is ∙ whole_longer command left more)) ask asked_so
-  front_longer faults.Memory command left is more = absurd more
