@@ -4,7 +4,7 @@ use Rattle.std.specs.List.{list_any}
 use Rattle.std.specs.Option.{option_map_or}
 use Rattle.std.proofs.Common.{sym, ◌∙◌, ap, subst, arith, inl, inr}
 use Rattle.std.proofs.lemmas.Bool.{eqb-true, eq-eqb}
-use Rattle.sect_catalog.specs.Catalogue.{has_course}
+use Rattle.sect_catalog.specs.Catalogue.{find_offering, has_course}
 use Rattle.sect_catalog.specs.Fault.{config_ids, row_ids, are_checked}
 use Rattle.sect_model.specs.Data.{StudentId, CourseId, OfferingRow, Choice}
 use Rattle.sect_model.specs.declared.held.Enrolment.{Enrolment}
@@ -28,6 +28,13 @@ module _ (w : World) (checked : are_checked w.catalogue.rows ≡ true) (o : Offe
   -- a row with its id is this row
   same-id : (x : OfferingRow) → Member w.catalogue.rows x → x.id.0 ≡ o.id.0 → o ≡ x
   same-id x n e = one-row w.catalogue.rows checked o x m n (0, o.id.0) (0, x.id.0) (inl refl) (inl refl) (eq-eqb x.id.0 o.id.0 e)
+
+  -- it is the one that its id finds
+  pub itself : find_offering w.catalogue.rows o.id ≡ Some o
+  itself =
+      let x = Members.known (find_offering w.catalogue.rows o.id) (Members.find-some (λ x. x.id.0 == o.id.0) w.catalogue.rows o m (eq-eqb o.id.0 o.id.0 refl)) in
+      let f = Members.find-member (λ x. x.id.0 == o.id.0) w.catalogue.rows x.0 x.1 in
+      x.1 ∙ ap (λ y. Some y) (sym (same-id x.0 f.0 (eqb-true x.0.id.0 o.id.0 f.1)))
 
   listed : (c : CourseId) → is_of w o.id c ≡ true → has_course o c ≡ true
   listed c t =

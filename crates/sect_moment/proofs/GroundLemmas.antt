@@ -2,6 +2,7 @@
 use Rattle.std.specs.Prelude.{◌≡◌, [], Option, Some, None}
 use Rattle.std.specs.Option.{option_map, option_map_or, option_and_then}
 use Rattle.std.proofs.Common.{sym, ◌∙◌, ap, subst}
+use Rattle.sect_catalog.specs.Catalogue.{find_course}
 use Rattle.sect_model.specs.Data.{CourseId, ConfigId, OfferingRow}
 use Rattle.sect_model.specs.World.{World, offering_of}
 use Rattle.sect_model.specs.Choice.{config_in, subparts_of}
@@ -25,11 +26,24 @@ module _ (w : World) (course : CourseId) (at : Option CourseId) (ground : Option
   its-offering = sym whole.offering
 
   -- and what stands beside it
-  pub its-ground : IsGround w g
+  pub its-ground : IsGround w course g
   its-ground = record {
+    course = sym whole.course;
+    offering = whole.found;
     reservations = some-same g.reservations.now (reservations_of w g.offering.now.id) (whole.reservations ∙ ap (option_map (λ o. reservations_of w o.id)) its-offering);
     restrictions = some-same g.restrictions.now (restrictions_of w g.offering.now.id) (whole.restrictions ∙ ap (option_map (λ o. restrictions_of w o.id)) its-offering);
   }
+
+-- and the other way, where the course has this offering
+pub of-course : (w : World) (at : Option CourseId) (course : CourseId) (g : Ground) → at ≡ Some course → offering_of w course ≡ Some g.offering.now → IsGround w course g → IsGroundOf w at (Some g)
+of-course w at course g e f h =
+    let its : option_and_then (offering_of w) at ≡ Some g.offering.now = ap (option_and_then (offering_of w)) e ∙ f in record {
+      course = sym (ap (option_and_then (find_course w.catalogue.rows)) e ∙ h.course);
+      offering = sym its;
+      found = h.offering;
+      reservations = ap (λ rows. Some rows) h.reservations ∙ sym (ap (option_map (λ o. reservations_of w o.id)) its);
+      restrictions = ap (λ rows. Some rows) h.restrictions ∙ sym (ap (option_map (λ o. restrictions_of w o.id)) its);
+    }
 
 -- the subparts of a configuration, by the offering's row
 pub its-subparts : (w : World) (course : CourseId) (config : ConfigId) (o : OfferingRow) → offering_of w course ≡ Some o → option_map_or (λ g. g.subparts) (config_in o config) [] ≡ subparts_of w course config

@@ -91,7 +91,7 @@ impl Moment<'_> {
 
     /// Whether restrictions apply, and none of them admits the configuration. Where there are none, nothing is looked up.
     fn restricts_config(&self, ground: &Ground, course: CourseId, config: ConfigId) -> bool
-        requires ground { IsGround self.now.at ground.now }
+        requires ground { IsGround self.now.at course ground.now }
         requires offering { offering_of self.now.at course ≡ Some ground.now.offering.now }
         ensures { result ≡ restricted_by (subparts_of self.now.at course config) config []
             (restrictions_for self.now.at self.now.student course ground.now.offering.now.id) }
@@ -103,6 +103,7 @@ impl Moment<'_> {
     }
 
     /// The first rule that the choice of a configuration breaks, with its number.
+    #[inline(always)]
     pub fn config_rule(
         &self,
         ground: &Ground,
@@ -110,14 +111,14 @@ impl Moment<'_> {
         r: Option<&Reservation>,
         row: &ConfigRow,
     ) -> Option<(Rule, u32)>
-        requires ground { IsGround self.now.at ground.now }
+        requires ground { IsGround self.now.at course ground.now }
         requires offering { offering_of self.now.at course ≡ Some ground.now.offering.now }
         requires row { config_in ground.now.offering.now row.now.id ≡ Some row.now }
         ensures { result ≡ first_broken (config_rules self.now.at self.now.student ground.now.offering.now course (option_copied r.entry) row.now.id) }
     {
         self.recall_kept();
         let config = row.id;
-        let closed = self.closed_with(
+        let closed = self.closed(
             ground.offering.id,
             ground.reservations,
             r,

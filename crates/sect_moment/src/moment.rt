@@ -15,7 +15,6 @@ ghost use Rattle.sect_model.specs.Allowed.{
   max_credits as most_credits,
   credits_held as credits_of_student,
 };
-ghost use Rattle.sect_model.specs.Space.{places_at};
 ghost use Rattle.sect_model.specs.Stands.{MoveStands};
 ghost use Rattle.sect_model.specs.Rules.{world_at};
 ghost use Rattle.sect_moment.specs.Completed.{opened};
@@ -125,14 +124,6 @@ impl<'a> Moment<'a> {
         ensures { result ≡ self.now.at.day }
     {
         self.world.day()
-    }
-
-    /// The number of places at the level, None where it has no limit.
-    #[inline(always)]
-    pub(crate) fn places(&self, level: Level) -> Option<u64>
-        ensures { result ≡ places_at self.now.at level }
-    {
-        self.world.places(level)
     }
 
     /// The number of enrolments at the level.

@@ -2,22 +2,10 @@
 
 ghost use Rattle.std.specs.Prelude.{◌≡◌, [], option_copied};
 ghost use Rattle.std.specs.Option.{option_map_or};
-ghost use Rattle.sect_model.specs.World.{offering_of};
 ghost use Rattle.sect_model.specs.Choice.{config_in};
 
-use sect_base::{ConfigId, CourseId};
+use sect_base::ConfigId;
 use sect_catalog::{ConfigRow, OfferingRow, SubpartRow};
-use sect_space::World;
-
-/// The offering of a course.
-pub fn offering(world: &World, course: CourseId) -> Option<&OfferingRow>
-    ensures { option_copied result ≡ offering_of world.now.world course }
-{
-    match world.catalogue().course(course) {
-        Some((offering, _)) => Some(offering),
-        None => None,
-    }
-}
 
 /// The configuration of an id in the offering.
 pub fn config_of_offering(offering: &OfferingRow, config: ConfigId) -> Option<&ConfigRow>

@@ -16,6 +16,7 @@ use crate::reserved::{is_over, limited};
 use sect_base::{CourseId, Level, Rule};
 use sect_catalog::OfferingRow;
 use sect_reserve::{Audience, Reservation, active, applies};
+use sect_space::offering_places;
 
 impl Moment<'_> {
     /// Whether the audience has the student by the course.
@@ -92,26 +93,28 @@ impl Moment<'_> {
         Some((Rule::MustUse, number))
     }
 
-    /// The first rule on the places of the course and its offering.
+    /// The first rule on the places of the course and its offering. Neither is looked up.
     fn offering_rule(
         &self,
-        r: Option<&Reservation>,
-        offering: &OfferingRow,
-        rows: &[Reservation],
+        ground: &Ground,
         course: CourseId,
+        r: Option<&Reservation>,
     ) -> Option<(Rule, u32)>
-        requires { rows.now ≡ reservations_of self.now.at offering.now.id }
-        ensures { result ≡ first_broken (offering_rules self.now.at (option_copied r.entry) offering.now course) }
+        requires { IsGround self.now.at course ground.now }
+        ensures { result ≡ first_broken (offering_rules self.now.at (option_copied r.entry) ground.now.offering.now course) }
     {
-        if !is_over(r) && self.is_full(Level::Course(course)) {
+        self.recall_kept();
+        if !is_over(r) && self.is_full(Level::Course(course), limited(ground.course.limit)) {
             return Some((Rule::CourseFull, course.0));
         }
-        let closed = self.closed(offering.id, rows, r, Level::Offering(offering.id));
+        let id = ground.offering.id;
+        let places = offering_places(ground.offering);
+        let closed = self.closed(id, ground.reservations, r, Level::Offering(id), places);
         if closed.full {
-            return Some((Rule::OfferingFull, offering.id.0));
+            return Some((Rule::OfferingFull, id.0));
         }
         if r.is_none() && closed.reserved {
-            return Some((Rule::OfferingReserved, offering.id.0));
+            return Some((Rule::OfferingReserved, id.0));
         }
         None
     }
@@ -123,7 +126,7 @@ impl Moment<'_> {
         course: CourseId,
         r: Option<&Reservation>,
     ) -> Option<(Rule, u32)>
-        requires { IsGround self.now.at ground.now }
+        requires { IsGround self.now.at course ground.now }
         ensures { result ≡ first_broken (reservation_rules self.now.at self.now.student ground.now.offering.now course (option_copied r.entry)) }
     {
         let broken = match r {
@@ -132,7 +135,7 @@ impl Moment<'_> {
         };
         match broken {
             Some(rule) => Some(rule),
-            None => self.offering_rule(r, ground.offering, ground.reservations, course),
+            None => self.offering_rule(ground, course, r),
         }
     }
 }

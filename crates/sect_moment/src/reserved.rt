@@ -39,12 +39,13 @@ const OPEN: Closed = Closed {
 };
 
 impl Moment<'_> {
-    /// Whether a level with a limit has no place left.
+    /// Whether a level with so many places, or with no limit, has no place left.
     #[inline(always)]
-    pub(crate) fn is_full(&self, level: Level) -> bool
+    pub(crate) fn is_full(&self, level: Level, places: Option<u64>) -> bool
+        requires { places ≡ places_at self.now.at level }
         ensures { result ≡ full_at self.now.at level }
     {
-        match self.places(level) {
+        match places {
             Some(places) => places <= self.count(level),
             None => false,
         }
@@ -133,27 +134,10 @@ impl Moment<'_> {
         }
     }
 
-    /// What closes a level of this offering to a choice by the reservation, or by none. Its places and its enrolments are
-    /// asked for once.
+    /// What closes a level of this offering, with so many places or with no limit, to a choice by the reservation, or by
+    /// none. Its enrolments are asked for once.
     #[inline(always)]
     pub(crate) fn closed(
-        &self,
-        offering: OfferingId,
-        rows: &[Reservation],
-        r: Option<&Reservation>,
-        level: Level,
-    ) -> Closed
-        requires own { IsTrue (are_own self.now.at offering level) }
-        requires rows { rows.now ≡ reservations_of self.now.at offering }
-        ensures full { result.full ≡ not (permits_over (option_copied r.entry)) && full_at self.now.at level }
-        ensures reserved { result.reserved ≡ not (permits_over (option_copied r.entry)) && kept_at self.now.at (option_copied r.entry) level }
-    {
-        self.closed_with(offering, rows, r, level, self.places(level))
-    }
-
-    /// The same, where the number of places at the level is known.
-    #[inline(always)]
-    pub(crate) fn closed_with(
         &self,
         offering: OfferingId,
         rows: &[Reservation],

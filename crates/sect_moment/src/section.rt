@@ -6,7 +6,7 @@ ghost use Rattle.sect_catalog.specs.Catalogue.{find_section};
 ghost use Rattle.sect_reserve.specs.Audience.{admits_section as has_section, empty_or_any};
 ghost use Rattle.sect_model.specs.World.{offering_of, meetings_of};
 ghost use Rattle.sect_model.specs.Choice.{has_parent, subparts_of};
-ghost use Rattle.sect_model.specs.Allowed.{free_times, meets_at, restrictions_for};
+ghost use Rattle.sect_model.specs.Allowed.{free_times, meets_at, reservations_of, restrictions_for};
 ghost use Rattle.sect_model.specs.Path.{next_subpart};
 ghost use Rattle.sect_model.specs.Space.{places_at};
 ghost use Rattle.sect_model.specs.Rules.{first_broken, least, section_rules, is_restricted as restricted_by};
@@ -136,7 +136,7 @@ impl Moment<'_> {
         sections: &Sections,
         section: SectionId,
     ) -> bool
-        requires ground { IsGround self.now.at ground.now }
+        requires ground { IsGround self.now.at course ground.now }
         requires offering { offering_of self.now.at course ≡ Some ground.now.offering.now }
         requires bound { length sections.now < 6 }
         ensures { result ≡ restricted_by (subparts_of self.now.at course config) config (sections.now ++ section ∷ [])
@@ -200,7 +200,7 @@ impl Moment<'_> {
         sections: &Sections,
         row: &SectionRow,
     ) -> Option<(Rule, u32)>
-        requires ground { IsGround self.now.at ground.now }
+        requires ground { IsGround self.now.at course ground.now }
         requires offering { offering_of self.now.at course ≡ Some ground.now.offering.now }
         requires bound { length sections.now < 6 }
         requires row { IsSection self.now.at row.now }
@@ -231,13 +231,13 @@ impl Moment<'_> {
         r: Option<&Reservation>,
         row: &SectionRow,
     ) -> Option<(Rule, u32)>
-        requires ground { IsGround self.now.at ground.now }
+        requires rows { ground.now.reservations.now ≡ reservations_of self.now.at ground.now.offering.now.id }
         requires own { IsTrue (are_own self.now.at ground.now.offering.now.id (Section row.now.id)) }
         requires row { IsSection self.now.at row.now }
         ensures { result ≡ first_broken (space_rules self.now.at (option_copied r.entry) row.now.id) }
     {
         let section = row.id;
-        let closed = self.closed_with(
+        let closed = self.closed(
             ground.offering.id,
             ground.reservations,
             r,
@@ -289,7 +289,7 @@ impl Moment<'_> {
         sections: &Sections,
         row: &SectionRow,
     ) -> Option<(Rule, u32)>
-        requires ground { IsGround self.now.at ground.now }
+        requires ground { IsGround self.now.at course ground.now }
         requires offering { offering_of self.now.at course ≡ Some ground.now.offering.now }
         requires own { IsTrue (own_section self.now.at course config sections.now row.now.id) }
         requires row { IsSection self.now.at row.now }

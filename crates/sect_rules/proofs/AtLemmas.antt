@@ -15,7 +15,7 @@ use Rattle.sect_moment.proofs.MomentLemmas.{world-moved}
 
 ground-moved : (w : World) (st : StudentId) (give : List CourseId) (done : List Choice) (course : Option CourseId) (ground : Option Ground)
     → IsGroundOf w course ground → IsGroundOf (moved w st give done) course ground
-ground-moved w st give done course ground h = record { offering = h.offering; reservations = h.reservations; restrictions = h.restrictions }
+ground-moved w st give done course ground h = record { course = h.course; offering = h.offering; found = h.found; reservations = h.reservations; restrictions = h.restrictions }
 
 module _ (w : World) (mv : Move) (p : Path) where
   at-choices : moved w mv.student mv.give p.done ≡ world_at w mv p

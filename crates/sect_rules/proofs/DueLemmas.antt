@@ -44,7 +44,7 @@ module _ {X : Type 0} (f : OfferingRow → List X) (w : World) (course : CourseI
 
 -- the leaves behind a course
 module _ (v : OnCourse) (known : want_at v.wanted.mv (opened v.wanted.done) ≡ Some v.wanted.want) (ground : Option Ground) (h : IsGroundOf (met v.wanted) (Some v.course) ground) where
-  pub ground-met : (g : Ground) → ground ≡ Some g → IsGround (met v.wanted) g
+  pub ground-met : (g : Ground) → ground ≡ Some g → IsGround (met v.wanted) v.course g
   ground-met g e = its-ground (met v.wanted) v.course (Some v.course) ground g refl e h
 
   pub offering-met : (g : Ground) → ground ≡ Some g → offering_of (met v.wanted) v.course ≡ Some g.offering.now

@@ -7,7 +7,7 @@ use Rattle.std.proofs.lemmas.Bool.{eq-eqb, eqb-true}
 use Rattle.std.proofs.lemmas.Bool.Decides.{nat_tests}
 use Rattle.std.proofs.lemmas.List.Sums.{length-filter, count_by-le-length}
 use Rattle.sect_catalog.specs.Catalogue.{Catalogue, find_offering, sections_in, all_sections}
-use Rattle.sect_catalog.specs.Fault.{above}
+use Rattle.sect_catalog.specs.Fault.{above, are_checked}
 use Rattle.sect_catalog.specs.declared.row.OfferingRow.{OfferingRow}
 use Rattle.sect_catalog.specs.declared.row.SubpartRow.{SubpartRow}
 use Rattle.sect_base.specs.declared.ids.OfferingId.{OfferingId}
@@ -61,12 +61,12 @@ few-configs before o h =
     within : (n : ℕ) → n ≤ 10 → nat_le n 10 ≡ true
     within n h = grind (arith, nat_tests, h)
 
--- an offering of a kept world has at most ten configurations
-pub configs-few : (w : World) → KeptWorld w → (id : OfferingId) (o : OfferingRow) → find_offering w.catalogue.rows id ≡ Some o → length o.configs ≤ 10
-configs-few w k id o f =
+-- an offering among checked rows has at most ten configurations
+pub configs-few : (rows : List OfferingRow) → are_checked rows ≡ true → (id : OfferingId) (o : OfferingRow) → find_offering rows id ≡ Some o → length o.configs ≤ 10
+configs-few rows h id o f =
     within (length o.configs)
-    (all-at (λ o. nat_le (length o.configs) 10) w.catalogue.rows (checked-each (λ o. nat_le (length o.configs) 10) few-configs [] w.catalogue.rows k.rows_pass) o
-    (find-member (λ o. o.id.0 == id.0) w.catalogue.rows o f).0)
+    (all-at (λ o. nat_le (length o.configs) 10) rows (checked-each (λ o. nat_le (length o.configs) 10) few-configs [] rows h) o
+    (find-member (λ o. o.id.0 == id.0) rows o f).0)
   where
     within : (n : ℕ) → nat_le n 10 ≡ true → n ≤ 10
     within n h = grind (arith, nat_tests, h)

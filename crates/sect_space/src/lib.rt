@@ -23,6 +23,6 @@ mod world;
 pub use back::{Back, Mark};
 pub use holds::has_course;
 pub use sect_model::{Change, Enrolment};
-pub use space::names;
+pub use space::{names, offering_places};
 pub use undo::Undo;
 pub use world::World;

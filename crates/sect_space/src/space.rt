@@ -19,7 +19,7 @@ ghost use Rattle.sect_numbers.specs.Own.{level_offering as offering_of_level};
 
 use crate::world::World;
 use sect_base::{ConfigId, Level, Limit, OfferingId, SectionId};
-use sect_catalog::ConfigRow;
+use sect_catalog::{ConfigRow, OfferingRow};
 use sect_numbers::laws::a_level_is_named_by_its_offering;
 use sect_reserve::{Place, Reservation, active};
 
@@ -58,7 +58,7 @@ impl World {
     {
         self.recall_kept();
         match self.catalogue().offering(id) {
-            Some(row) => total(row.configs.as_slice()),
+            Some(row) => offering_places(row),
             None => None,
         }
     }
@@ -207,6 +207,17 @@ fn places(limit: Limit) -> Option<u64>
         Limit::Places(places) => Some(u64::from(places)),
         Limit::Unlimited => None,
     }
+}
+
+/// The places of an offering of at most ten configurations: the sum over them. None where one of them has no limit. It takes no
+/// memory.
+#[inline(always)]
+pub fn offering_places(row: &OfferingRow) -> Option<u64>
+    requires { length row.now.configs ≤ 10 }
+    ensures value { result ≡ places_of_all row.now.configs }
+    ensures bound { IfSome result (λ n. n ≤ 42949672950) }
+{
+    total(row.configs.as_slice())
 }
 
 /// The sum of the limits, at most ten, and None where one of them is none.

@@ -41,7 +41,7 @@ standing_rule-requires c = record {
 
 pub space_rule-requires : goal.space_rule-requires
 space_rule-requires c = record {
-  ground = c.requires.ground;
+  rows = c.requires.ground.reservations;
   own = section-own c.args.self.now.at c.recall_kept.ensures.checked c.args.course c.args.config c.args.sections.now c.args.row.now.id c.args.ground.now.offering.now c.recall_kept.ensures.fit
       c.requires.offering c.requires.own;
   row = c.requires.row;

@@ -31,7 +31,8 @@ section_rule-requires c =
     let option = subst (λ v. Contains (options_at v.by.on.wanted.world v.by.on.wanted.mv (config_path v)) (Section c.args.row.now.id)) (sym c.self.view_is) c.requires.option in
     let own : own_section (met on.wanted) on.course v.config v.sections c.args.row.now.id ≡ true
     = own-at w mv (opened on.wanted.done) on.course v.config v.sections c.args.row.now.id (option-stands w mv (config_path v) (Section c.args.row.now.id) option) in record {
-      ground = subst (λ m. IsGround m.at c.in-Some.ground.now) (sym m) (ground-met on known its ground c.in-Some.ground.now (ap option_copied c.in-Some.is));
+      ground = subst (λ m. IsGround m.at c.course.result c.in-Some.ground.now) (sym m)
+          (subst (λ id. IsGround (met on.wanted) id c.in-Some.ground.now) (sym course) (ground-met on known its ground c.in-Some.ground.now (ap option_copied c.in-Some.is)));
       offering = (λ i. offering_of (m i).at (course i)) ∙ offering-met on known its ground c.in-Some.ground.now (ap option_copied c.in-Some.is);
       own = (λ i. own_section (m i).at (course i) v.config v.sections c.args.row.now.id) ∙ own;
       row = subst (λ m. IsSection m.at c.args.row.now) (sym m)

@@ -19,7 +19,9 @@ config_rule-requires-clause-ground c =
     let on = c.self.inside.on.now in
     let known = subst (λ q. want_at q.mv (opened q.done) ≡ Some q.want) c.wanted-wanted.ensures c.recall_want.ensures in
     let m : c.moment.result.now ≡ record { at = met on.wanted; student = on.wanted.mv.student } = c.moment.ensures ∙ (λ i. record { at = met (c.wanted-wanted.ensures i); student = (c.wanted-wanted.ensures i).mv.student }) in
-    subst (λ m. IsGround m.at c.in-Some.ground.now) (sym m) (ground-met on known (option_copied c.ground.result) c.ground.ensures c.in-Some.ground.now (ap option_copied c.in-Some.is))
+    subst (λ m. IsGround m.at c.course.result c.in-Some.ground.now) (sym m)
+    (subst (λ id. IsGround (met on.wanted) id c.in-Some.ground.now) (sym c.course.ensures)
+    (ground-met on known (option_copied c.ground.result) c.ground.ensures c.in-Some.ground.now (ap option_copied c.in-Some.is)))
 
 pub config_rule-requires-clause-offering : goal.config_rule-requires-clause-offering
 config_rule-requires-clause-offering c =

@@ -19,7 +19,7 @@ reservation_rule-requires c =
     let v : OnCourse = record { wanted = s.wanted.now; course = s.course } in
     let ground = option_copied c.ground.result in
     let h : IsGroundOf (met v.wanted) (Some v.course) ground = subst (λ v. IsGroundOf (met v.wanted) (Some v.course) ground) (sym c.self.view_is) c.ground.ensures in
-    subst (λ m. IsGround m.at c.in-Some.ground.now) (sym c.moment-moment.ensures) (ground-met v c.recall_want.ensures ground h c.in-Some.ground.now (ap option_copied c.in-Some.is))
+    subst (λ m. IsGround m.at v.course c.in-Some.ground.now) (sym c.moment-moment.ensures) (ground-met v c.recall_want.ensures ground h c.in-Some.ground.now (ap option_copied c.in-Some.is))
 
 pub returns-in-Some : goal.returns-in-Some
 returns-in-Some c =
