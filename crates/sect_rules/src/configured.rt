@@ -49,6 +49,7 @@ impl<'a> Model for Configured<'a> {
 
 impl<'a> Configured<'a> {
     /// What is behind the choice of the configuration.
+    #[inline(always)]
     pub fn new(by: &'a Joined<'a>, row: &'a ConfigRow) -> Configured<'a>
         requires { IsConfig by.now.on.wanted.world (Some by.now.on.course) row.now }
         ensures { result ≡ record { by = by.now; config = row.now.id; sections = [] } }
@@ -85,6 +86,7 @@ impl<'a> Configured<'a> {
     }
 
     /// What is behind one section more.
+    #[inline(always)]
     pub fn behind(&self, section: SectionId) -> Configured<'a>
         requires { length self.now.sections < 6 }
         ensures { result ≡ record self.now { sections = self.now.sections ++ section ∷ [] } }

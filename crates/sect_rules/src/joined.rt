@@ -46,6 +46,7 @@ impl<'a> Model for Joined<'a> {
 
 impl<'a> Joined<'a> {
     /// What is behind the choice of the reservation of this row, or of none.
+    #[inline(always)]
     pub fn new(on: &'a OnCourse<'a>, row: Option<&'a Reservation>) -> Joined<'a>
         requires { IsChosen on.now.wanted.world row }
         ensures { result ≡ record { on = on.now; id = id_of row.entry } }

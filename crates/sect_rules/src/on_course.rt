@@ -46,6 +46,7 @@ impl<'a> Model for OnCourse<'a> {
 
 impl<'a> OnCourse<'a> {
     /// What is behind the choice of the course.
+    #[inline(always)]
     pub fn new(wanted: &'a Wanted<'a>, course: CourseId) -> OnCourse<'a>
         ensures { result ≡ record { wanted = wanted.now; course = course } }
     {

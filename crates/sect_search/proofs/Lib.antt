@@ -1,5 +1,6 @@
 pub mod OpenLemmas
 pub mod WalkLemmas
+pub mod LookLemmas
 pub mod CoverLemmas
 pub mod NodeLemmas
 pub mod TextLemmas

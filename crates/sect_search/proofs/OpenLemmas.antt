@@ -1,5 +1,6 @@
 -- A path is complete exactly where no want is left, and what a section leads to.
-use Rattle.std.specs.Prelude.{◌≡◌, ℕ, zero, suc, ◌+◌, ◌<◌, ◌&&◌, not, Bool, true, false, nat_le, cond, List, [], ◌∷◌, ◌++◌, length, Some, None, slice_get, Contains, refl}
+use Rattle.std.specs.Prelude.{◌≡◌, ℕ, zero, suc, ◌+◌, ◌<◌, ◌&&◌, not, Bool, true, false, nat_le, cond, List, [], ◌∷◌, ◌++◌, length, Option, Some, None, slice_get, Contains, IfSome, refl}
+use Rattle.std.specs.Option.{option_map}
 use Rattle.std.proofs.Common.{arith, sym, ◌∙◌}
 use Rattle.std.proofs.lemmas.Bool.Decides.{nat_tests}
 use Rattle.std.proofs.lemmas.Option.{slice_get_within}
@@ -14,6 +15,7 @@ use Rattle.sect_model.specs.Path.{Path, options_at, want_at, extend, is_complete
 use Rattle.sect_model.specs.Search.{found, search_from}
 use Rattle.sect_moment.specs.Completed.{opened, completed_by}
 use Rattle.sect_rules.specs.Wanted.{Configured, config_path}
+use Rattle.sect_moment.proofs.NthLemmas.{got-contained}
 use Rattle.sect_moment.proofs.OwnLemmas.{done-few}
 use Rattle.sect_search.specs.Covered.{covered}
 use Rattle.sect_search.specs.Told.{go_from}
@@ -31,6 +33,10 @@ at_zero n = grind (arith, nat_tests)
 pub open-want : (mv : Move) (p : Path) (want : Want) → want_at mv p ≡ Some want → is_complete mv p ≡ false
 open-want mv p want h = not_past (length mv.take) (length p.done) (slice_get_within mv.take (length p.done) want h)
 
+-- where fewer choices are made than it has wants, neither
+pub open-left : (mv : Move) (p : Path) → length p.done < length mv.take → is_complete mv p ≡ false
+open-left mv p h = not_past (length mv.take) (length p.done) h
+
 -- where none is left, it is
 pub whole-none : {X : Type 0} (xs : List X) (i : ℕ) → slice_get xs i ≡ None → nat_le (length xs) i ≡ true
 whole-none [] i h = at_zero i
@@ -40,6 +46,11 @@ whole-none (x ∷ xs) (suc i) h = both-more (length xs) i (whole-none xs i h)
 -- where there is an option, a want is left
 pub open-option : (w : World) (mv : Move) (p : Path) (pick : Pick) → Contains (options_at w mv p) pick → is_complete mv p ≡ false
 open-option w mv p pick h = not_past (length mv.take) (length p.done) (done-few w mv p pick h (length mv.take) (omega arith))
+
+-- what stands at a place is one of the options
+pub got-option : {X : Type 0} (pick : X → Pick) (options : List Pick) (i : ℕ) (r : Option X) → option_map pick r ≡ slice_get options i → IfSome r (λ x. Contains options (pick x))
+got-option pick options i None e = tt
+got-option pick options i (Some x) e = got-contained options i (Some (pick x)) e
 
 one-longer : (done : List Choice) (choice : Choice) → length (done ++ choice ∷ []) ≡ length done + 1
 one-longer [] choice = omega arith

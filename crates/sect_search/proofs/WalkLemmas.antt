@@ -12,20 +12,20 @@ use Rattle.sect_search.specs.Texts.{HaveNumbers}
 use Rattle.sect_search.specs.Told.{with_trees, then_later}
 
 -- with nothing behind
-pub with-refuted : (ts us : List Tree) (left : ℕ) → with_trees ts (refuted us left) ≡ refuted (ts ++ us) left
+with-refuted : (ts us : List Tree) (left : ℕ) → with_trees ts (refuted us left) ≡ refuted (ts ++ us) left
 with-refuted [] us left = refl
 with-refuted (t ∷ ts) us left = ap (behind_tree t) (with-refuted ts us left)
 
-pub with-found : (ts : List Tree) (choices : List Choice) (left : ℕ) → with_trees ts (found choices left) ≡ found choices left
+with-found : (ts : List Tree) (choices : List Choice) (left : ℕ) → with_trees ts (found choices left) ≡ found choices left
 with-found [] choices left = refl
 with-found (t ∷ ts) choices left = ap (behind_tree t) (with-found ts choices left)
 
-pub with-spent : (ts : List Tree) → with_trees ts spent ≡ spent
+with-spent : (ts : List Tree) → with_trees ts spent ≡ spent
 with-spent [] = refl
 with-spent (t ∷ ts) = ap (behind_tree t) (with-spent ts)
 
 -- trees more in front
-pub with-both : (ts us : List Tree) (r : Searched) → with_trees (ts ++ us) r ≡ with_trees ts (with_trees us r)
+with-both : (ts us : List Tree) (r : Searched) → with_trees (ts ++ us) r ≡ with_trees ts (with_trees us r)
 with-both [] us r = refl
 with-both (t ∷ ts) us r = ap (behind_tree t) (with-both ts us r)
 
@@ -35,7 +35,7 @@ or-later later (refuted trees left) = refl
 or-later later spent = refl
 
 -- an option by itself, and then those behind it
-pub pick-later : (leaf : Option (Rule × ℕ)) (whole : Bool) (done : List Choice) (inner later : ℕ → Searched) (left : ℕ)
+pick-later : (leaf : Option (Rule × ℕ)) (whole : Bool) (done : List Choice) (inner later : ℕ → Searched) (left : ℕ)
     → search_pick leaf whole done inner later left ≡ then_later later (search_pick leaf whole done inner (λ left. refuted [] left) left)
 pick-later (Some leaf) whole done inner later left = refl
 pick-later None true done inner later left = refl
@@ -58,6 +58,11 @@ drop-none [] zero h = refl
 drop-none [] (suc i) h = refl
 drop-none (y ∷ ys) zero h = cc
 drop-none (y ∷ ys) (suc i) h = drop-none ys i h
+
+-- nothing behind
+pub append-none : {X : Type 0} (xs : List X) → xs ++ [] ≡ xs
+append-none [] = refl
+append-none (x ∷ xs) = ap (λ ys. x ∷ ys) (append-none xs)
 
 -- trees more behind
 pub both-numbers : (ts us : List Tree) → HaveNumbers (trees_of ts) → HaveNumbers (trees_of us) → HaveNumbers (trees_of (ts ++ us))
@@ -118,45 +123,38 @@ search-some w mv (suc n) p left h =
 -- the search of a path's options, from a place on, with the trees in front
 module _ (w : World) (mv : Move) (rest : Path → ℕ → Searched) (p : Path) (options : List Pick) where
   abbrev pub from : List Tree → ℕ → ℕ → Searched
-  from trees at left = with_trees trees (search_options w mv rest p (drop at options) left)
+  from trees i left = with_trees trees (search_options w mv rest p (drop i options) left)
 
   -- an option by itself
   abbrev one : Pick → ℕ → Searched
-  one pick left = search_pick (leaf_of w mv p pick) (is_complete mv (extend w p pick)) (extend w p pick).done (rest (extend w p pick)) (λ left. refuted [] left) left
+  one pick left = search_options w mv rest p (pick ∷ []) left
 
-  -- nothing is left of the budget
-  pub from-spent : (trees : List Tree) (at : ℕ) (pick : Pick) → slice_get options at ≡ Some pick → from trees at 0 ≡ spent
-  from-spent trees at pick h = (λ i. with_trees trees (search_options w mv rest p (drop-option options at pick h i) 0)) ∙ with-spent trees
+  abbrev behind-it : ℕ → ℕ → Searched
+  behind-it i left = search_options w mv rest p (drop (i + 1) options) left
 
   -- no option is left
-  pub from-none : (trees : List Tree) (at left : ℕ) → slice_get options at ≡ None → from trees at left ≡ refuted trees left
-  from-none trees at left h = (λ i. with_trees trees (search_options w mv rest p (drop-none options at h i) left)) ∙ with-refuted trees [] left ∙ (λ i. refuted (append-none trees i) left)
-    where
-      append-none : {X : Type 0} (xs : List X) → xs ++ [] ≡ xs
-      append-none [] = refl
-      append-none (x ∷ xs) = ap (λ ys. x ∷ ys) (append-none xs)
+  pub from-none : (trees : List Tree) (i left : ℕ) → slice_get options i ≡ None → from trees i left ≡ refuted trees left
+  from-none trees i left h = (λ j. with_trees trees (search_options w mv rest p (drop-none options i h j) left)) ∙ with-refuted trees [] left ∙ (λ j. refuted (append-none trees j) left)
 
-  -- an option is looked at
-  from-one : (trees : List Tree) (at left before : ℕ) (pick : Pick) → slice_get options at ≡ Some pick → before ≡ suc left
-      → from trees at before ≡ with_trees trees (then_later (search_options w mv rest p (drop (at + 1) options)) (one pick left))
-  from-one trees at left before pick h e =
-      (λ i. with_trees trees (search_options w mv rest p (drop-option options at pick h i) (e i)))
-      ∙ ap (with_trees trees) (pick-later (leaf_of w mv p pick) (is_complete mv (extend w p pick)) (extend w p pick).done (rest (extend w p pick)) (search_options w mv rest p (drop (at + 1) options)) left)
+  -- an option is looked at, and then those behind it
+  one-later : (pick : Pick) (picks : List Pick) (left : ℕ) → search_options w mv rest p (pick ∷ picks) left ≡ then_later (search_options w mv rest p picks) (one pick left)
+  one-later pick picks zero = refl
+  one-later pick picks (suc left) = pick-later (leaf_of w mv p pick) (is_complete mv (extend w p pick)) (extend w p pick).done (rest (extend w p pick)) (search_options w mv rest p picks) left
 
-  pub from-found : (trees : List Tree) (at left before after : ℕ) (pick : Pick) (choices : List Choice) → slice_get options at ≡ Some pick → before ≡ suc left
-      → found choices after ≡ one pick left → from trees at before ≡ found choices after
-  from-found trees at left before after pick choices h e f =
-      from-one trees at left before pick h e ∙ ap (λ r. with_trees trees (then_later (search_options w mv rest p (drop (at + 1) options)) r)) (sym f) ∙ with-found trees choices after
+  from-one : (trees : List Tree) (i left : ℕ) (pick : Pick) (x : Searched) → slice_get options i ≡ Some pick → x ≡ one pick left → from trees i left ≡ with_trees trees (then_later (behind-it i) x)
+  from-one trees i left pick x h e =
+      (λ j. with_trees trees (search_options w mv rest p (drop-option options i pick h j) left))
+      ∙ ap (with_trees trees) (one-later pick (drop (i + 1) options) left)
+      ∙ (λ j. with_trees trees (then_later (behind-it i) (sym e j)))
 
-  pub from-over : (trees : List Tree) (at left before : ℕ) (pick : Pick) → slice_get options at ≡ Some pick → before ≡ suc left → spent ≡ one pick left → from trees at before ≡ spent
-  from-over trees at left before pick h e f =
-      from-one trees at left before pick h e ∙ ap (λ r. with_trees trees (then_later (search_options w mv rest p (drop (at + 1) options)) r)) (sym f) ∙ with-spent trees
+  pub from-found : (trees : List Tree) (i left after : ℕ) (pick : Pick) (choices : List Choice) → slice_get options i ≡ Some pick → found choices after ≡ one pick left → from trees i left ≡ found choices after
+  from-found trees i left after pick choices h e = from-one trees i left pick (found choices after) h e ∙ with-found trees choices after
 
-  pub from-next : (trees own : List Tree) (at left before after : ℕ) (pick : Pick) → slice_get options at ≡ Some pick → before ≡ suc left
-      → refuted own after ≡ one pick left → from trees at before ≡ from (trees ++ own) (at + 1) after
-  from-next trees own at left before after pick h e f =
-      from-one trees at left before pick h e ∙ ap (λ r. with_trees trees (then_later (search_options w mv rest p (drop (at + 1) options)) r)) (sym f)
-      ∙ sym (with-both trees own (search_options w mv rest p (drop (at + 1) options) after))
+  pub from-spent : (trees : List Tree) (i left : ℕ) (pick : Pick) → slice_get options i ≡ Some pick → spent ≡ one pick left → from trees i left ≡ spent
+  from-spent trees i left pick h e = from-one trees i left pick spent h e ∙ with-spent trees
+
+  pub from-next : (trees more : List Tree) (i left after : ℕ) (pick : Pick) → slice_get options i ≡ Some pick → refuted more after ≡ one pick left → from trees i left ≡ from (trees ++ more) (i + 1) after
+  from-next trees more i left after pick h e = from-one trees i left pick (refuted more after) h e ∙ sym (with-both trees more (behind-it i after))
 
 -- what follows an option, put into one tree where it is refuted
 pub one-tree : (whole : Bool) (done : List Choice) (inner : ℕ → Searched) (left : ℕ)

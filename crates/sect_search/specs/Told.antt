@@ -1,13 +1,12 @@
 -- What the parts of a search tell, with what is left of the budget.
-use Rattle.std.specs.Prelude.{◌≡◌, ℕ, cond, List, [], ◌∷◌, length, take, drop}
-use Rattle.sect_model.specs.Data.{Choice, Move}
+use Rattle.std.specs.Prelude.{◌≡◌, ◌≤◌, ◌<◌, ℕ, zero, suc, cond, List, [], ◌∷◌, ◌++◌, length, take, drop, Option, Some, None}
+use Rattle.sect_model.specs.Data.{Choice, Move, Rule}
 use Rattle.sect_model.specs.declared.pick.Pick.{Pick}
 use Rattle.sect_model.specs.Path.{Path, extend, is_complete}
-use Rattle.sect_model.specs.Rules.{leaf_of}
-use Rattle.sect_model.specs.Search.{Searched, found, refuted, spent, behind_tree, search_pick, search_from}
+use Rattle.sect_model.specs.Search.{Searched, found, refuted, spent, behind_tree, search_options, search_from}
 use Rattle.sect_model.specs.World.{World}
 use Rattle.sect_rules.specs.Place.{Place}
-use Rattle.sect_base.specs.Tree.{Tree, trees_of}
+use Rattle.sect_base.specs.Tree.{Tree, broken, split, trees_of}
 use Rattle.sect_model.specs.declared.pick.Outcome.{Outcome}
 use Rattle.sect_model.specs.declared.pick.Outcome.TheVariants.{Found as found_move, Blocked, Spent as spent_budget}
 use Rattle.sect_search.specs.Texts.{HasNumbers, HaveNumbers}
@@ -32,11 +31,33 @@ go_from w mv p n left = cond (is_complete mv p) (found p.done left) (search_from
 abbrev pub behind : Place → Pick → ℕ → ℕ → Searched
 behind at pick n left = go_from at.world at.mv (extend at.world at.path pick) n left
 
--- a look at an option, with at most so many decisions behind it
-abbrev pub look : Place → Pick → ℕ → ℕ → Searched
-look at pick n left =
-    search_pick (leaf_of at.world at.mv at.path pick) (is_complete at.mv (extend at.world at.path pick)) (extend at.world at.path pick).done
-    (search_from at.world at.mv n (extend at.world at.path pick)) (λ left. refuted [] left) left
+-- the search of one option alone, with at most so many decisions behind it
+abbrev pub visited : Place → Pick → ℕ → ℕ → Searched
+visited at pick n left = search_options at.world at.mv (search_from at.world at.mv n) at.path (pick ∷ []) left
+
+-- what a look at an option by itself comes to, if it breaks this rule or none: nothing was left of the budget, or it is refuted
+abbrev pub itself : Option (Rule × ℕ) → ℕ → Option Found
+itself leaf zero = Some spent_at
+itself None (suc left) = None
+itself (Some rule) (suc left) = Some refuted_at
+
+-- the tree that the look leaves, if any
+abbrev pub its_trees : Option (Rule × ℕ) → ℕ → List Tree
+its_trees leaf zero = []
+its_trees None (suc left) = []
+its_trees (Some rule) (suc left) = broken rule.0 rule.1 ∷ []
+
+-- where all that followed an option is refuted, its trees from a place on are put into one
+abbrev pub closed_trees : ℕ → List Tree → Found → List Tree
+closed_trees base trees found_at = trees
+closed_trees base trees refuted_at = take base trees ++ split (trees_of (drop base trees)) ∷ []
+closed_trees base trees spent_at = trees
+
+-- where all that followed an option is refuted, so many trees lie on the stack
+abbrev pub HasBase : ℕ → List Tree → Found → Type 0
+HasBase base trees found_at = Unit {0}
+HasBase base trees refuted_at = base ≤ length trees
+HasBase base trees spent_at = Unit {0}
 
 -- with the trees of the options in front
 abbrev pub with_trees : List Tree → Searched → Searched
@@ -60,6 +81,19 @@ abbrev pub LeavesTrees : List Tree → List Tree → Found → Type 0
 LeavesTrees before after found_at = Unit {0}
 LeavesTrees before after refuted_at = take (length before) after ≡ before
 LeavesTrees before after spent_at = Unit {0}
+
+-- where all that was looked at is refuted, some of the budget was taken
+abbrev pub TakesSome : ℕ → ℕ → Found → Type 0
+TakesSome old new found_at = Unit {0}
+TakesSome old new refuted_at = new < old
+TakesSome old new spent_at = Unit {0}
+
+-- what a look at an option tells of its search, from the stack and the budget before it
+pub record Tells (search : ℕ → Searched) (before : List Tree) (old : ℕ) (choices : List Choice) (after : List Tree) (new : ℕ) (r : Found) : Type 0 where
+  pub same : told r choices (own before after) new ≡ search old
+  pub numbers : ToldNumbers (own before after) r
+  pub kept : LeavesTrees before after r
+  pub taken : TakesSome old new r
 
 -- each number of the tree has 32 bits, where there is one
 abbrev pub OutcomeNumbers : Outcome → Type 0

@@ -4,6 +4,7 @@
 mod budget;
 mod finding;
 pub mod laws;
+mod looks;
 mod one;
 mod searched;
 mod verifying;

@@ -1,20 +1,26 @@
 // One walk, depth first: each option that is looked at takes one from the budget, and below a
 // decision that breaks a rule nothing is looked at. The tree is made on the way back: the trees of
 // the options refuted so far lie on one stack, and those of a node that is refuted are put into one there.
+// Each kind of node has a loop of its own. Those of a want, of a course and of a reservation become one function.
 
-ghost use Rattle.std.specs.Prelude.{◌≡◌, ◌≤◌, ◌<◌, ◌++◌, ◌∷◌, [], length, take, drop, Contains, IfOk, OnOk};
-ghost use Rattle.sect_base.specs.Tree.{broken as broken_leaf, split, trees_of};
+ghost use Rattle.std.specs.Prelude.{◌≡◌, ◌≤◌, ◌<◌, ◌++◌, ◌∷◌, [], Some, length, slice_get, Contains, IfSome, IfOk};
+ghost use Rattle.std.specs.Option.{option_map};
+ghost use Rattle.sect_model.specs.declared.pick.Pick.TheVariants.{Course as picks_course, Reservation as picks_reservation, Config as picks_config, Section as picks_section};
 ghost use Rattle.sect_model.specs.Path.{options_at};
 ghost use Rattle.sect_model.specs.Search.{search_from};
 ghost use Rattle.sect_model.specs.Stands.{MoveStands};
 ghost use Rattle.sect_moment.specs.Completed.{opened};
-ghost use Rattle.sect_rules.specs.Due.{place_of, place_at, pick_at, IsStep};
+ghost use Rattle.sect_moment.specs.Found.{IsChosen, IsConfig, IsSection, id_of};
+ghost use Rattle.sect_rules.specs.Due.{wanted_place, course_place, joined_place, config_place};
 ghost use Rattle.sect_rules.specs.Wanted.{course_path, joined_path, config_path};
-ghost use Rattle.sect_search.specs.Told.{told, own, look, behind, go_from, ToldNumbers, LeavesTrees};
+ghost use Rattle.sect_search.specs.Told.{told, own, visited, behind, go_from, ToldNumbers, LeavesTrees, Tells};
 
+use crate::looks::{closed, height, looked};
 use crate::searched::{Complete, Searched, Walk};
-use sect_base::{Block, Choice, Items, Memory, Rule};
-use sect_rules::{Configured, Due, Joined, OnCourse, PathOf, Step, Wanted, broken, step_at};
+use sect_base::{Choice, CourseId, Items, Memory};
+use sect_catalog::{ConfigRow, SectionRow};
+use sect_reserve::Reservation;
+use sect_rules::{Configured, Joined, OnCourse, PathOf, Wanted};
 use std::alloc::Global;
 
 /// The search below a want, of at most so many decisions, with what is left of the budget. The trees of its options, where all
@@ -35,11 +41,25 @@ pub fn below_want<const N: usize>(
     ensures less { walk.new.left ≤ walk.old.left }
     ensures kept { IfOk result (LeavesTrees walk.old.trees.items walk.new.trees.items) }
 {
-    below::<N>(alloc, Due::Course(&*wanted), decisions, walk)
+    if decisions == 0 {
+        return Ok(Searched::Refuted);
+    }
+    let budget = walk.left;
+    let mut at = 0;
+    'courses: while let Some(course) = wanted.course(at) {
+        match visit_course::<N>(alloc, wanted, course, decisions - 1, walk)? {
+            Searched::Found => return Ok(Searched::Found),
+            Searched::Refuted => {}
+            Searched::Spent => return Ok(Searched::Spent),
+        }
+        at += 1;
+    }
+    Ok(Searched::Refuted)
 }
 
 /// The same below a course.
 #[cycle(walking)]
+#[inline(always)]
 fn below_course<const N: usize>(
     alloc: Global,
     on: &OnCourse,
@@ -55,11 +75,25 @@ fn below_course<const N: usize>(
     ensures less { walk.new.left ≤ walk.old.left }
     ensures kept { IfOk result (LeavesTrees walk.old.trees.items walk.new.trees.items) }
 {
-    below::<N>(alloc, Due::Reservation(&*on), decisions, walk)
+    if decisions == 0 {
+        return Ok(Searched::Refuted);
+    }
+    let budget = walk.left;
+    let mut at = 0;
+    'reservations: while let Some(row) = on.reservation(at) {
+        match visit_reservation::<N>(alloc, on, row, decisions - 1, walk)? {
+            Searched::Found => return Ok(Searched::Found),
+            Searched::Refuted => {}
+            Searched::Spent => return Ok(Searched::Spent),
+        }
+        at += 1;
+    }
+    Ok(Searched::Refuted)
 }
 
 /// The same below a reservation, or none.
 #[cycle(walking)]
+#[inline(always)]
 fn below_reservation<const N: usize>(
     alloc: Global,
     by: &Joined,
@@ -75,7 +109,20 @@ fn below_reservation<const N: usize>(
     ensures less { walk.new.left ≤ walk.old.left }
     ensures kept { IfOk result (LeavesTrees walk.old.trees.items walk.new.trees.items) }
 {
-    below::<N>(alloc, Due::Config(&*by), decisions, walk)
+    if decisions == 0 {
+        return Ok(Searched::Refuted);
+    }
+    let budget = walk.left;
+    let mut at = 0;
+    'configs: while let Some(row) = by.config(at) {
+        match visit_config::<N>(alloc, by, row, decisions - 1, walk)? {
+            Searched::Found => return Ok(Searched::Found),
+            Searched::Refuted => {}
+            Searched::Spent => return Ok(Searched::Spent),
+        }
+        at += 1;
+    }
+    Ok(Searched::Refuted)
 }
 
 /// The same below a configuration with some sections.
@@ -95,38 +142,13 @@ fn below_config<const N: usize>(
     ensures less { walk.new.left ≤ walk.old.left }
     ensures kept { IfOk result (LeavesTrees walk.old.trees.items walk.new.trees.items) }
 {
-    below::<N>(alloc, Due::Section(&*inside), decisions, walk)
-}
-
-/// The same below any node. It becomes a loop of its own in each of those above, where the kind of node is known.
-#[cycle(walking)]
-#[inline(always)]
-fn below<const N: usize>(
-    alloc: Global,
-    due: Due,
-    decisions: u32,
-    walk: &mut Walk,
-) -> Result<Searched, Memory>
-    requires stands { MoveStands (place_of due).world (place_of due).mv }
-    requires room { length (place_of due).mv.take ≤ N }
-    requires limit { N ≤ 20 }
-    ensures found { IfOk result (λ r. told r walk.new.choices (own walk.old.trees.items walk.new.trees.items) walk.new.left
-        ≡ search_from (place_of due.entry).world (place_of due.entry).mv decisions (place_of due.entry).path walk.old.left) }
-    ensures numbers { IfOk result (ToldNumbers (own walk.old.trees.items walk.new.trees.items)) }
-    ensures less { walk.new.left ≤ walk.old.left }
-    ensures kept { IfOk result (LeavesTrees walk.old.trees.items walk.new.trees.items) }
-{
     if decisions == 0 {
         return Ok(Searched::Refuted);
     }
     let budget = walk.left;
     let mut at = 0;
-    'options: while let Some(step) = step_at(due, at) {
-        if walk.left == 0 {
-            return Ok(Searched::Spent);
-        }
-        walk.left -= 1;
-        match visit::<N>(alloc, step, decisions - 1, walk)? {
+    'sections: while let Some(row) = section_at(inside, at) {
+        match visit_section::<N>(alloc, inside, row, decisions - 1, walk)? {
             Searched::Found => return Ok(Searched::Found),
             Searched::Refuted => {}
             Searched::Spent => return Ok(Searched::Spent),
@@ -136,86 +158,152 @@ fn below<const N: usize>(
     Ok(Searched::Refuted)
 }
 
-/// A look at one option: it breaks a rule, or the search goes on behind it, with at most so many decisions more. Where it is
-/// refuted, its tree lies on the stack.
+/// A look at a course of a want, with at most so many decisions behind it. Where it is refuted, its tree lies on the stack.
 #[cycle(walking)]
 #[inline(always)]
-fn visit<const N: usize>(
+fn visit_course<const N: usize>(
     alloc: Global,
-    step: Step,
+    wanted: &Wanted,
+    course: CourseId,
     decisions: u32,
     walk: &mut Walk,
 ) -> Result<Searched, Memory>
-    requires stands { MoveStands (place_at step).world (place_at step).mv }
-    requires room { length (place_at step).mv.take ≤ N }
+    requires stands { MoveStands wanted.now.world wanted.now.mv }
+    requires room { length wanted.now.mv.take ≤ N }
     requires limit { N ≤ 20 }
-    requires option { Contains (options_at (place_at step).world (place_at step).mv (place_at step).path) (pick_at step) }
-    requires row { IsStep step }
-    ensures found { IfOk result (λ r. told r walk.new.choices (own walk.old.trees.items walk.new.trees.items) walk.new.left
-        ≡ look (place_at step.entry) (pick_at step.entry) decisions walk.old.left) }
-    ensures numbers { IfOk result (ToldNumbers (own walk.old.trees.items walk.new.trees.items)) }
+    ensures tells { IfOk result (Tells (visited (wanted_place wanted.now) (picks_course course) decisions) walk.old.trees.items walk.old.left walk.new.choices walk.new.trees.items walk.new.left) }
     ensures less { walk.new.left ≤ walk.old.left }
-    ensures kept { IfOk result (LeavesTrees walk.old.trees.items walk.new.trees.items) }
 {
-    if let Some((rule, number)) = broken(step) {
-        put_leaf(&mut walk.trees, rule, number)?;
-        return Ok(Searched::Refuted);
+    if let Some(searched) = looked(walk, wanted.broken(course))? {
+        return Ok(searched);
     }
     let base = height(&walk.trees);
-    match go_behind::<N>(alloc, step, decisions, walk)? {
-        Searched::Found => Ok(Searched::Found),
-        Searched::Refuted => {
-            put_split(alloc, &mut walk.trees, base)?;
-            Ok(Searched::Refuted)
-        }
-        Searched::Spent => Ok(Searched::Spent),
-    }
+    wanted.recall_left();
+    let on = OnCourse::new(&*wanted, course);
+    let found = below_course::<N>(alloc, &on, decisions, walk)?;
+    closed(&mut walk.trees, base, found)?;
+    Ok(found)
 }
 
-/// What follows an option that breaks no rule. Where all of that is refuted, its trees lie on the stack.
+/// The same of a course's reservation, or of none.
 #[cycle(walking)]
 #[inline(always)]
-fn go_behind<const N: usize>(
+fn visit_reservation<const N: usize>(
     alloc: Global,
-    step: Step,
+    on: &OnCourse,
+    row: Option<&Reservation>,
     decisions: u32,
     walk: &mut Walk,
 ) -> Result<Searched, Memory>
-    requires stands { MoveStands (place_at step).world (place_at step).mv }
-    requires room { length (place_at step).mv.take ≤ N }
+    requires stands { MoveStands on.now.wanted.world on.now.wanted.mv }
+    requires room { length on.now.wanted.mv.take ≤ N }
     requires limit { N ≤ 20 }
-    requires option { Contains (options_at (place_at step).world (place_at step).mv (place_at step).path) (pick_at step) }
-    requires row { IsStep step }
+    requires row { IsChosen on.now.wanted.world row }
+    ensures tells { IfOk result (Tells (visited (course_place on.now) (picks_reservation (id_of row.entry)) decisions) walk.old.trees.items walk.old.left walk.new.choices walk.new.trees.items walk.new.left) }
+    ensures less { walk.new.left ≤ walk.old.left }
+{
+    if let Some(searched) = looked(walk, on.broken(row))? {
+        return Ok(searched);
+    }
+    let base = height(&walk.trees);
+    on.wanted().recall_left();
+    let by = Joined::new(&*on, row);
+    let found = below_reservation::<N>(alloc, &by, decisions, walk)?;
+    closed(&mut walk.trees, base, found)?;
+    Ok(found)
+}
+
+/// The same of a configuration.
+#[cycle(walking)]
+#[inline(always)]
+fn visit_config<const N: usize>(
+    alloc: Global,
+    by: &Joined,
+    row: &ConfigRow,
+    decisions: u32,
+    walk: &mut Walk,
+) -> Result<Searched, Memory>
+    requires stands { MoveStands by.now.on.wanted.world by.now.on.wanted.mv }
+    requires room { length by.now.on.wanted.mv.take ≤ N }
+    requires limit { N ≤ 20 }
+    requires row { IsConfig by.now.on.wanted.world (Some by.now.on.course) row.now }
+    ensures tells { IfOk result (Tells (visited (joined_place by.now) (picks_config row.now.id) decisions) walk.old.trees.items walk.old.left walk.new.choices walk.new.trees.items walk.new.left) }
+    ensures less { walk.new.left ≤ walk.old.left }
+{
+    if let Some(searched) = looked(walk, by.broken(row))? {
+        return Ok(searched);
+    }
+    let base = height(&walk.trees);
+    by.on().wanted().recall_left();
+    let inside = Configured::new(&*by, &*row);
+    let found = below_config::<N>(alloc, &inside, decisions, walk)?;
+    closed(&mut walk.trees, base, found)?;
+    Ok(found)
+}
+
+/// The same of a section.
+#[cycle(walking)]
+#[inline(always)]
+fn visit_section<const N: usize>(
+    alloc: Global,
+    inside: &Configured,
+    row: &SectionRow,
+    decisions: u32,
+    walk: &mut Walk,
+) -> Result<Searched, Memory>
+    requires stands { MoveStands inside.now.by.on.wanted.world inside.now.by.on.wanted.mv }
+    requires room { length inside.now.by.on.wanted.mv.take ≤ N }
+    requires limit { N ≤ 20 }
+    requires option { Contains (options_at inside.now.by.on.wanted.world inside.now.by.on.wanted.mv (config_path inside.now)) (picks_section row.now.id) }
+    requires row { IsSection inside.now.by.on.wanted.world row.now }
+    ensures tells { IfOk result (Tells (visited (config_place inside.now) (picks_section row.now.id) decisions) walk.old.trees.items walk.old.left walk.new.choices walk.new.trees.items walk.new.left) }
+    ensures less { walk.new.left ≤ walk.old.left }
+{
+    if let Some(searched) = looked(walk, inside.broken(row))? {
+        return Ok(searched);
+    }
+    let base = height(&walk.trees);
+    let found = behind_section::<N>(alloc, inside, row, decisions, walk)?;
+    closed(&mut walk.trees, base, found)?;
+    Ok(found)
+}
+
+/// The section that `i` others precede by id, which is one of the options. None exactly past the last.
+#[inline(always)]
+fn section_at<'a>(inside: &Configured<'a>, i: usize) -> Option<&'a SectionRow>
+    ensures value { option_map (λ row. picks_section row.now.id) result ≡ slice_get (options_at inside.now.by.on.wanted.world inside.now.by.on.wanted.mv (config_path inside.now)) i }
+    ensures option { IfSome result (λ row. Contains (options_at inside.now.by.on.wanted.world inside.now.by.on.wanted.mv (config_path inside.now)) (picks_section row.now.id)) }
+    ensures row { IfSome result (λ row. IsSection inside.now.by.on.wanted.world row.now) }
+{
+    inside.section(i)
+}
+
+/// What follows a section that breaks no rule: the choice is complete, or another section is due.
+#[cycle(walking)]
+#[inline(always)]
+fn behind_section<const N: usize>(
+    alloc: Global,
+    inside: &Configured,
+    row: &SectionRow,
+    decisions: u32,
+    walk: &mut Walk,
+) -> Result<Searched, Memory>
+    requires stands { MoveStands inside.now.by.on.wanted.world inside.now.by.on.wanted.mv }
+    requires room { length inside.now.by.on.wanted.mv.take ≤ N }
+    requires limit { N ≤ 20 }
+    requires option { Contains (options_at inside.now.by.on.wanted.world inside.now.by.on.wanted.mv (config_path inside.now)) (picks_section row.now.id) }
     ensures found { IfOk result (λ r. told r walk.new.choices (own walk.old.trees.items walk.new.trees.items) walk.new.left
-        ≡ behind (place_at step.entry) (pick_at step.entry) decisions walk.old.left) }
+        ≡ behind (config_place inside.now) (picks_section row.now.id) decisions walk.old.left) }
     ensures numbers { IfOk result (ToldNumbers (own walk.old.trees.items walk.new.trees.items)) }
     ensures less { walk.new.left ≤ walk.old.left }
     ensures kept { IfOk result (LeavesTrees walk.old.trees.items walk.new.trees.items) }
 {
-    match step {
-        Step::Course(wanted, course) => {
-            let on = OnCourse::new(wanted, course);
-            below_course::<N>(alloc, &on, decisions, walk)
-        }
-        Step::Reservation(on, row) => {
-            let by = Joined::new(on, row);
-            below_reservation::<N>(alloc, &by, decisions, walk)
-        }
-        Step::Config(by, row) => {
-            let inside = Configured::new(by, row);
-            below_config::<N>(alloc, &inside, decisions, walk)
-        }
-        Step::Section(inside, row) => {
-            inside.recall_room(row.id);
-            match inside.completed(row.id) {
-                Some(choice) => {
-                    ended::<N>(alloc, inside.by().on().wanted(), choice, decisions, walk)
-                }
-                None => {
-                    let next = inside.behind(row.id);
-                    below_config::<N>(alloc, &next, decisions, walk)
-                }
-            }
+    inside.recall_room(row.id);
+    match inside.completed(row.id) {
+        Some(choice) => ended::<N>(alloc, inside.by().on().wanted(), choice, decisions, walk),
+        None => {
+            let next = inside.behind(row.id);
+            below_config::<N>(alloc, &next, decisions, walk)
         }
     }
 }
@@ -253,48 +341,6 @@ fn ended<const N: usize>(
             below_want::<N>(alloc, &next, decisions, walk)
         }
     }
-}
-
-/// How many trees lie on the stack.
-#[inline(always)]
-fn height(trees: &Vec<Block>) -> usize
-    ensures { result ≡ length trees.now.items }
-{
-    trees.len()
-}
-
-/// A broken rule, put on the stack. Room is made first, so that nothing is handed back.
-#[inline(always)]
-fn put_leaf(trees: &mut Vec<Block>, rule: Rule, number: u32) -> Result<(), Memory>
-    ensures { OnOk result (trees.new.items ≡ trees.old.items ++ broken_leaf rule number ∷ []) }
-{
-    trees.reserve(1)?;
-    trees.push_reserved(Block::broken(rule, number));
-    Ok(())
-}
-
-/// The trees from a place on, put into one, which takes their place on the stack.
-fn put_split(alloc: Global, trees: &mut Vec<Block>, base: usize) -> Result<(), Memory>
-    requires { base ≤ length trees.old.items }
-    ensures { OnOk result (trees.new.items ≡ take base trees.old.items ++ split (trees_of (drop base trees.old.items)) ∷ []) }
-{
-    let own = off_stack(alloc, trees, base)?;
-    trees.push(Block::split(own))?;
-    Ok(())
-}
-
-/// The trees from a place on, taken off the stack. Where that is all of it, its room goes with them.
-#[inline(always)]
-fn off_stack(alloc: Global, trees: &mut Vec<Block>, base: usize) -> Result<Vec<Block>, Memory>
-    requires { base ≤ length trees.old.items }
-    ensures own { IfOk result (λ own. own.items ≡ drop base trees.old.items) }
-    ensures kept { OnOk result (trees.new.items ≡ take base trees.old.items) }
-{
-    if base == 0 {
-        return Ok(std::mem::replace(trees, Vec::new(alloc)));
-    }
-    let own = trees.split_off(base)?;
-    Ok(own)
 }
 
 /// The choices as a list of their own, with room for one more. Mostly there are none, which takes no memory.

@@ -1,252 +1,206 @@
 -- option by option, with the trees of those in front
-use Rattle.std.proofs.Common.{◌≡◌, ◌-◌, ◌+◌, ◌++◌, ◌∷◌, [], false, IfOk, sym, ◌∙◌, ap, subst, arith, ◌≤◌, length, take, drop}
+use Rattle.std.proofs.Common.{◌≡◌, ◌++◌, ◌∷◌, [], false, IfOk, sym, ◌∙◌, ap, subst, arith, ◌<◌, length}
 use Rattle.std.specs.Option.{option_map}
-use Rattle.std.specs.Prelude.{ℕ}
-use Rattle.sect_model.specs.declared.pick.Pick.TheVariants.{Section}
-use Rattle.sect_model.specs.Path.{options_at, extend, is_complete}
-use Rattle.sect_model.specs.Search.{Searched, found, refuted, or_later, search_pick, search_from}
-use Rattle.sect_base.specs.Tree.{broken as broken_leaf, split, trees_of}
+use Rattle.sect_model.specs.declared.pick.Pick.TheVariants.{Course, Reservation, Config, Section}
+use Rattle.sect_model.specs.Path.{extend, is_complete}
+use Rattle.sect_model.specs.Search.{found, search_from}
 use Rattle.sect_moment.specs.Completed.{opened}
-use Rattle.sect_rules.specs.Due.{place_of, place_at, pick_at}
 use Rattle.sect_moment.specs.Found.{id_of}
+use Rattle.sect_rules.specs.Due.{wanted_place, course_place, joined_place, config_place}
 use Rattle.sect_rules.specs.Wanted.{OnCourse, Joined, Configured, course_path, joined_path, config_path}
-use Rattle.sect_search.specs.Texts.{HaveNumbers}
-use Rattle.sect_search.specs.Told.{told, own, look, behind, go_from, ToldNumbers, LeavesTrees}
-use Rattle.sect_search.proofs.OpenLemmas.{open-option, went-on, whole-from, want-after, open-want, goes}
-use Rattle.sect_search.proofs.WalkLemmas.{search-some, from, from-spent, from-none, from-found, from-over, from-next, both-numbers, own-both, kept-both, kept-room, drop-front, take-front, one-tree}
+use Rattle.sect_search.specs.Told.{told, own, go_from}
+use Rattle.sect_search.proofs.OpenLemmas.{open-left, open-option, went-on, whole-from, want-after, open-want, goes}
+use Rattle.sect_search.proofs.LookLemmas.{has-base, tells-itself, tells-behind, passed-all, passed-one, passed-found, passed-spent}
 use Rattle.sect_search.proofs.walk.+walking.Goals as goal
 
-pub below-returns-then-walk-eq0-clause-found : goal.below-returns-then-walk-eq0-clause-found
-below-returns-then-walk-eq0-clause-found g t c =
-    let w = (place_of c.args.due).world in
-    let mv = (place_of c.args.due).mv in
-    let p = (place_of c.args.due).path in
-    let rest = search_from w mv (c.args.decisions - 1) in
-    let before = c.args.walk.now.trees.items in
-    sym (search-some w mv c.args.decisions p c.args.walk.now.left (omega (arith, c.if-decisions-eq0.false))
-    ∙ c.options.invariant.same
-    ∙ (λ i. from w mv rest p (options_at w mv p) (own before c.options.walk.trees.items) c.options.at (c.if-walk-eq0.true i))
-    ∙ from-spent w mv rest p (options_at w mv p) (own before c.options.walk.trees.items) c.options.at (pick_at c.in-Some.step) (sym c.in-Some.ensures.value))
+-- courses
+pub below_want-returns-in-Found-clause-found : goal.below_want-returns-in-Found-clause-found
+below_want-returns-in-Found-clause-found g t c = passed-found c.courses.invariant.passed c.in-Some.ensures c.in_ok-visit_course.ensures.tells (omega (arith, c.if-decisions-eq0.false)) c.in-Found.is
 
-pub below-returns-in-Found-clause-found : goal.below-returns-in-Found-clause-found
-below-returns-in-Found-clause-found g t c =
-    let w = (place_of c.args.due).world in
-    let mv = (place_of c.args.due).mv in
-    let p = (place_of c.args.due).path in
-    let before = c.args.walk.now.trees.items in
-    let after = c.visit.new.walk in
-    sym (search-some w mv c.args.decisions p c.args.walk.now.left (omega (arith, c.if-decisions-eq0.false))
-    ∙ c.options.invariant.same
-    ∙ from-found w mv (search_from w mv (c.args.decisions - 1)) p (options_at w mv p) (own before c.options.walk.trees.items) c.options.at (c.options.walk.left - 1) c.options.walk.left after.left (pick_at c.in-Some.step) after.choices
-    (sym c.in-Some.ensures.value) (omega (arith, c.if-walk-eq0.false)) ((λ i. told (sym c.in-Found.is i) after.choices (own c.options.walk.trees.items after.trees.items) after.left) ∙ c.in_ok-visit.ensures.found
-    ∙ (λ i. look (c.in-Some.ensures.place i) (pick_at c.in-Some.step) (c.args.decisions - 1) (c.options.walk.left - 1))))
+pub below_want-returns-in-Spent-clause-found : goal.below_want-returns-in-Spent-clause-found
+below_want-returns-in-Spent-clause-found g t c = passed-spent c.courses.invariant.passed c.in-Some.ensures c.in_ok-visit_course.ensures.tells (omega (arith, c.if-decisions-eq0.false)) c.in-Spent.is
 
-pub below-returns-in-Spent-clause-found : goal.below-returns-in-Spent-clause-found
-below-returns-in-Spent-clause-found g t c =
-    let w = (place_of c.args.due).world in
-    let mv = (place_of c.args.due).mv in
-    let p = (place_of c.args.due).path in
-    let before = c.args.walk.now.trees.items in
-    let after = c.visit.new.walk in
-    sym (search-some w mv c.args.decisions p c.args.walk.now.left (omega (arith, c.if-decisions-eq0.false))
-    ∙ c.options.invariant.same
-    ∙ from-over w mv (search_from w mv (c.args.decisions - 1)) p (options_at w mv p) (own before c.options.walk.trees.items) c.options.at (c.options.walk.left - 1) c.options.walk.left (pick_at c.in-Some.step)
-    (sym c.in-Some.ensures.value) (omega (arith, c.if-walk-eq0.false)) ((λ i. told (sym c.in-Spent.is i) after.choices (own c.options.walk.trees.items after.trees.items) after.left) ∙ c.in_ok-visit.ensures.found
-    ∙ (λ i. look (c.in-Some.ensures.place i) (pick_at c.in-Some.step) (c.args.decisions - 1) (c.options.walk.left - 1))))
+pub below_want-returns-clause-found : goal.below_want-returns-clause-found
+below_want-returns-clause-found g t c = passed-all c.courses.invariant.passed (omega (arith, c.if-decisions-eq0.false)) (ap (option_map Course) (sym c.in_default.is) ∙ c.course.ensures)
 
-pub below-overflow_add-at : goal.below-overflow_add-at
-below-overflow_add-at g t c = omega (arith, c.options.invariant.less, c.if-walk-eq0.false)
+pub below_want-courses-preserved : goal.below_want-courses-preserved
+below_want-courses-preserved g t c = record {
+  passed = passed-one c.courses.invariant.passed c.in-Some.ensures c.in_ok-visit_course.ensures.tells c.in-Refuted.is;
+  whole = c.courses.invariant.whole;
+}
 
-pub below-options-preserved : goal.below-options-preserved
-below-options-preserved g t c =
-    let w = (place_of c.args.due).world in
-    let mv = (place_of c.args.due).mv in
-    let p = (place_of c.args.due).path in
-    let rest = search_from w mv (c.args.decisions - 1) in
-    let before = c.args.walk.now.trees.items in
-    let stack = c.options.walk.trees.items in
-    let after = c.visit.new.walk in
-    let stays : take (length stack) after.trees.items ≡ stack = subst (LeavesTrees stack after.trees.items) c.in-Refuted.is c.in_ok-visit.ensures.kept in
-    let more = own-both before stack after.trees.items c.options.invariant.kept stays in record {
-      same = c.options.invariant.same
-          ∙ from-next w mv rest p (options_at w mv p) (own before stack) (own stack after.trees.items) c.options.at (c.options.walk.left - 1) c.options.walk.left after.left (pick_at c.in-Some.step)
-          (sym c.in-Some.ensures.value) (omega (arith, c.if-walk-eq0.false)) ((λ i. told (sym c.in-Refuted.is i) after.choices (own stack after.trees.items) after.left) ∙ c.in_ok-visit.ensures.found
-          ∙ (λ i. look (c.in-Some.ensures.place i) (pick_at c.in-Some.step) (c.args.decisions - 1) (c.options.walk.left - 1)))
-          ∙ (λ i. from w mv rest p (options_at w mv p) (sym more i) (c.options.at + 1) after.left);
-      less = omega (arith, c.options.invariant.less, c.if-walk-eq0.false, c.visit.ensures.less);
-      whole = c.options.invariant.whole;
-      numbers = subst (λ trees. HaveNumbers (trees_of trees)) (sym more)
-          (both-numbers (own before stack) (own stack after.trees.items) c.options.invariant.numbers (subst (ToldNumbers (own stack after.trees.items)) c.in-Refuted.is c.in_ok-visit.ensures.numbers));
-      kept = kept-both before stack after.trees.items c.options.invariant.kept stays;
-    }
+pub below_want-overflow_add-at : goal.below_want-overflow_add-at
+below_want-overflow_add-at g t c = omega (arith, c.courses.invariant.passed.less)
 
-pub below-returns-clause-found : goal.below-returns-clause-found
-below-returns-clause-found g t c =
-    let w = (place_of c.args.due).world in
-    let mv = (place_of c.args.due).mv in
-    let p = (place_of c.args.due).path in
-    let before = c.args.walk.now.trees.items in
-    sym (search-some w mv c.args.decisions p c.args.walk.now.left (omega (arith, c.if-decisions-eq0.false))
-    ∙ c.options.invariant.same
-    ∙ from-none w mv (search_from w mv (c.args.decisions - 1)) p (options_at w mv p) (own before c.options.walk.trees.items) c.options.at c.options.walk.left (sym c.step_at.ensures.value ∙ ap (option_map pick_at) c.in_default.is))
+-- reservations
+pub below_course-returns-in-Found-clause-found : goal.below_course-returns-in-Found-clause-found
+below_course-returns-in-Found-clause-found g t c = passed-found c.reservations.invariant.passed c.in-Some.ensures.value c.in_ok-visit_reservation.ensures.tells (omega (arith, c.if-decisions-eq0.false)) c.in-Found.is
 
--- the option breaks a rule
-pub visit-returns-in-Some-clause-found : goal.visit-returns-in-Some-clause-found
-visit-returns-in-Some-clause-found g t c =
-    let at = place_at c.args.step in
-    let pick = pick_at c.args.step in
+pub below_course-returns-in-Spent-clause-found : goal.below_course-returns-in-Spent-clause-found
+below_course-returns-in-Spent-clause-found g t c = passed-spent c.reservations.invariant.passed c.in-Some.ensures.value c.in_ok-visit_reservation.ensures.tells (omega (arith, c.if-decisions-eq0.false)) c.in-Spent.is
+
+pub below_course-returns-clause-found : goal.below_course-returns-clause-found
+below_course-returns-clause-found g t c = passed-all c.reservations.invariant.passed (omega (arith, c.if-decisions-eq0.false)) (ap (option_map (λ row. Reservation (id_of row))) (sym c.in_default.is) ∙ c.reservation.ensures.value)
+
+pub below_course-reservations-preserved : goal.below_course-reservations-preserved
+below_course-reservations-preserved g t c = record {
+  passed = passed-one c.reservations.invariant.passed c.in-Some.ensures.value c.in_ok-visit_reservation.ensures.tells c.in-Refuted.is;
+  whole = c.reservations.invariant.whole;
+}
+
+pub below_course-overflow_add-at : goal.below_course-overflow_add-at
+below_course-overflow_add-at g t c = omega (arith, c.reservations.invariant.passed.less)
+
+-- configs
+pub below_reservation-returns-in-Found-clause-found : goal.below_reservation-returns-in-Found-clause-found
+below_reservation-returns-in-Found-clause-found g t c = passed-found c.configs.invariant.passed c.in-Some.ensures.value c.in_ok-visit_config.ensures.tells (omega (arith, c.if-decisions-eq0.false)) c.in-Found.is
+
+pub below_reservation-returns-in-Spent-clause-found : goal.below_reservation-returns-in-Spent-clause-found
+below_reservation-returns-in-Spent-clause-found g t c = passed-spent c.configs.invariant.passed c.in-Some.ensures.value c.in_ok-visit_config.ensures.tells (omega (arith, c.if-decisions-eq0.false)) c.in-Spent.is
+
+pub below_reservation-returns-clause-found : goal.below_reservation-returns-clause-found
+below_reservation-returns-clause-found g t c = passed-all c.configs.invariant.passed (omega (arith, c.if-decisions-eq0.false)) (ap (option_map (λ row. Config row.now.id)) (sym c.in_default.is) ∙ c.config.ensures.value)
+
+pub below_reservation-configs-preserved : goal.below_reservation-configs-preserved
+below_reservation-configs-preserved g t c = record {
+  passed = passed-one c.configs.invariant.passed c.in-Some.ensures.value c.in_ok-visit_config.ensures.tells c.in-Refuted.is;
+  whole = c.configs.invariant.whole;
+}
+
+pub below_reservation-overflow_add-at : goal.below_reservation-overflow_add-at
+below_reservation-overflow_add-at g t c = omega (arith, c.configs.invariant.passed.less)
+
+-- sections
+pub below_config-returns-in-Found-clause-found : goal.below_config-returns-in-Found-clause-found
+below_config-returns-in-Found-clause-found g t c = passed-found c.sections.invariant.passed c.in-Some.ensures.value c.in_ok-visit_section.ensures.tells (omega (arith, c.if-decisions-eq0.false)) c.in-Found.is
+
+pub below_config-returns-in-Spent-clause-found : goal.below_config-returns-in-Spent-clause-found
+below_config-returns-in-Spent-clause-found g t c = passed-spent c.sections.invariant.passed c.in-Some.ensures.value c.in_ok-visit_section.ensures.tells (omega (arith, c.if-decisions-eq0.false)) c.in-Spent.is
+
+pub below_config-returns-clause-found : goal.below_config-returns-clause-found
+below_config-returns-clause-found g t c = passed-all c.sections.invariant.passed (omega (arith, c.if-decisions-eq0.false)) (ap (option_map (λ row. Section row.now.id)) (sym c.in_default.is) ∙ c.section_at.ensures.value)
+
+pub below_config-sections-preserved : goal.below_config-sections-preserved
+below_config-sections-preserved g t c = record {
+  passed = passed-one c.sections.invariant.passed c.in-Some.ensures.value c.in_ok-visit_section.ensures.tells c.in-Refuted.is;
+  whole = c.sections.invariant.whole;
+}
+
+pub below_config-overflow_add-at : goal.below_config-overflow_add-at
+below_config-overflow_add-at g t c = omega (arith, c.sections.invariant.passed.less)
+
+-- a look at a course
+pub visit_course-returns-in-Some-clause-tells : goal.visit_course-returns-in-Some-clause-tells
+visit_course-returns-in-Some-clause-tells g t c =
+    let after = c.looked.new.walk in
+    tells-itself (wanted_place c.args.wanted.now) (Course c.args.course) c.args.decisions c.broken.result c.args.walk.now.left after.left c.args.walk.now.trees.items after.trees.items after.choices c.in-Some.searched
+    c.broken.ensures (sym c.in-Some.is ∙ c.in_ok-searched.ensures.found) c.in_ok-searched.ensures.trees c.in_ok-searched.ensures.numbers c.looked.ensures.left
+
+pub visit_course-closed-requires : goal.visit_course-closed-requires
+visit_course-closed-requires g t c = has-base c.height-base.result c.looked.new.walk.trees.items c.below_course.new.walk.trees.items c.in_ok-found.found c.height-base.ensures c.in_ok-found.ensures.kept
+
+pub visit_course-returns-clause-tells : goal.visit_course-returns-clause-tells
+visit_course-returns-clause-tells g t c =
+    let at = wanted_place c.args.wanted.now in
+    let before = c.looked.new.walk in
+    let after = c.below_course.new.walk in
+    let v : OnCourse = record { wanted = c.args.wanted.now; course = c.args.course } in
+    let follows =
+    c.in_ok-found.ensures.found
+    ∙ ap (λ v. search_from v.wanted.world v.wanted.mv c.args.decisions (course_path v) before.left) c.new-on.ensures
+    ∙ went-on v.wanted.world v.wanted.mv (course_path v) c.args.decisions before.left (open-left v.wanted.mv (course_path v) c.recall_left.ensures)
+    in
+    tells-behind at (Course c.args.course) c.args.decisions c.broken.result c.args.walk.now.left before.left after.left c.height-base.result c.args.walk.now.trees.items before.trees.items after.trees.items c.closed.new.trees.items after.choices c.in_ok-found.found
+    c.broken.ensures (sym c.in_default.is ∙ c.in_ok-searched.ensures.found) c.in_ok-searched.ensures.trees c.looked.ensures.left c.height-base.ensures
+    follows c.in_ok-found.ensures.numbers c.below_course.ensures.less c.in_ok-found.ensures.kept c.in_ok-closed.ensures
+
+-- a look at a reservation
+pub visit_reservation-returns-in-Some-clause-tells : goal.visit_reservation-returns-in-Some-clause-tells
+visit_reservation-returns-in-Some-clause-tells g t c =
+    let after = c.looked.new.walk in
+    tells-itself (course_place c.args.on.now) (Reservation (id_of c.args.row)) c.args.decisions c.broken.result c.args.walk.now.left after.left c.args.walk.now.trees.items after.trees.items after.choices c.in-Some.searched
+    c.broken.ensures (sym c.in-Some.is ∙ c.in_ok-searched.ensures.found) c.in_ok-searched.ensures.trees c.in_ok-searched.ensures.numbers c.looked.ensures.left
+
+pub visit_reservation-closed-requires : goal.visit_reservation-closed-requires
+visit_reservation-closed-requires g t c = has-base c.height-base.result c.looked.new.walk.trees.items c.below_reservation.new.walk.trees.items c.in_ok-found.found c.height-base.ensures c.in_ok-found.ensures.kept
+
+pub visit_reservation-returns-clause-tells : goal.visit_reservation-returns-clause-tells
+visit_reservation-returns-clause-tells g t c =
+    let at = course_place c.args.on.now in
+    let before = c.looked.new.walk in
+    let after = c.below_reservation.new.walk in
+    let v : Joined = record { on = c.args.on.now; id = id_of c.args.row } in
+    let follows =
+    c.in_ok-found.ensures.found
+    ∙ ap (λ v. search_from v.on.wanted.world v.on.wanted.mv c.args.decisions (joined_path v) before.left) c.new-by.ensures
+    ∙ went-on v.on.wanted.world v.on.wanted.mv (joined_path v) c.args.decisions before.left (open-left v.on.wanted.mv (joined_path v) (subst (λ v. length v.done < length v.mv.take) c.wanted.ensures c.recall_left.ensures))
+    in
+    tells-behind at (Reservation (id_of c.args.row)) c.args.decisions c.broken.result c.args.walk.now.left before.left after.left c.height-base.result c.args.walk.now.trees.items before.trees.items after.trees.items c.closed.new.trees.items after.choices c.in_ok-found.found
+    c.broken.ensures (sym c.in_default.is ∙ c.in_ok-searched.ensures.found) c.in_ok-searched.ensures.trees c.looked.ensures.left c.height-base.ensures
+    follows c.in_ok-found.ensures.numbers c.below_reservation.ensures.less c.in_ok-found.ensures.kept c.in_ok-closed.ensures
+
+-- a look at a config
+pub visit_config-returns-in-Some-clause-tells : goal.visit_config-returns-in-Some-clause-tells
+visit_config-returns-in-Some-clause-tells g t c =
+    let after = c.looked.new.walk in
+    tells-itself (joined_place c.args.by.now) (Config c.args.row.now.id) c.args.decisions c.broken.result c.args.walk.now.left after.left c.args.walk.now.trees.items after.trees.items after.choices c.in-Some.searched
+    c.broken.ensures (sym c.in-Some.is ∙ c.in_ok-searched.ensures.found) c.in_ok-searched.ensures.trees c.in_ok-searched.ensures.numbers c.looked.ensures.left
+
+pub visit_config-closed-requires : goal.visit_config-closed-requires
+visit_config-closed-requires g t c = has-base c.height-base.result c.looked.new.walk.trees.items c.below_config.new.walk.trees.items c.in_ok-found.found c.height-base.ensures c.in_ok-found.ensures.kept
+
+pub visit_config-returns-clause-tells : goal.visit_config-returns-clause-tells
+visit_config-returns-clause-tells g t c =
+    let at = joined_place c.args.by.now in
+    let before = c.looked.new.walk in
+    let after = c.below_config.new.walk in
+    let v : Configured = record { by = c.args.by.now; config = c.args.row.now.id; sections = [] } in
+    let follows =
+    c.in_ok-found.ensures.found
+    ∙ ap (λ v. search_from v.by.on.wanted.world v.by.on.wanted.mv c.args.decisions (config_path v) before.left) c.new-inside.ensures
+    ∙ went-on v.by.on.wanted.world v.by.on.wanted.mv (config_path v) c.args.decisions before.left (open-left v.by.on.wanted.mv (config_path v) (subst (λ v. length v.done < length v.mv.take) (c.wanted.ensures ∙ ap (λ on. on.wanted) c.on.ensures) c.recall_left.ensures))
+    in
+    tells-behind at (Config c.args.row.now.id) c.args.decisions c.broken.result c.args.walk.now.left before.left after.left c.height-base.result c.args.walk.now.trees.items before.trees.items after.trees.items c.closed.new.trees.items after.choices c.in_ok-found.found
+    c.broken.ensures (sym c.in_default.is ∙ c.in_ok-searched.ensures.found) c.in_ok-searched.ensures.trees c.looked.ensures.left c.height-base.ensures
+    follows c.in_ok-found.ensures.numbers c.below_config.ensures.less c.in_ok-found.ensures.kept c.in_ok-closed.ensures
+
+-- a look at a section
+pub visit_section-returns-in-Some-clause-tells : goal.visit_section-returns-in-Some-clause-tells
+visit_section-returns-in-Some-clause-tells g t c =
+    let after = c.looked.new.walk in
+    tells-itself (config_place c.args.inside.now) (Section c.args.row.now.id) c.args.decisions c.broken.result c.args.walk.now.left after.left c.args.walk.now.trees.items after.trees.items after.choices c.in-Some.searched
+    c.broken.ensures (sym c.in-Some.is ∙ c.in_ok-searched.ensures.found) c.in_ok-searched.ensures.trees c.in_ok-searched.ensures.numbers c.looked.ensures.left
+
+pub visit_section-closed-requires : goal.visit_section-closed-requires
+visit_section-closed-requires g t c = has-base c.height-base.result c.looked.new.walk.trees.items c.behind_section.new.walk.trees.items c.in_ok-found.found c.height-base.ensures c.in_ok-found.ensures.kept
+
+pub visit_section-returns-clause-tells : goal.visit_section-returns-clause-tells
+visit_section-returns-clause-tells g t c =
+    let at = config_place c.args.inside.now in
+    let before = c.looked.new.walk in
+    let after = c.behind_section.new.walk in
+    tells-behind at (Section c.args.row.now.id) c.args.decisions c.broken.result c.args.walk.now.left before.left after.left c.height-base.result c.args.walk.now.trees.items before.trees.items after.trees.items c.closed.new.trees.items after.choices c.in_ok-found.found
+    c.broken.ensures (sym c.in_default.is ∙ c.in_ok-searched.ensures.found) c.in_ok-searched.ensures.trees c.looked.ensures.left c.height-base.ensures
+    c.in_ok-found.ensures.found c.in_ok-found.ensures.numbers c.behind_section.ensures.less c.in_ok-found.ensures.kept c.in_ok-closed.ensures
+
+-- behind a section another is due
+pub behind_section-returns-in-None-clause-found : goal.behind_section-returns-in-None-clause-found
+behind_section-returns-in-None-clause-found g t c =
     let n = c.args.decisions in
     let left = c.args.walk.now.left in
     let before = c.args.walk.now.trees.items in
-    let leaf = broken_leaf c.in-Some.rule c.in-Some.number in
-    (λ i. refuted ((ap (own before) c.in_ok-put_leaf.ensures ∙ drop-front before (leaf ∷ [])) i) left)
-    ∙ (λ i. search_pick ((sym c.in-Some.is ∙ c.broken.ensures) i) (is_complete at.mv (extend at.world at.path pick)) (extend at.world at.path pick).done
-    (search_from at.world at.mv n (extend at.world at.path pick)) (λ left. refuted [] left) left)
-
-pub visit-returns-in-Found-clause-found : goal.visit-returns-in-Found-clause-found
-visit-returns-in-Found-clause-found g t c =
-    let at = place_at c.args.step in
-    let pick = pick_at c.args.step in
-    let n = c.args.decisions in
-    let left = c.args.walk.now.left in
-    let after = c.go_behind.new.walk in
-    let before = c.args.walk.now.trees.items in
-    let later : ℕ → Searched = (λ left. refuted [] left) in
-    let whole = is_complete at.mv (extend at.world at.path pick) in
-    let done = (extend at.world at.path pick).done in
-    let inner = search_from at.world at.mv n (extend at.world at.path pick) in
-    ap (or_later later) ((λ i. told (sym c.in-Found.is i) after.choices (own before after.trees.items) after.left) ∙ c.in_ok-go_behind.ensures.found)
-    ∙ sym (one-tree whole done inner left)
-    ∙ (λ i. search_pick ((sym c.in_default.is ∙ c.broken.ensures) i) whole done inner later left)
-
--- the trees of what follows the option are put into one
-pub visit-put_split-requires : goal.visit-put_split-requires
-visit-put_split-requires g t c =
-    let after = c.go_behind.new.walk in
-    let before = c.args.walk.now.trees.items in
-    let stays : take (length before) after.trees.items ≡ before = subst (LeavesTrees before after.trees.items) c.in-Refuted.is c.in_ok-go_behind.ensures.kept in
-    subst (λ n. n ≤ length after.trees.items) (sym c.height-base.ensures) (kept-room before after.trees.items stays)
-
-pub visit-returns-in_ok-put_split-in-Refuted-clause-found : goal.visit-returns-in_ok-put_split-in-Refuted-clause-found
-visit-returns-in_ok-put_split-in-Refuted-clause-found g t c =
-    let at = place_at c.args.step in
-    let pick = pick_at c.args.step in
-    let n = c.args.decisions in
-    let left = c.args.walk.now.left in
-    let after = c.go_behind.new.walk in
-    let before = c.args.walk.now.trees.items in
-    let later : ℕ → Searched = (λ left. refuted [] left) in
-    let whole = is_complete at.mv (extend at.world at.path pick) in
-    let done = (extend at.world at.path pick).done in
-    let inner = search_from at.world at.mv n (extend at.world at.path pick) in
-    let stays : take (length before) after.trees.items ≡ before = subst (LeavesTrees before after.trees.items) c.in-Refuted.is c.in_ok-go_behind.ensures.kept in
-    let tree = split (trees_of (own before after.trees.items)) in
-    let put = c.in_ok-put_split-in-Refuted.ensures ∙ (λ i. take (c.height-base.ensures i) after.trees.items ++ split (trees_of (drop (c.height-base.ensures i) after.trees.items)) ∷ []) ∙ ap (λ trees. trees ++ tree ∷ []) stays in
-    (λ i. refuted ((ap (own before) put ∙ drop-front before (tree ∷ [])) i) after.left)
-    ∙ ap (or_later later) ((λ i. told (sym c.in-Refuted.is i) after.choices (own before after.trees.items) after.left) ∙ c.in_ok-go_behind.ensures.found)
-    ∙ sym (one-tree whole done inner left)
-    ∙ (λ i. search_pick ((sym c.in_default.is ∙ c.broken.ensures) i) whole done inner later left)
-
-pub visit-returns-in_ok-put_split-in-Refuted-clause-numbers : goal.visit-returns-in_ok-put_split-in-Refuted-clause-numbers
-visit-returns-in_ok-put_split-in-Refuted-clause-numbers g t c =
-    let after = c.go_behind.new.walk in
-    let before = c.args.walk.now.trees.items in
-    let stays : take (length before) after.trees.items ≡ before = subst (LeavesTrees before after.trees.items) c.in-Refuted.is c.in_ok-go_behind.ensures.kept in
-    let tree = split (trees_of (own before after.trees.items)) in
-    let put = c.in_ok-put_split-in-Refuted.ensures ∙ (λ i. take (c.height-base.ensures i) after.trees.items ++ split (trees_of (drop (c.height-base.ensures i) after.trees.items)) ∷ []) ∙ ap (λ trees. trees ++ tree ∷ []) stays in
-    subst (λ trees. HaveNumbers (trees_of trees)) (sym (ap (own before) put ∙ drop-front before (tree ∷ [])))
-    (subst (ToldNumbers (own before after.trees.items)) c.in-Refuted.is c.in_ok-go_behind.ensures.numbers, tt)
-
-pub visit-returns-in_ok-put_split-in-Refuted-clause-kept : goal.visit-returns-in_ok-put_split-in-Refuted-clause-kept
-visit-returns-in_ok-put_split-in-Refuted-clause-kept g t c =
-    let after = c.go_behind.new.walk in
-    let before = c.args.walk.now.trees.items in
-    let stays : take (length before) after.trees.items ≡ before = subst (LeavesTrees before after.trees.items) c.in-Refuted.is c.in_ok-go_behind.ensures.kept in
-    let tree = split (trees_of (own before after.trees.items)) in
-    let put = c.in_ok-put_split-in-Refuted.ensures ∙ (λ i. take (c.height-base.ensures i) after.trees.items ++ split (trees_of (drop (c.height-base.ensures i) after.trees.items)) ∷ []) ∙ ap (λ trees. trees ++ tree ∷ []) stays in
-    ap (take (length before)) put ∙ take-front before (tree ∷ [])
-
-pub visit-returns-in-Spent-clause-found : goal.visit-returns-in-Spent-clause-found
-visit-returns-in-Spent-clause-found g t c =
-    let at = place_at c.args.step in
-    let pick = pick_at c.args.step in
-    let n = c.args.decisions in
-    let left = c.args.walk.now.left in
-    let after = c.go_behind.new.walk in
-    let before = c.args.walk.now.trees.items in
-    let later : ℕ → Searched = (λ left. refuted [] left) in
-    let whole = is_complete at.mv (extend at.world at.path pick) in
-    let done = (extend at.world at.path pick).done in
-    let inner = search_from at.world at.mv n (extend at.world at.path pick) in
-    ap (or_later later) ((λ i. told (sym c.in-Spent.is i) after.choices (own before after.trees.items) after.left) ∙ c.in_ok-go_behind.ensures.found)
-    ∙ sym (one-tree whole done inner left)
-    ∙ (λ i. search_pick ((sym c.in_default.is ∙ c.broken.ensures) i) whole done inner later left)
-
--- the option is a course
-pub go_behind-returns-in-Course-clause-found : goal.go_behind-returns-in-Course-clause-found
-go_behind-returns-in-Course-clause-found g t c =
-    let at = place_at c.args.step in
-    let n = c.args.decisions in
-    let left = c.args.walk.now.left in
-    let before = c.args.walk.now.trees.items in
-    let v : OnCourse = record { wanted = c.in-Course.wanted.now; course = c.in-Course.course } in
-    let going = subst (λ q. is_complete q.mv q.path ≡ false) (ap place_at c.in-Course.is) (open-option at.world at.mv at.path (pick_at c.args.step) c.requires.option) in
-    subst (λ x. IfOk c.below_course.result (λ r. told r c.below_course.new.walk.choices (own before c.below_course.new.walk.trees.items) c.below_course.new.walk.left ≡ x))
-    (ap (λ v. search_from v.wanted.world v.wanted.mv n (course_path v) left) c.new-on.ensures
-    ∙ went-on v.wanted.world v.wanted.mv (course_path v) n left going
-    ∙ (λ i. behind (place_at (sym c.in-Course.is i)) (pick_at (sym c.in-Course.is i)) n left))
-    c.below_course.ensures.found
-
--- the option is a reservation, or none
-pub go_behind-returns-in-Reservation-clause-found : goal.go_behind-returns-in-Reservation-clause-found
-go_behind-returns-in-Reservation-clause-found g t c =
-    let at = place_at c.args.step in
-    let n = c.args.decisions in
-    let left = c.args.walk.now.left in
-    let before = c.args.walk.now.trees.items in
-    let v : Joined = record { on = c.in-Reservation.on.now; id = id_of c.in-Reservation.row } in
-    let going = subst (λ q. is_complete q.mv q.path ≡ false) (ap place_at c.in-Reservation.is) (open-option at.world at.mv at.path (pick_at c.args.step) c.requires.option) in
-    subst (λ x. IfOk c.below_reservation.result (λ r. told r c.below_reservation.new.walk.choices (own before c.below_reservation.new.walk.trees.items) c.below_reservation.new.walk.left ≡ x))
-    (ap (λ v. search_from v.on.wanted.world v.on.wanted.mv n (joined_path v) left) c.new-by.ensures
-    ∙ went-on v.on.wanted.world v.on.wanted.mv (joined_path v) n left going
-    ∙ (λ i. behind (place_at (sym c.in-Reservation.is i)) (pick_at (sym c.in-Reservation.is i)) n left))
-    c.below_reservation.ensures.found
-
--- the option is a configuration
-pub go_behind-returns-in-Config-clause-found : goal.go_behind-returns-in-Config-clause-found
-go_behind-returns-in-Config-clause-found g t c =
-    let at = place_at c.args.step in
-    let n = c.args.decisions in
-    let left = c.args.walk.now.left in
-    let before = c.args.walk.now.trees.items in
-    let v : Configured = record { by = c.in-Config.by.now; config = c.in-Config.row.now.id; sections = [] } in
-    let going = subst (λ q. is_complete q.mv q.path ≡ false) (ap place_at c.in-Config.is) (open-option at.world at.mv at.path (pick_at c.args.step) c.requires.option) in
-    subst (λ x. IfOk c.below_config.result (λ r. told r c.below_config.new.walk.choices (own before c.below_config.new.walk.trees.items) c.below_config.new.walk.left ≡ x))
-    (ap (λ v. search_from v.by.on.wanted.world v.by.on.wanted.mv n (config_path v) left) c.new-inside.ensures
-    ∙ went-on v.by.on.wanted.world v.by.on.wanted.mv (config_path v) n left going
-    ∙ (λ i. behind (place_at (sym c.in-Config.is i)) (pick_at (sym c.in-Config.is i)) n left))
-    c.below_config.ensures.found
-
--- the option is a section, behind which another is due
-pub go_behind-returns-in-None-clause-found : goal.go_behind-returns-in-None-clause-found
-go_behind-returns-in-None-clause-found g t c =
-    let at = place_at c.args.step in
-    let n = c.args.decisions in
-    let left = c.args.walk.now.left in
-    let before = c.args.walk.now.trees.items in
-    let u = c.in-Section.inside.now in
+    let u = c.args.inside.now in
     let w = u.by.on.wanted.world in
     let mv = u.by.on.wanted.mv in
-    let section = c.in-Section.row.now.id in
+    let section = c.args.row.now.id in
     let v : Configured = record u { sections = u.sections ++ section ∷ [] } in
-    let going = subst (λ q. is_complete q.mv q.path ≡ false) (ap place_at c.in-Section.is) (open-option at.world at.mv at.path (pick_at c.args.step) c.requires.option) in
+    let going : is_complete mv (config_path v) ≡ false = open-option w mv (config_path u) (Section section) c.requires.option in
     let on : extend w (config_path u) (Section section) ≡ config_path v = goes w u section (sym c.completed.ensures ∙ c.in-None.is) in
-    subst (λ x. IfOk c.below_config-in-None.result (λ r. told r c.below_config-in-None.new.walk.choices (own before c.below_config-in-None.new.walk.trees.items) c.below_config-in-None.new.walk.left ≡ x))
+    subst (λ x. IfOk c.below_config.result (λ r. told r c.below_config.new.walk.choices (own before c.below_config.new.walk.trees.items) c.below_config.new.walk.left ≡ x))
     (ap (λ v. search_from v.by.on.wanted.world v.by.on.wanted.mv n (config_path v) left) c.behind-next.ensures
     ∙ went-on w mv (config_path v) n left going
-    ∙ (λ i. go_from w mv (sym on i) n left)
-    ∙ (λ i. behind (place_at (sym c.in-Section.is i)) (pick_at (sym c.in-Section.is i)) n left))
-    c.below_config-in-None.ensures.found
+    ∙ (λ i. go_from w mv (sym on i) n left))
+    c.below_config.ensures.found
 
 -- a want is left behind the choice
 pub ended-returns-in-Some-clause-found : goal.ended-returns-in-Some-clause-found

@@ -1,50 +1,71 @@
--- the options behind are searched with what is left, behind the trees of those in front,
--- which lie on the stack over those that lay there before
-use Rattle.std.proofs.Common.{◌≡◌, ◌+◌, ◌-◌, ◌*◌, ◌≤◌, length, take, drop}
-use Rattle.sect_model.specs.Path.{options_at}
-use Rattle.sect_model.specs.Search.{search_options, search_from}
-use Rattle.sect_base.specs.Tree.{trees_of}
-use Rattle.sect_rules.specs.Due.{place_of}
-use Rattle.sect_search.specs.Texts.{HaveNumbers}
-use Rattle.sect_search.specs.Told.{own, with_trees}
+-- so many options were looked at: each took some of the budget
+use Rattle.std.proofs.Common.{◌≡◌, ◌+◌, ◌*◌}
+use Rattle.sect_rules.specs.Due.{wanted_place, course_place, joined_place, config_place}
+use Rattle.sect_search.proofs.LookLemmas.{Passed}
 use Rattle.sect_search.proofs.walk.+walking.Given as goal
 
 abbrev pub decreases-below_want : goal.decreases-below_want
-decreases-below_want g l = 5 * l.decisions + 1
+decreases-below_want g l = 4 * l.decisions
 
 abbrev pub decreases-below_course : goal.decreases-below_course
-decreases-below_course g l = 5 * l.decisions + 1
+decreases-below_course g l = 4 * l.decisions
 
 abbrev pub decreases-below_reservation : goal.decreases-below_reservation
-decreases-below_reservation g l = 5 * l.decisions + 1
+decreases-below_reservation g l = 4 * l.decisions
 
 abbrev pub decreases-below_config : goal.decreases-below_config
-decreases-below_config g l = 5 * l.decisions + 1
+decreases-below_config g l = 4 * l.decisions
 
-abbrev pub decreases-below : goal.decreases-below
-decreases-below g l = 5 * l.decisions
+abbrev pub decreases-visit_course : goal.decreases-visit_course
+decreases-visit_course g l = 4 * l.decisions + 3
 
-abbrev pub decreases-visit : goal.decreases-visit
-decreases-visit g l = 5 * l.decisions + 4
+abbrev pub decreases-visit_reservation : goal.decreases-visit_reservation
+decreases-visit_reservation g l = 4 * l.decisions + 3
 
-abbrev pub decreases-go_behind : goal.decreases-go_behind
-decreases-go_behind g l = 5 * l.decisions + 3
+abbrev pub decreases-visit_config : goal.decreases-visit_config
+decreases-visit_config g l = 4 * l.decisions + 3
+
+abbrev pub decreases-visit_section : goal.decreases-visit_section
+decreases-visit_section g l = 4 * l.decisions + 3
+
+abbrev pub decreases-behind_section : goal.decreases-behind_section
+decreases-behind_section g l = 4 * l.decisions + 2
 
 abbrev pub decreases-ended : goal.decreases-ended
-decreases-ended g l = 5 * l.decisions + 2
+decreases-ended g l = 4 * l.decisions + 1
 
-abbrev pub invariant-below-options : goal.invariant-below-options
-invariant-below-options g l =
-    let w = (place_of l.due).world in
-    let mv = (place_of l.due).mv in
-    let p = (place_of l.due).path in record {
-      same : search_options w mv (search_from w mv (l.decisions - 1)) p (options_at w mv p) l.initial.walk.left
-          ≡ with_trees (own l.initial.walk.trees.items l.walk.trees.items) (search_options w mv (search_from w mv (l.decisions - 1)) p (drop l.at (options_at w mv p)) l.walk.left);
-      less : l.at + l.walk.left ≤ l.budget;
-      whole : l.budget ≡ l.initial.walk.left;
-      numbers : HaveNumbers (trees_of (own l.initial.walk.trees.items l.walk.trees.items));
-      kept : take (length l.initial.walk.trees.items) l.walk.trees.items ≡ l.initial.walk.trees.items;
-    }
+abbrev pub invariant-below_want-courses : goal.invariant-below_want-courses
+invariant-below_want-courses g l = record {
+  passed : Passed (wanted_place l.wanted) l.decisions l.initial.walk.trees.items l.budget l.walk.trees.items l.at l.walk.left;
+  whole : l.budget ≡ l.initial.walk.left;
+}
 
-abbrev pub decreases-below-options : goal.decreases-below-options
-decreases-below-options g l = l.walk.left
+abbrev pub decreases-below_want-courses : goal.decreases-below_want-courses
+decreases-below_want-courses g l = l.walk.left
+
+abbrev pub invariant-below_course-reservations : goal.invariant-below_course-reservations
+invariant-below_course-reservations g l = record {
+  passed : Passed (course_place l.on) l.decisions l.initial.walk.trees.items l.budget l.walk.trees.items l.at l.walk.left;
+  whole : l.budget ≡ l.initial.walk.left;
+}
+
+abbrev pub decreases-below_course-reservations : goal.decreases-below_course-reservations
+decreases-below_course-reservations g l = l.walk.left
+
+abbrev pub invariant-below_reservation-configs : goal.invariant-below_reservation-configs
+invariant-below_reservation-configs g l = record {
+  passed : Passed (joined_place l.by) l.decisions l.initial.walk.trees.items l.budget l.walk.trees.items l.at l.walk.left;
+  whole : l.budget ≡ l.initial.walk.left;
+}
+
+abbrev pub decreases-below_reservation-configs : goal.decreases-below_reservation-configs
+decreases-below_reservation-configs g l = l.walk.left
+
+abbrev pub invariant-below_config-sections : goal.invariant-below_config-sections
+invariant-below_config-sections g l = record {
+  passed : Passed (config_place l.inside) l.decisions l.initial.walk.trees.items l.budget l.walk.trees.items l.at l.walk.left;
+  whole : l.budget ≡ l.initial.walk.left;
+}
+
+abbrev pub decreases-below_config-sections : goal.decreases-below_config-sections
+decreases-below_config-sections g l = l.walk.left
