@@ -200,7 +200,7 @@ CHAPTERS = [
      ['sect_edge/specs/' + n + '.antt' for n in ('Causes', 'Keeper', 'Link', 'Clock', 'Memory')]),
     ('One history',
      'A log of any object, its history, and what each answer says of it.',
-     ['sect_once/specs/' + n + '.antt' for n in ('History', 'Faults', 'Told', 'Desks', 'Opening')]),
+     ['sect_once/specs/' + n + '.antt' for n in ('Places', 'History', 'Faults', 'Told', 'Desks', 'Opening')]),
     ('Throughout a history of the machine',
      'The changes by which each entry leads from world to world, and what its blocked replies refute. The laws stand on '
      'the functions of `crates/sect_history/src/laws.rt`.',

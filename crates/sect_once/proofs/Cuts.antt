@@ -1,7 +1,7 @@
--- Texts one behind another: how many there are, where each stands, and what one text more or less changes.
-use Rattle.std.proofs.Common.{◌≡◌, ℕ, zero, suc, ◌+◌, ◌-◌, ◌≤◌, ◌<◌, List, [], ◌∷◌, ◌++◌, length, take, drop, sum_by, slice_get, Some, refl, sym, ap, ◌∙◌, subst, arith, length-append}
+-- Texts one behind another: how many there are, where each stands, and what one text more changes.
+use Rattle.std.proofs.Common.{◌≡◌, ℕ, zero, suc, ◌+◌, ◌-◌, ◌≤◌, List, [], ◌∷◌, ◌++◌, length, take, drop, sum_by, slice_get, Some, refl, sym, ap, ◌∙◌, subst, arith, length-append}
 use Rattle.std.proofs.Math.Seq.{drop-nil}
-use Rattle.std.proofs.lemmas.List.{drop-append-le, length-drop, take-append-drop, take-append-le, take_all}
+use Rattle.std.proofs.lemmas.List.{drop-append-le, length-drop, take-append-le, take_all}
 use Rattle.std.proofs.lemmas.List.Sums.{sum_by-append}
 use Rattle.sect_once.specs.Cuts.{AreEnds, cut}
 
@@ -94,31 +94,6 @@ text_at bytes ends place start end h from to =
     let whole : start - 0 ≡ start = omega arith in
     (s.rises, s.within, s.text ∙ ap (λ (n : ℕ). Some (take (end - start) (drop n bytes))) whole)
 
--- the places before the last one, which begin at the first and end where the last text begins
-fronts : (at last : ℕ) (ends : List ℕ) (end start : ℕ) → AreEnds at last (ends ++ end ∷ []) → slice_get (at ∷ ends) (length ends) ≡ Some start → AreEnds at start ends × (start ≤ last) × (end ≡ last)
-fronts at last [] end start h from = let a : at ≡ start = cc in (a, omega (arith, a, h.0, h.1), h.1)
-fronts at last (e ∷ ends) end start h from = let f = fronts e last ends end start h.1 from in ((h.0, f.0), f.1, f.2)
-
--- one text less
-cut-pop : (bytes ends : List ℕ) (end start : ℕ) → AreEnds 0 (length bytes) (ends ++ end ∷ []) → slice_get (0 ∷ ends) (length ends) ≡ Some start
-    → AreEnds 0 (length (take start bytes)) ends × (cut 0 bytes (ends ++ end ∷ []) ≡ cut 0 (take start bytes) ends ++ drop start bytes ∷ [])
-cut-pop bytes ends end start h from =
-    let f = fronts 0 (length bytes) ends end start h from in
-    let long : length (take start bytes) ≡ start = length-take-le start bytes f.1 in
-    let back : end ≡ start + length (drop start bytes) = (let l = length-drop start bytes in let le = f.1 in let is = f.2 in omega (arith, l, le, is)) in
-    let more = cut-append 0 start end (take start bytes) ends (drop start bytes) (omega (arith, long)) f.0 back in
-    (subst (λ (n : ℕ). AreEnds 0 n ends) (sym long) f.0, ap (λ (xs : List ℕ). cut 0 xs (ends ++ end ∷ [])) (sym (take-append-drop start bytes)) ∙ more)
-
--- a list is its front and its last item, and the front has what stands before
-split_last : (ends : List ℕ) (last : ℕ) → 0 < length ends → last ≡ length ends - 1
-    → (end : ℕ) × (ends ≡ take last ends ++ end ∷ []) × ((at start : ℕ) → slice_get (at ∷ ends) last ≡ Some start → slice_get (at ∷ take last ends) (length (take last ends)) ≡ Some start)
-split_last [] last some is = absurd (omega (arith, some))
-split_last (e ∷ []) zero some is = (e, refl, λ at start from. from)
-split_last (e ∷ []) (suc last) some is = absurd (omega (arith, is))
-split_last (e ∷ f ∷ ends) zero some is = absurd (omega (arith, is))
-split_last (e ∷ f ∷ ends) (suc last) some is = let s = split_last (f ∷ ends) last (omega arith) (omega (arith, is)) in
-    (s.0, ap (λ (xs : List ℕ). e ∷ xs) s.1, λ at start from. s.2 e start from)
-
 -- one text more, as the code finds the parts
 pub pushed : (bytes bytes' ends ends' text : List ℕ) (more : ℕ) → AreEnds 0 (length bytes) ends → bytes' ≡ bytes ++ text → ends' ≡ ends ++ more ∷ [] → more ≡ length bytes'
     → AreEnds 0 (length bytes') ends' × (cut 0 bytes' ends' ≡ cut 0 bytes ends ++ text ∷ [])
@@ -126,14 +101,4 @@ pushed bytes bytes' ends ends' text more h b e all =
     let long : more ≡ length bytes + length text = (let l = length-append bytes text in all ∙ ap length b ∙ l) in (
       subst (λ (z : ℕ × List ℕ). AreEnds 0 z.0 z.1) (λ i. (all i, sym e i)) (ends-append 0 (length bytes) more ends h (omega (arith, long))),
       (λ i. cut 0 (b i) (e i)) ∙ cut-append 0 (length bytes) more bytes ends text (omega arith) h long,
-    )
-
--- one text less, as the code finds the parts
-pub popped : (bytes bytes' ends ends' : List ℕ) (last start : ℕ) → AreEnds 0 (length bytes) ends → 0 < length ends → last ≡ length ends - 1 → slice_get (0 ∷ ends) last ≡ Some start
-    → bytes' ≡ take start bytes → ends' ≡ take last ends → AreEnds 0 (length bytes') ends' × ((text : List ℕ) × (cut 0 bytes ends ≡ cut 0 bytes' ends' ++ text ∷ []))
-popped bytes bytes' ends ends' last start h some last_is from b e =
-    let f = split_last ends last some last_is in
-    let p = cut-pop bytes (take last ends) f.0 start (subst (AreEnds 0 (length bytes)) f.1 h) (f.2 0 start from) in (
-      subst (λ (z : List ℕ × List ℕ). AreEnds 0 (length z.0) z.1) (λ i. (sym b i, sym e i)) p.0,
-      (drop start bytes, ap (cut 0 bytes) f.1 ∙ p.1 ∙ (λ i. cut 0 (sym b i) (sym e i) ++ drop start bytes ∷ [])),
     )

@@ -1,4 +1,5 @@
 pub mod Cuts
+pub mod Slots
 pub mod Logs
 pub mod Rows
 pub mod Pasts

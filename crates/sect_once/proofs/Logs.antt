@@ -2,8 +2,6 @@
 use Rattle.std.proofs.Common.{◌≡◌, ℕ, zero, suc, ◌+◌, ◌-◌, ◌≤◌, ◌<◌, List, [], ◌∷◌, ◌++◌, length, length-append, take, drop, refl, sym, ap, ◌∙◌, subst, inl, inr, ◌⊎◌, ⊎_elim, arith, Option, None, Some, slice_get, cond, eqb, Bool, true, false, ◌^◌}
 use Rattle.std.proofs.lemmas.List.{append_assoc, drop-append-le, drop_all, length-drop, take-append-drop, take-append-le, take_all}
 use Rattle.std.proofs.lemmas.Bool.{eq-eqb, eqb-true, ne_eqb}
-use Rattle.std.specs.Prelude.{nat_eq}
-use Rattle.std.specs.HashMap.{HashMap, get}
 use Rattle.sect_base.specs.declared.limit.Id.{Id}
 use Rattle.sect_base.specs.declared.limit.Caller.{Caller}
 use Rattle.sect_base.specs.declared.limit.Caller.TheVariants.{Registrar, Student}
@@ -14,6 +12,7 @@ use Rattle.sect_once.specs.declared.entry.Unkept.{Unkept}
 use Rattle.sect_once.specs.declared.answer.Seen.{Seen}
 use Rattle.sect_once.specs.declared.answer.Seen.TheVariants.{New, Place, Reused}
 use Rattle.sect_once.specs.Desks.{FindsIn, SeesEntry}
+use Rattle.sect_once.specs.Places.{placed}
 use Rattle.sect_once.specs.History.{caller_key, key_of, acted_log, history, log_of, faulted, AreUnkept, IsNew, IsIndex, ActsOnce, IsReplay, state_after}
 use Rattle.sect_once.proofs.Rows.{acted_log-append, history-acted_log, length-acted_log}
 
@@ -148,60 +147,52 @@ module _ {C R : Type 0} where
   get-last (x ∷ es) e = get-last es e
 
   -- an index acts once
-  pub index-once : {S : Type 0} (m : HashMap ℕ ℕ S) (es : List (Entry C R)) → IsIndex m es → ActsOnce es
+  pub index-once : (m : List ℕ) (es : List (Entry C R)) → IsIndex m es → ActsOnce es
   index-once m es x p q e f at at' same = let a = x.all p e at in let b = x.all q f at' in
-      let c : get nat_eq m (key_of e.id) ≡ get nat_eq m (key_of f.id) = ap (λ (i : Id). get nat_eq m (key_of i)) same in cc
+      let c : placed m (key_of e.id) ≡ placed m (key_of f.id) = ap (λ (i : Id). placed m (key_of i)) same in cc
 
   -- an entry of another id has another key
-  other_key : {S : Type 0} (m : HashMap ℕ ℕ S) (es : List (Entry C R)) (id : Id) → IsIndex m es → IsNew id es → id.number < 2 ^ 64
+  other_key : (m : List ℕ) (es : List (Entry C R)) (id : Id) → IsIndex m es → IsNew id es → id.number < 2 ^ 64
       → (place : ℕ) (e : Entry C R) → slice_get es place ≡ Some e → eqb (key_of id) (key_of e.id) ≡ false
   other_key m es id x new small place e at = ne_eqb (key_of id) (key_of e.id) (λ (k : key_of id ≡ key_of e.id). new place e at (sym (own_key id e.id small (x.small place e at) k)))
 
-  -- a map with the same places
-  pub index-same : {S : Type 0} (m n : HashMap ℕ ℕ S) (es : List (Entry C R)) → ((q : ℕ) → get nat_eq n q ≡ get nat_eq m q) → IsIndex m es → IsIndex n es
-  index-same m n es stays x = record {
-    all = λ place e at. stays (key_of e.id) ∙ x.all place e at;
-    small = x.small;
-    only = λ key place h. x.only key place (sym (stays key) ∙ h);
-  }
-
   -- a new id has no place
-  pub index-free : {S : Type 0} (m : HashMap ℕ ℕ S) (es : List (Entry C R)) (id : Id) → IsIndex m es → IsNew id es → id.number < 2 ^ 64 → get nat_eq m (key_of id) ≡ None
-  index-free m es id x new small = none_of (get nat_eq m (key_of id)) refl
+  pub index-free : (m : List ℕ) (es : List (Entry C R)) (id : Id) → IsIndex m es → IsNew id es → id.number < 2 ^ 64 → placed m (key_of id) ≡ None
+  index-free m es id x new small = none_of (placed m (key_of id)) refl
     where
-      none_of : (o : Option ℕ) → get nat_eq m (key_of id) ≡ o → o ≡ None
+      none_of : (o : Option ℕ) → placed m (key_of id) ≡ o → o ≡ None
       none_of None h = refl
       none_of (Some place) h = let t = x.only (key_of id) place h in absurd (new place t.0 t.1 (own_key t.0.id id (x.small place t.0 t.1) small t.2))
 
   -- the place of a key is that of the entry with the id
-  pub index-finds : {S : Type 0} (m : HashMap ℕ ℕ S) (es : List (Entry C R)) (id : Id) (place : ℕ) → IsIndex m es → id.number < 2 ^ 64 → get nat_eq m (key_of id) ≡ Some place
+  pub index-finds : (m : List ℕ) (es : List (Entry C R)) (id : Id) (place : ℕ) → IsIndex m es → id.number < 2 ^ 64 → placed m (key_of id) ≡ Some place
       → (e : Entry C R) × (slice_get es place ≡ Some e) × (e.id ≡ id)
   index-finds m es id place x small h = let t = x.only (key_of id) place h in (t.0, t.1, own_key t.0.id id (x.small place t.0 t.1) small t.2)
 
   -- an id without a place is new
-  pub index-misses : {S : Type 0} (m : HashMap ℕ ℕ S) (es : List (Entry C R)) (id : Id) → IsIndex m es → get nat_eq m (key_of id) ≡ None → IsNew id es
-  index-misses m es id x none place e at same = let here = x.all place e at in let there : get nat_eq m (key_of e.id) ≡ get nat_eq m (key_of id) = ap (λ (i : Id). get nat_eq m (key_of i)) same in absurd cc
+  pub index-misses : (m : List ℕ) (es : List (Entry C R)) (id : Id) → IsIndex m es → placed m (key_of id) ≡ None → IsNew id es
+  index-misses m es id x none place e at same = let here = x.all place e at in let there : placed m (key_of e.id) ≡ placed m (key_of id) = ap (λ (i : Id). placed m (key_of i)) same in absurd cc
 
-  -- the map with one more place
-  pub index-append : {S : Type 0} (m n : HashMap ℕ ℕ S) (es : List (Entry C R)) (e : Entry C R) → IsIndex m es → IsNew e.id es → e.id.number < 2 ^ 64
-      → ((q : ℕ) → get nat_eq n q ≡ cond (eqb (key_of e.id) q) (Some (length es)) (get nat_eq m q)) → IsIndex n (es ++ e ∷ [])
+  -- the keys with one more
+  pub index-append : (m n : List ℕ) (es : List (Entry C R)) (e : Entry C R) → IsIndex m es → IsNew e.id es → e.id.number < 2 ^ 64
+      → ((q : ℕ) → placed n q ≡ cond (eqb (key_of e.id) q) (Some (length es)) (placed m q)) → IsIndex n (es ++ e ∷ [])
   index-append m n es e x new small puts = record {
     all = λ place f at. ⊎_elim
-        (λ (t : slice_get es place ≡ Some f). puts (key_of f.id) ∙ ap (λ (b : Bool). cond b (Some (length es)) (get nat_eq m (key_of f.id))) (other_key m es e.id x new small place f t) ∙ x.all place f t)
-        (λ (t : (place ≡ length es) × (e ≡ f)). subst (λ (z : ℕ × Entry C R). get nat_eq n (key_of z.1.id) ≡ Some z.0) (λ i. (sym t.0 i, t.1 i)) last) (get-snoc es e place f at);
+        (λ (t : slice_get es place ≡ Some f). puts (key_of f.id) ∙ ap (λ (b : Bool). cond b (Some (length es)) (placed m (key_of f.id))) (other_key m es e.id x new small place f t) ∙ x.all place f t)
+        (λ (t : (place ≡ length es) × (e ≡ f)). subst (λ (z : ℕ × Entry C R). placed n (key_of z.1.id) ≡ Some z.0) (λ i. (sym t.0 i, t.1 i)) last) (get-snoc es e place f at);
     small = λ place f at. ⊎_elim
         (λ (t : slice_get es place ≡ Some f). x.small place f t)
         (λ (t : (place ≡ length es) × (e ≡ f)). subst (λ (z : Entry C R). z.id.number < 2 ^ 64) t.1 small) (get-snoc es e place f at);
     only = λ key place h. only_at key place (eqb (key_of e.id) key) refl h;
   } where
-    last : get nat_eq n (key_of e.id) ≡ Some (length es)
-    last = puts (key_of e.id) ∙ ap (λ (b : Bool). cond b (Some (length es)) (get nat_eq m (key_of e.id))) (eq-eqb (key_of e.id) (key_of e.id) refl)
+    last : placed n (key_of e.id) ≡ Some (length es)
+    last = puts (key_of e.id) ∙ ap (λ (b : Bool). cond b (Some (length es)) (placed m (key_of e.id))) (eq-eqb (key_of e.id) (key_of e.id) refl)
 
-    only_at : (key place : ℕ) (b : Bool) → eqb (key_of e.id) key ≡ b → get nat_eq n key ≡ Some place → (f : Entry C R) × (slice_get (es ++ e ∷ []) place ≡ Some f) × (key_of f.id ≡ key)
+    only_at : (key place : ℕ) (b : Bool) → eqb (key_of e.id) key ≡ b → placed n key ≡ Some place → (f : Entry C R) × (slice_get (es ++ e ∷ []) place ≡ Some f) × (key_of f.id ≡ key)
     only_at key place true is h =
-        let here : Some (length es) ≡ Some place = sym (puts key ∙ ap (λ (b : Bool). cond b (Some (length es)) (get nat_eq m key)) is) ∙ h in
+        let here : Some (length es) ≡ Some place = sym (puts key ∙ ap (λ (b : Bool). cond b (Some (length es)) (placed m key)) is) ∙ h in
         let at : length es ≡ place = cc in
         (e, subst (λ (k : ℕ). slice_get (es ++ e ∷ []) k ≡ Some e) at (get-last es e), eqb-true (key_of e.id) key is)
     only_at key place false is h =
-        let t = x.only key place (sym (puts key ∙ ap (λ (b : Bool). cond b (Some (length es)) (get nat_eq m key)) is) ∙ h) in
+        let t = x.only key place (sym (puts key ∙ ap (λ (b : Bool). cond b (Some (length es)) (placed m key)) is) ∙ h) in
         (t.0, get-longer es e place t.0 t.1, t.2)

@@ -1,7 +1,6 @@
 -- What contracts see of a desk, and what its fields keep.
 use Rattle.std.specs.Prelude.{◌≡◌, ◌≢◌, ◌⊎◌, ℕ, ◌≤◌, ◌^◌, List, [], ◌∷◌, ◌++◌, length, slice_get, Option, Some}
 use Rattle.std.specs.List.{AllZip}
-use Rattle.std.specs.HashMap.{HashMap}
 use Rattle.sect_base.specs.declared.limit.Id.{Id}
 use Rattle.sect_base.specs.declared.limit.Caller.{Caller}
 use Rattle.sect_edge.specs.Causes.{Rose}
@@ -45,10 +44,11 @@ module _ {O C R : Type 0} (start : O) (stepped : O → ℕ → Caller → C → 
     pub short : length trail.entries ≤ 2 ^ 20
 
   -- what the fields of a past keep
-  pub record IsPast {S : Type 0} (is_row : Entry C R → List ℕ → Type 0) (object : O) (entries : List (Entry C R)) (places : HashMap ℕ ℕ S) (rows : List (List ℕ)) : Type 0 where
+  pub record IsPast (is_row : Entry C R → List ℕ → Type 0) (object : O) (entries : List (Entry C R)) (keys : List ℕ) (rows : List (List ℕ)) : Type 0 where
     pub replayed : object ≡ state_after stepped start entries
     pub replies : IsReplay stepped start entries
-    pub index : IsIndex places entries
+    pub index : IsIndex keys entries
+    pub as_many : length keys ≡ length rows
     pub are_rows : AllZip is_row entries rows
     pub short : length entries ≤ 2 ^ 20
 

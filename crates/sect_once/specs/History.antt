@@ -1,8 +1,7 @@
 -- Logs, their histories, and what makes one legal.
-use Rattle.std.specs.Prelude.{◌≡◌, ◌⊎◌, ℕ, ◌+◌, ◌-◌, ◌*◌, ◌^◌, ◌<◌, ◌≤◌, nat_eq, List, [], ◌∷◌, ◌++◌, ⊤, length, sum_by, slice_get, take, drop, Option, Some, None}
+use Rattle.std.specs.Prelude.{◌≡◌, ◌⊎◌, ℕ, ◌+◌, ◌-◌, ◌*◌, ◌^◌, ◌<◌, ◌≤◌, List, [], ◌∷◌, ◌++◌, ⊤, length, sum_by, slice_get, take, drop, Option, Some, None}
 use Rattle.std.specs.List.{AllZip}
 use Rattle.std.specs.Option.{option_to_list}
-use Rattle.std.specs.HashMap.{HashMap, get}
 use Rattle.sect_base.specs.declared.limit.Id.{Id}
 use Rattle.sect_base.specs.declared.limit.Caller.{Caller}
 use Rattle.sect_base.specs.declared.limit.Caller.TheVariants.{Registrar, Student}
@@ -10,6 +9,7 @@ use Rattle.sect_once.specs.declared.entry.Entry.{Entry}
 use Rattle.sect_once.specs.declared.entry.Note.{Note}
 use Rattle.sect_once.specs.declared.entry.Note.TheVariants.{Acted, Faulted}
 use Rattle.sect_once.specs.declared.entry.Unkept.{Unkept}
+use Rattle.sect_once.specs.Places.{placed}
 
 -- a caller as one number: a registrar's is even, a student's is odd
 abbrev pub caller_key : Caller → ℕ
@@ -46,11 +46,11 @@ module _ {C R : Type 0} where
   abbrev pub ActsOnce : List (Entry C R) → Type 0
   ActsOnce es = (p q : ℕ) (e f : Entry C R) → slice_get es p ≡ Some e → slice_get es q ≡ Some f → e.id ≡ f.id → p ≡ q
 
-  -- the map has each entry's place at its id's key and no others, and the numbers of requests have 64 bits
-  pub record IsIndex {S : Type 0} (places : HashMap ℕ ℕ S) (es : List (Entry C R)) : Type 0 where
-    pub all : (place : ℕ) (e : Entry C R) → slice_get es place ≡ Some e → get nat_eq places (key_of e.id) ≡ Some place
+  -- the keys have each entry's place at its id's key and no others, and the numbers of requests have 64 bits
+  pub record IsIndex (keys : List ℕ) (es : List (Entry C R)) : Type 0 where
+    pub all : (place : ℕ) (e : Entry C R) → slice_get es place ≡ Some e → placed keys (key_of e.id) ≡ Some place
     pub small : (place : ℕ) (e : Entry C R) → slice_get es place ≡ Some e → e.id.number < 2 ^ 64
-    pub only : (key place : ℕ) → get nat_eq places key ≡ Some place → (e : Entry C R) × (slice_get es place ≡ Some e) × (key_of e.id ≡ key)
+    pub only : (key place : ℕ) → placed keys key ≡ Some place → (e : Entry C R) × (slice_get es place ≡ Some e) × (key_of e.id ≡ key)
 
   -- the log in which these entries acted and nothing was faulted
   abbrev pub acted_log : List (Entry C R) → List (Note C R)

@@ -3,6 +3,7 @@ pub mod Desks
 pub mod Faults
 pub mod History
 pub mod Opening
+pub mod Places
 pub mod Tallies
 pub mod TallyLaws
 pub mod Told

@@ -1,22 +1,23 @@
 // How a request acts: it is printed, it steps, its reply is printed behind it, and the row is taken behind the others and appended
 // to the keeper's.
-ghost use Rattle.std.specs.Prelude.{◌≡◌, ℕ, ◌+◌, ◌<◌, ◌≤◌, ◌^◌, ◌++◌, ◌==◌, nat_eq, [], ◌∷◌, List, cond, length, None, Some, IfOk, IfSome, OnOk, OnErr, IfErr};
-ghost use Rattle.std.specs.HashMap.{get};
+ghost use Rattle.std.specs.Prelude.{◌≡◌, ◌+◌, ◌<◌, ◌≤◌, ◌^◌, ◌++◌, [], ◌∷◌, length, None, IfOk, IfSome, OnOk, OnErr, IfErr};
 ghost use Rattle.sect_base.specs.declared.limit.Id.{Id};
 ghost use Rattle.sect_edge.specs.declared.edge.KeepFault.{KeepFault};
 ghost use Rattle.sect_edge.specs.Causes.{HasCauseFor};
 ghost use Rattle.sect_edge.specs.Keeper.{AddsRow, KeepsRows};
 ghost use Rattle.sect_once.specs.Desks.{Adds};
-ghost use Rattle.sect_once.specs.History.{IsNew, key_of};
+ghost use Rattle.sect_once.specs.History.{IsNew};
+ghost use Rattle.sect_once.specs.Places.{placed};
 ghost use Rattle.sect_once.specs.Told.{TellsFrom};
 
 use crate::entry::AskedText;
+use crate::key::key_of;
 use crate::object::Object;
-use crate::past::{Past, add, remove};
+use crate::past::Past;
+use crate::places::Places;
 use crate::texts::Texts;
 use sect_base::{Caller, Day, Id, Memory};
 use sect_edge::{KeepFault, Keeper};
-use std::collections::HashMap;
 
 /// Acts a command on the object in its place, which may take over what it keeps of it. After want of memory the state is as
 /// before.
@@ -45,31 +46,30 @@ pub(crate) fn take_back<O: Object>(object: &mut Box<O>)
 /// Takes the row behind the others, and appends it to the keeper's. On a fault all is as before.
 fn keep<K: Keeper>(
     rows: &mut Texts,
-    places: &mut HashMap<u128, u32>,
+    places: &mut Places,
     keeper: &mut K,
-    id: Id,
+    key: u128,
     row: &[u8],
 ) -> Result<(), KeepFault>
-    requires few { length rows.old < 2 ^ 32 }
-    ensures small { id.number < 2 ^ 64 }
-    ensures added { OnOk result (rows.new ≡ rows.old ++ row.now ∷ []) }
-    ensures places { OnOk result ((q : ℕ) → get nat_eq places.new q ≡ cond (key_of id == q) (Some (length rows.old)) (get nat_eq places.old q)) }
+    requires { placed places.old.keys key ≡ None }
+    ensures added { OnOk result (rows.new.texts ≡ rows.old.texts ++ row.now ∷ []) }
+    ensures keys { OnOk result (places.new.keys ≡ places.old.keys ++ key ∷ []) }
     ensures rows { OnOk result (AddsRow (K.rows keeper.old) (K.rows keeper.new) row.now) }
-    ensures added_stay { OnErr result (rows.new ≡ rows.old) }
-    ensures places_stay { OnErr result (get nat_eq places.old (key_of id) ≡ None → (q : ℕ) → get nat_eq places.new q ≡ get nat_eq places.old q) }
+    ensures added_stay { OnErr result (rows.new.texts ≡ rows.old.texts) }
+    ensures keys_stay { OnErr result (places.new.keys ≡ places.old.keys) }
     ensures rows_stay { OnErr result (KeepsRows (K.rows keeper.old) (K.rows keeper.new)) }
     ensures cause { HasCauseFor KeepFault.Failed (K.faults keeper.old) (K.faults keeper.new) result }
 {
-    if add(rows, places, &id, row).is_err() {
+    if places.reserve().is_err() {
         return Err(KeepFault::Memory);
     }
-    match keeper.append(row) {
-        Ok(()) => Ok(()),
-        Err(fault) => {
-            remove(rows, places, &id);
-            Err(fault)
-        }
+    if rows.reserve(row.len()).is_err() {
+        return Err(KeepFault::Memory);
     }
+    keeper.append(row)?;
+    rows.push(row);
+    places.put(key);
+    Ok(())
 }
 
 /// Writes the request, as it stands in a row, in place of what is there. Where its text is known, that is copied.
@@ -124,8 +124,9 @@ impl<O: Object> Past<O> {
             take_back(&mut self.object);
             return Err(KeepFault::Memory);
         };
+        let key = key_of(&id);
         let text = row.as_slice();
-        match keep(&mut self.rows, &mut self.places, keeper, id, text) {
+        match keep(&mut self.rows, &mut self.places, keeper, key, text) {
             Ok(()) => Ok((reply, at)),
             Err(fault) => {
                 take_back(&mut self.object);

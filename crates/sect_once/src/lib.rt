@@ -12,6 +12,7 @@ mod key;
 mod object;
 mod opening;
 mod past;
+mod places;
 mod tally;
 mod texts;
 

@@ -8,6 +8,7 @@ use crate::act::{step_in, take_back};
 use crate::answer::OpenFault;
 use crate::desk::Desk;
 use crate::entry::{Entry, Request};
+use crate::key::key_of;
 use crate::object::Object;
 use crate::past::{MOST_NOTES, Past, add};
 use sect_base::{Day, Id, Memory};
@@ -60,7 +61,8 @@ impl<O: Object> Past<O> {
             take_back(&mut self.object);
             return Ok(false);
         }
-        match add(&mut self.rows, &mut self.places, &entry.id, row) {
+        let key = key_of(&entry.id);
+        match add(&mut self.rows, &mut self.places, key, row) {
             Ok(()) => Ok(true),
             Err(memory) => {
                 take_back(&mut self.object);
@@ -95,7 +97,8 @@ impl<O: Object> Past<O> {
             take_back(&mut self.object);
             return Ok(false);
         }
-        match add(&mut self.rows, &mut self.places, &id, row) {
+        let key = key_of(&id);
+        match add(&mut self.rows, &mut self.places, key, row) {
             Ok(()) => Ok(true),
             Err(memory) => {
                 take_back(&mut self.object);

@@ -1,22 +1,16 @@
 // What has acted: the object with the rows of the entries that brought it where it is, and the place of each id.
 ghost use Rattle.std.specs.Prelude.{
   ◌≡◌,
-  ℕ,
   ◌∷◌,
   ◌++◌,
   ◌↔◌,
   ◌<◌,
   ◌≤◌,
-  ◌^◌,
-  ◌==◌,
-  nat_eq,
   true,
   false,
   [],
-  List,
   length,
   slice_get,
-  cond,
   IfNone,
   IfOk,
   IfSome,
@@ -26,20 +20,20 @@ ghost use Rattle.std.specs.Prelude.{
   OnErr,
   OnOk,
 };
-ghost use Rattle.std.specs.HashMap.{get};
 ghost use Rattle.sect_base.specs.declared.limit.Id.{Id};
 ghost use Rattle.sect_once.specs.declared.entry.Entry.{Entry};
 ghost use Rattle.sect_once.specs.Desks.{IsTrail};
 ghost use Rattle.sect_once.specs.Opening.{HasActed};
-ghost use Rattle.sect_once.specs.History.{AreHeavy, IsNew, key_of};
+ghost use Rattle.sect_once.specs.History.{AreHeavy, IsNew};
+ghost use Rattle.sect_once.specs.Places.{placed};
 
 use crate::entry::Entry;
 use crate::key::key_of;
 use crate::object::Object;
+use crate::places::Places;
 use crate::texts::Texts;
 use sect_base::{Id, Memory};
 use std::alloc::Global;
-use std::collections::HashMap;
 use std::marker::Model;
 
 /// An object that is the replay of its entries. Of these the rows alone are kept, and the place of each id; an entry is read
@@ -47,7 +41,7 @@ use std::marker::Model;
 pub(crate) struct Past<O: Object> {
     pub(crate) object: Box<O>,
     pub(crate) rows: Texts,
-    pub(crate) places: HashMap<u128, u32>,
+    pub(crate) places: Places,
 }
 
 /// It is written out, so that a caller does not prove again how each part is dropped.
@@ -67,9 +61,9 @@ impl<O: Object> Model for Past<O> {
 
     ghost Value = { Trail O.State O.Command O.Reply };
 
-    ghost view = { λ p. record { object = O.state p.object.value; entries = entries_of O.entry_of p.rows } };
+    ghost view = { λ p. record { object = O.state p.object.value; entries = entries_of O.entry_of p.rows.texts } };
 
-    ghost invariant = { λ p. IsPast O.start O.stepped O.is_row (O.state p.object.value) (entries_of O.entry_of p.rows) p.places p.rows };
+    ghost invariant = { λ p. IsPast O.start O.stepped O.is_row (O.state p.object.value) (entries_of O.entry_of p.rows.texts) p.places.keys p.rows.texts };
 }
 
 /// The notes with which a log is full.
@@ -78,38 +72,24 @@ pub(crate) const MOST_NOTES: u64 = 1 << 20;
 /// The bytes of rows with which a log is full.
 pub(crate) const MOST_BYTES: u64 = 1 << 28;
 
-/// Takes a row behind the others, and gives its id its place. After want of memory both are as before.
+/// Takes a row behind the others, and gives its key the place. After want of memory both are as before.
 pub(crate) fn add(
     rows: &mut Texts,
-    places: &mut HashMap<u128, u32>,
-    id: &Id,
+    places: &mut Places,
+    key: u128,
     row: &[u8],
 ) -> Result<(), Memory>
-    requires few { length rows.old < 2 ^ 32 }
-    ensures small { id.now.number < 2 ^ 64 }
-    ensures rows { OnOk result (rows.new ≡ rows.old ++ row.now ∷ []) }
-    ensures places { OnOk result ((q : ℕ) → get nat_eq places.new q ≡ cond (key_of id.now == q) (Some (length rows.old)) (get nat_eq places.old q)) }
-    ensures rows_stay { OnErr result (rows.new ≡ rows.old) }
-    ensures places_stay { OnErr result ((q : ℕ) → get nat_eq places.new q ≡ get nat_eq places.old q) }
+    requires { placed places.old.keys key ≡ None }
+    ensures rows { OnOk result (rows.new.texts ≡ rows.old.texts ++ row.now ∷ []) }
+    ensures keys { OnOk result (places.new.keys ≡ places.old.keys ++ key ∷ []) }
+    ensures rows_stay { OnErr result (rows.new.texts ≡ rows.old.texts) }
+    ensures keys_stay { OnErr result (places.new.keys ≡ places.old.keys) }
 {
-    let key = key_of(id);
-    let place = rows.len() as u32;
-    rows.push(row)?;
-    if places.insert(key, place).is_err() {
-        rows.pop();
-        return Err(Memory);
-    }
+    places.reserve()?;
+    rows.reserve(row.len())?;
+    rows.push(row);
+    places.put(key);
     Ok(())
-}
-
-/// Takes back what was added last.
-pub(crate) fn remove(rows: &mut Texts, places: &mut HashMap<u128, u32>, id: &Id)
-    requires { 0 < length rows.old }
-    ensures rows { (row : List ℕ) × (rows.old ≡ rows.new ++ row ∷ []) }
-    ensures places { (q : ℕ) → get nat_eq places.new q ≡ cond (key_of id.now == q) None (get nat_eq places.old q) }
-{
-    rows.pop();
-    places.remove(&key_of(id));
 }
 
 /// The entry of a row that has one.
@@ -133,7 +113,7 @@ impl<O: Object> Past<O> {
         Ok(Past {
             object: Box::new(alloc, O::empty(alloc))?,
             rows: Texts::none(alloc),
-            places: HashMap::new(alloc),
+            places: Places::none(alloc),
         })
     }
 
@@ -168,7 +148,7 @@ impl<O: Object> Past<O> {
         ensures found { IfSome result (λ place. HasActed O.start O.stepped O.is_row id.now self.now.entries × (place < length self.now.entries) × ((e : Entry O.Command O.Reply) → slice_get self.now.entries place ≡ Some e → e.id ≡ id.now)) }
         ensures none { IfNone result (IsNew id.now self.now.entries) }
     {
-        Some(*self.places.get(&key_of(id))?)
+        self.places.find(key_of(id))
     }
 
     /// Whether an entry has the id.

@@ -1,5 +1,5 @@
 -- A row that isn't taken at once is taken, or not, where it would have been.
-use Rattle.std.proofs.Common.{◌≡◌, subst}
+use Rattle.std.proofs.Common.{subst}
 use Rattle.std.proofs.lemmas.Result.{IfOk-weaker}
 use Rattle.sect_once.specs.Opening.{Takes}
 use Rattle.sect_once.proofs.past.Past.take.Goals as goal

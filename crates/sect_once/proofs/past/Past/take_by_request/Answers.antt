@@ -1,5 +1,5 @@
 -- A request that is taken again is an entry that follows.
-use Rattle.std.proofs.Common.{◌≡◌, Bool, true, false}
+use Rattle.std.proofs.Common.{◌≡◌, true, false}
 use Rattle.std.proofs.lemmas.Result.{IfOk-weaker}
 use Rattle.sect_once.specs.Opening.{ActsAgain, TakesAtOnce}
 use Rattle.sect_once.proofs.Openings.{again_at_once}
