@@ -37,6 +37,7 @@ fn print_done(place: u32, reply: &Reply, into: &mut Vec<u8>) -> Result<(), Memor
 }
 
 /// Appends the place and the text of the reply.
+#[inline(always)]
 pub(crate) fn print_told(place: u32, reply: &[u8], into: &mut Vec<u8>) -> Result<(), Memory>
     ensures text { OnOk result (into.new.items ≡ into.old.items ++ (decimal place ++ (codes " " ++ (reply.now ++ codes "\n")))) }
     ensures front { take (length into.old.items) into.new.items ≡ into.old.items }
@@ -57,6 +58,7 @@ fn put_place(place: u32, bytes: &mut [u8; 24]) -> usize
 }
 
 /// Appends the place and a space, all in one piece.
+#[inline(always)]
 fn print_place(place: u32, into: &mut Vec<u8>) -> Result<(), Memory>
     ensures text { OnOk result (into.new.items ≡ into.old.items ++ (decimal place ++ codes " ")) }
     ensures front { take (length into.old.items) into.new.items ≡ into.old.items }

@@ -169,8 +169,7 @@ impl<O: TextObject, K: Keeper, C: Clock> Asker<O, K, C> {
             Ok(front) => front,
             Err(fault) => return Err(line_fault(fault)),
         };
-        let mut read = read_line_command(alloc, false, front.verb, &mut words);
-        if let Ok(command) = &mut read {
+        if let Ok(command) = &mut read_line_command(alloc, false, front.verb, &mut words) {
             if words.is_empty() {
                 let answer = self.ask_lent(front.day, front.id, command, behind_day(line));
                 return self.print_answer(&answer, into);

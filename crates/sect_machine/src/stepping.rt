@@ -151,6 +151,7 @@ fn place_all<L: Ledger>(
 }
 
 /// The refusal of a command, or what it does. Where memory runs out, some of it is done.
+#[inline(always)]
 fn answer<L: Ledger>(
     alloc: Global,
     world: &mut World,
@@ -183,6 +184,7 @@ fn answer<L: Ledger>(
 }
 
 /// What a command does that fits, with what it may open marked, or told where a student drops a course. Where memory runs out, some of it is done.
+#[inline(always)]
 fn marked_act<L: Ledger>(
     alloc: Global,
     world: &mut World,

@@ -50,6 +50,7 @@ impl Numbers {
     }
 
     /// The number of enrolments at the level.
+    #[inline(always)]
     pub fn count(&self, level: Level) -> u32
         ensures value { result ≡ (counts_in self.now level).count }
         ensures told { (w : World) → Told self.now w → result ≡ count_of w level }

@@ -18,30 +18,30 @@ returns-in-Err-clause-bad g c = λ said. let told : c.line_fault.result ≡ faul
 
 pub ask_lent-answer-requires-clause-fits : goal.ask_lent-answer-requires-clause-fits
 ask_lent-answer-requires-clause-fits g c =
-    let plain = plain_words c.args.line.now c.in-Ok.front c.new-words.result c.read_line_front.new.words c.read_line_command-read.new.words c.in-Ok-read.command c.read_line_command-read.result
-    c.new-words.ensures c.in-Ok.ensures.front c.read_line_command-read.ensures c.in-Ok-read.is c.if-is_empty.ensures in
+    let plain = plain_words c.args.line.now c.in-Ok.front c.new-words.result c.read_line_front.new.words c.read_line_command.new.words c.in-Ok-read_line_command.command c.read_line_command.result
+    c.new-words.ensures c.in-Ok.ensures.front c.read_line_command.ensures c.in-Ok-read_line_command.is c.if-is_empty.ensures in
     (plain.1, plain.2)
 
 pub ask_lent-answer-requires-clause-rest : goal.ask_lent-answer-requires-clause-rest
 ask_lent-answer-requires-clause-rest g c =
-    let plain = plain_words c.args.line.now c.in-Ok.front c.new-words.result c.read_line_front.new.words c.read_line_command-read.new.words c.in-Ok-read.command c.read_line_command-read.result
-    c.new-words.ensures c.in-Ok.ensures.front c.read_line_command-read.ensures c.in-Ok-read.is c.if-is_empty.ensures in
-    if_some c.behind_day.result (λ text same. plain_rest c.args.line.now text.now c.in-Ok.front c.in-Ok-read.command plain same) c.behind_day.ensures
+    let plain = plain_words c.args.line.now c.in-Ok.front c.new-words.result c.read_line_front.new.words c.read_line_command.new.words c.in-Ok-read_line_command.command c.read_line_command.result
+    c.new-words.ensures c.in-Ok.ensures.front c.read_line_command.ensures c.in-Ok-read_line_command.is c.if-is_empty.ensures in
+    if_some c.behind_day.result (λ text same. plain_rest c.args.line.now text.now c.in-Ok.front c.in-Ok-read_line_command.command plain same) c.behind_day.ensures
 
 pub returns-then-is_empty-clause-answered : goal.returns-then-is_empty-clause-answered
 returns-then-is_empty-clause-answered g c =
-    let plain = plain_words c.args.line.now c.in-Ok.front c.new-words.result c.read_line_front.new.words c.read_line_command-read.new.words c.in-Ok-read.command c.read_line_command-read.result
-    c.new-words.ensures c.in-Ok.ensures.front c.read_line_command-read.ensures c.in-Ok-read.is c.if-is_empty.ensures in
+    let plain = plain_words c.args.line.now c.in-Ok.front c.new-words.result c.read_line_front.new.words c.read_line_command.new.words c.in-Ok-read_line_command.command c.read_line_command.result
+    c.new-words.ensures c.in-Ok.ensures.front c.read_line_command.ensures c.in-Ok-read_line_command.is c.if-is_empty.ensures in
     let acted = answers_request g.O.Object.stepped g.O.Object.is_row g.K.Keeper.rows g.K.Keeper.faults c.args.self.now c.ask_lent-answer.new.self c.args.line.now
-    (record { day = c.in-Ok.front.day; id = c.in-Ok.front.id; command = c.in-Ok-read.command }) c.ask_lent-answer.ensures.0 c.ask_lent-answer.result c.requires.request
-    (plain_line c.args.line.now c.in-Ok.front c.in-Ok-read.command plain) c.ask_lent-answer.ensures.1 c.ask_lent-answer.ensures.2 in
+    (record { day = c.in-Ok.front.day; id = c.in-Ok.front.id; command = c.in-Ok-read_line_command.command }) c.ask_lent-answer.ensures.0 c.ask_lent-answer.result c.requires.request
+    (plain_line c.args.line.now c.in-Ok.front c.in-Ok-read_line_command.command plain) c.ask_lent-answer.ensures.1 c.ask_lent-answer.ensures.2 in
     on_ok c.print_answer.result (λ text. (answer_line c.ask_lent-answer.result, text, acted)) c.print_answer.ensures.text
 
 pub returns-then-is_empty-clause-memory : goal.returns-then-is_empty-clause-memory
 returns-then-is_empty-clause-memory g c =
-    let plain = plain_words c.args.line.now c.in-Ok.front c.new-words.result c.read_line_front.new.words c.read_line_command-read.new.words c.in-Ok-read.command c.read_line_command-read.result
-    c.new-words.ensures c.in-Ok.ensures.front c.read_line_command-read.ensures c.in-Ok-read.is c.if-is_empty.ensures in
+    let plain = plain_words c.args.line.now c.in-Ok.front c.new-words.result c.read_line_front.new.words c.read_line_command.new.words c.in-Ok-read_line_command.command c.read_line_command.result
+    c.new-words.ensures c.in-Ok.ensures.front c.read_line_command.ensures c.in-Ok-read_line_command.is c.if-is_empty.ensures in
     let acted = answers_request g.O.Object.stepped g.O.Object.is_row g.K.Keeper.rows g.K.Keeper.faults c.args.self.now c.ask_lent-answer.new.self c.args.line.now
-    (record { day = c.in-Ok.front.day; id = c.in-Ok.front.id; command = c.in-Ok-read.command }) c.ask_lent-answer.ensures.0 c.ask_lent-answer.result c.requires.request
-    (plain_line c.args.line.now c.in-Ok.front c.in-Ok-read.command plain) c.ask_lent-answer.ensures.1 c.ask_lent-answer.ensures.2 in
+    (record { day = c.in-Ok.front.day; id = c.in-Ok.front.id; command = c.in-Ok-read_line_command.command }) c.ask_lent-answer.ensures.0 c.ask_lent-answer.result c.requires.request
+    (plain_line c.args.line.now c.in-Ok.front c.in-Ok-read_line_command.command plain) c.ask_lent-answer.ensures.1 c.ask_lent-answer.ensures.2 in
     λ out. inr (answer_line c.ask_lent-answer.result, acted)
